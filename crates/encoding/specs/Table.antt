@@ -1,0 +1,300 @@
+-- The type table: its layout, its rules, and what a row means. Every look-up is total: past the end is 0.
+--
+--   types, members, names        T, M, N of the header
+--   typesAt, membersAt, namesAt  where the type rows, member rows and names begin; rowAt, memberAt one row
+--   kind t, field t i            a type row's kind, and its fields a, b, c, d, e as i = 0..4
+--   memberType, mark, tag m      a member row's fields
+--   owns k, isRecord k           a row of kind k takes member rows; is an exception or a class
+--   ownRows t, takes t m         the member rows of row t; whether m is one
+--   Fault, faults                the first rule broken, as its rule class (31 to 38, below) and its place
+--   ruleNumber                   the refusal's number of a class
+--   tys, trees, tyOf t           the tree of each row, made from the trees of the rows below it
+--   Member                       a member: its row, its tag (or, if required, its position) and its type
+--   required t, optional t       the members of row t, each as declared
+--   nameOf t, named nm           the name of a record; the record of a name
+--   base t, chain t              the base row, if any; the row and its bases, one after another
+use mathlib.Core.Bool.{Bool, true, false, _&&_, _||_, not}
+use mathlib.Core.Option.{Option, none, some}
+use mathlib.Core.List.{List, [], _∷_, _++_, map}
+use Prim.Native.Nat.{ℕ, zero, suc, _+_, _-_, _*_, _/_, _%_, _^_}
+use lib.ListN.{length, take, drop, getD}
+use lib.Dec.{eqb, leb, ltb}
+use Rattle.encoding.specs.Result.{pick, firstOf, sameBytes}
+use Rattle.encoding.specs.Number.{val, negative}
+use Rattle.encoding.specs.Types.{Allowed, upto, Num, short, int, long, float, double, Ty, Tys, nil, cons, broken, bool, byte, string, proxy, num, enum, struct, seq, dict}
+
+-- ---- layout
+
+-- the number of k bytes at a place
+unfoldable pub at : List ℕ → ℕ → ℕ → ℕ
+at T k i = val (take k (drop i T))
+
+unfoldable pub types : List ℕ → ℕ
+types T = at T 2 5
+
+unfoldable pub members : List ℕ → ℕ
+members T = at T 2 7
+
+unfoldable pub names : List ℕ → ℕ
+names T = at T 2 9
+
+unfoldable pub typesAt : List ℕ → ℕ
+typesAt T = 12
+
+unfoldable pub rowAt : List ℕ → ℕ → ℕ
+rowAt T t = typesAt T + 12 * t
+
+unfoldable pub membersAt : List ℕ → ℕ
+membersAt T = rowAt T (types T)
+
+unfoldable pub memberAt : List ℕ → ℕ → ℕ
+memberAt T m = membersAt T + 8 * m
+
+unfoldable pub namesAt : List ℕ → ℕ
+namesAt T = memberAt T (members T)
+
+unfoldable pub kind : List ℕ → ℕ → ℕ
+kind T t = at T 1 (rowAt T t)
+
+unfoldable pub field : List ℕ → ℕ → ℕ → ℕ
+field T t i = at T 2 (rowAt T t + 2 + 2 * i)
+
+unfoldable pub memberType : List ℕ → ℕ → ℕ
+memberType T m = at T 2 (memberAt T m)
+
+unfoldable pub mark : List ℕ → ℕ → ℕ
+mark T m = at T 1 (memberAt T m + 2)
+
+unfoldable pub tag : List ℕ → ℕ → ℕ
+tag T m = at T 4 (memberAt T m + 4)
+
+abbrev pub isRecord : ℕ → Bool
+isRecord k = eqb k 13 || eqb k 14
+
+abbrev pub owns : ℕ → Bool
+owns k = eqb k 9 || (isRecord k || eqb k 15)
+
+-- member row m is one of the rows that row t names by its a and b
+unfoldable pub takes : List ℕ → ℕ → ℕ → Bool
+takes T t m = leb (field T t 0) m && ltb m (field T t 0 + field T t 1)
+
+-- i, i + 1, .., k of them
+unfoldable pub range : ℕ → ℕ → List ℕ
+range i zero = []
+range i (suc k) = i ∷ range (suc i) k
+
+unfoldable pub nameOf : List ℕ → ℕ → List ℕ
+nameOf T t = take (field T t 4) (drop (namesAt T + field T t 3) T)
+
+-- ---- rules
+
+pub data Fault : Type 0 where
+  fine : Fault
+  fault : (class place : ℕ) → Fault
+
+-- the first fault of two passes
+unfoldable pub orElse : Fault → Fault → Fault
+orElse fine g = g
+orElse (fault c p) g = fault c p
+
+unfoldable pub faultAt : ℕ → ℕ → Fault
+faultAt place zero = fine
+faultAt place (suc c) = fault (suc c) place
+
+-- some number of a list passes a test
+unfoldable pub any : (ℕ → Bool) → List ℕ → Bool
+any f [] = false
+any f (i ∷ l) = f i || any f l
+
+-- Rules stand as judgements with their rule class in place of a number, each test true where the rule is broken:
+--   31  header and lengths                                  35  member rows not taken in turn, or their sum wrong
+--   32  unused or zero bytes, a required tag not 0          36  empty structs, wrong marks
+--   33  unknown kind (its fields unjudged)                  37  names outside, of bad length or alike
+--   34  a reference not smaller or of the wrong kind        38  tags or enumerators too great, tags alike
+-- A row that breaks several has the first class of this order.
+
+-- 2 ^ 31 and above
+abbrev pub great : ℕ → Bool
+great n = negative 4 n
+
+unfoldable pub headerRules : List ℕ → Fault
+headerRules T =
+    faultAt 0 (firstOf (
+    (31, not (sameBytes (take 5 T) (70 ∷ 71 ∷ 84 ∷ 1 ∷ 0 ∷ [])))
+    ∷ (31, ltb (length T) (typesAt T))
+    ∷ (31, eqb (types T) 0 || ltb 256 (types T))
+    ∷ (31, ltb 1024 (members T))
+    ∷ (31, ltb 8192 (names T))
+    ∷ (31, not (eqb (at T 1 11) 0))
+    ∷ (31, not (eqb (length T) (namesAt T + names T)))
+    ∷ []))
+
+-- how many fields a kind uses, from a on
+unfoldable pub used : ℕ → ℕ
+used k = getD (0 ∷ 0 ∷ 0 ∷ 0 ∷ 0 ∷ 0 ∷ 0 ∷ 0 ∷ 2 ∷ 2 ∷ 1 ∷ 2 ∷ 0 ∷ 5 ∷ 5 ∷ 2 ∷ []) k 5
+
+-- the member rows that the first n type rows take
+unfoldable pub taken : List ℕ → ℕ → ℕ
+taken T zero = 0
+taken T (suc n) = taken T n + pick (owns (kind T n)) (field T n 1) 0
+
+-- r is no row below t of kinds 0..12
+unfoldable pub noPart : List ℕ → ℕ → ℕ → Bool
+noPart T t r = leb t r || ltb 12 (kind T r)
+
+unfoldable pub noBase : List ℕ → ℕ → ℕ → Bool
+noBase T t zero = false
+noBase T t (suc r) = leb t r || not (eqb (kind T r) (kind T t))
+
+-- the name of record row t is that of a record before it
+unfoldable pub alike : List ℕ → ℕ → Bool
+alike T t = any (λ r. isRecord (kind T r) && sameBytes (nameOf T r) (nameOf T t)) (range 0 t)
+
+unfoldable pub typeRules : List ℕ → ℕ → List (ℕ × Bool)
+typeRules T t =
+    let k = kind T t in
+    (32, not (eqb (at T 1 (rowAt T t + 1)) 0))
+    ∷ (32, any (λ i. not (eqb (field T t i) 0)) (range (used k) (5 - used k)))
+    ∷ (33, ltb 15 k)
+    ∷ (34, (eqb k 10 || eqb k 11) && noPart T t (field T t 0))
+    ∷ (34, eqb k 11 && noPart T t (field T t 1))
+    ∷ (34, isRecord k && noBase T t (field T t 2))
+    ∷ (35, owns k && not (eqb (field T t 0) (taken T t)))
+    ∷ (36, eqb k 9 && eqb (field T t 1) 0)
+    ∷ (37, isRecord k && (eqb (field T t 4) 0 || ltb 255 (field T t 4)))
+    ∷ (37, isRecord k && ltb (names T) (field T t 3 + field T t 4))
+    ∷ (37, isRecord k && alike T t)
+    ∷ (38, eqb k 8 && great (field T t 0 + 65536 * field T t 1))
+    ∷ []
+
+unfoldable pub sumRules : List ℕ → Fault
+sumRules T = faultAt 0 (pick (eqb (taken T (types T)) (members T)) 0 35)
+
+-- the row among the first n that takes member row m; the count of types if none does
+unfoldable pub ownerOf : List ℕ → ℕ → ℕ → ℕ
+ownerOf T m zero = types T
+ownerOf T m (suc n) = pick (owns (kind T n) && takes T n m) n (ownerOf T m n)
+
+-- a member row before m, of the same owner, is optional and has m's tag
+unfoldable pub tagAlike : List ℕ → ℕ → ℕ → Bool
+tagAlike T o m = any (λ i. eqb (mark T i) 1 && eqb (tag T i) (tag T m)) (range (field T o 0) (m - field T o 0))
+
+unfoldable pub memberRules : List ℕ → ℕ → List (ℕ × Bool)
+memberRules T m =
+    let o = ownerOf T m (types T) in
+    (32, not (eqb (at T 1 (memberAt T m + 3)) 0))
+    ∷ (32, eqb (mark T m) 0 && not (eqb (tag T m) 0))
+    ∷ (34, noPart T o (memberType T m))
+    ∷ (36, ltb 1 (mark T m))
+    ∷ (36, eqb (mark T m) 1 && eqb (kind T o) 9)
+    ∷ (38, great (tag T m))
+    ∷ (38, eqb (mark T m) 1 && tagAlike T o m)
+    ∷ []
+
+-- a pass over rows
+unfoldable pub pass : (ℕ → ℕ) → (ℕ → List (ℕ × Bool)) → List ℕ → Fault
+pass place rules [] = fine
+pass place rules (r ∷ rs) = orElse (faultAt (place r) (firstOf (rules r))) (pass place rules rs)
+
+unfoldable pub passes : List Fault → Fault
+passes [] = fine
+passes (f ∷ fs) = orElse f (passes fs)
+
+-- header, type rows, member sum, member rows
+unfoldable pub faults : List ℕ → Fault
+faults T =
+    passes (headerRules T
+    ∷ pass (rowAt T) (typeRules T) (range 0 (types T))
+    ∷ sumRules T
+    ∷ pass (memberAt T) (memberRules T) (range 0 (members T))
+    ∷ [])
+
+unfoldable pub ruleNumber : ℕ → ℕ
+ruleNumber class = 1
+
+-- ---- what a row means
+
+-- the type of a member row, where l has the trees
+unfoldable pub memberTy : List ℕ → List Ty → ℕ → Ty
+memberTy T l m = pick (ltb m (members T)) (getD l (memberType T m) broken) broken
+
+unfoldable pub memberTys : List ℕ → List Ty → List ℕ → Tys
+memberTys T l [] = nil
+memberTys T l (m ∷ ms) = cons (memberTy T l m) (memberTys T l ms)
+
+unfoldable pub ownRows : List ℕ → ℕ → List ℕ
+ownRows T t = range (field T t 0) (field T t 1)
+
+-- the tree of a row, where l has the trees of the rows below it
+unfoldable pub rowTy : List ℕ → List Ty → ℕ → Ty
+rowTy T l t =
+    pick (eqb (kind T t) 8) (enum (upto (field T t 0 + 65536 * field T t 1)))
+    (pick (eqb (kind T t) 9) (struct (memberTys T l (ownRows T t)))
+    (pick (eqb (kind T t) 10) (seq (getD l (field T t 0) broken))
+    (pick (eqb (kind T t) 11) (dict (getD l (field T t 0) broken) (getD l (field T t 1) broken))
+    (pick (eqb (kind T t) 12) proxy
+    (getD (bool ∷ byte ∷ num short ∷ num int ∷ num long ∷ num float ∷ num double ∷ string ∷ []) (kind T t) broken)))))
+
+unfoldable pub grow : List ℕ → List Ty → List Ty
+grow T l = l ++ (rowTy T l (length l) ∷ [])
+
+-- the trees of the first n rows
+unfoldable pub tys : List ℕ → ℕ → List Ty
+tys T zero = []
+tys T (suc n) = grow T (tys T n)
+
+unfoldable pub trees : List ℕ → List Ty
+trees T = tys T (types T)
+
+unfoldable pub tyOf : List ℕ → ℕ → Ty
+tyOf T t = getD (trees T) t broken
+
+pub record Member : Type 0 where
+  pub row : ℕ
+  pub key : ℕ
+  pub ty : Ty
+
+-- the required ones, numbered from i on
+unfoldable pub requiredOf : List ℕ → List Ty → ℕ → List ℕ → List Member
+requiredOf T l i [] = []
+requiredOf T l i (m ∷ ms) =
+    pick (eqb (mark T m) 0) (record { row = m; key = i; ty = memberTy T l m } ∷ requiredOf T l (suc i) ms) (requiredOf T l i ms)
+
+unfoldable pub optionalOf : List ℕ → List Ty → List ℕ → List Member
+optionalOf T l [] = []
+optionalOf T l (m ∷ ms) =
+    pick (eqb (mark T m) 0) (optionalOf T l ms) (record { row = m; key = tag T m; ty = memberTy T l m } ∷ optionalOf T l ms)
+
+unfoldable pub required : List ℕ → ℕ → List Member
+required T t = requiredOf T (trees T) 0 (ownRows T t)
+
+unfoldable pub optional : List ℕ → ℕ → List Member
+optional T t = optionalOf T (trees T) (ownRows T t)
+
+-- the member of a key
+unfoldable pub lookup : ℕ → List Member → Option Member
+lookup k [] = none
+lookup k (m ∷ ms) = pick (eqb k (m .key)) (some m) (lookup k ms)
+
+unfoldable pub search : (ℕ → Bool) → List ℕ → Option ℕ
+search f [] = none
+search f (i ∷ l) = pick (f i) (some i) (search f l)
+
+unfoldable pub named : List ℕ → List ℕ → Option ℕ
+named T nm = search (λ t. isRecord (kind T t) && sameBytes nm (nameOf T t)) (range 0 (types T))
+
+-- the base row + 1, or 0; a base that is not smaller is none
+unfoldable pub base : List ℕ → ℕ → ℕ
+base T t = pick (isRecord (kind T t) && leb (field T t 2) t) (field T t 2) 0
+
+unfoldable pub upward : (ℕ → List ℕ) → ℕ → List ℕ
+upward f zero = []
+upward f (suc t) = f t
+
+-- the first number is fuel: the row number falls
+unfoldable pub climb : List ℕ → ℕ → ℕ → List ℕ
+climb T zero t = []
+climb T (suc f) t = t ∷ upward (λ r. climb T f r) (base T t)
+
+unfoldable pub chain : List ℕ → ℕ → List ℕ
+chain T t = climb T (suc t) t
