@@ -8,6 +8,7 @@
 --   ownRows t, takes t m         the member rows of row t; whether m is one
 --   Fault, faults                the first rule broken, as its rule class (31 to 38, below) and its place
 --   ruleNumber                   the refusal's number of a class
+--   typeRows                     how many rows have a tree
 --   tys, trees, tyOf t           the tree of each row, made from the trees of the rows below it
 --   Member                       a member: its row, its tag (or, if required, its position) and its type
 --   required t, optional t       the members of row t, each as declared
@@ -243,8 +244,12 @@ unfoldable pub tys : List ℕ → ℕ → List Ty
 tys T zero = []
 tys T (suc n) = grow T (tys T n)
 
+-- the rows that have a tree: those of the table, at most 256
+unfoldable pub typeRows : List ℕ → ℕ
+typeRows T = pick (leb (types T) 256) (types T) 256
+
 unfoldable pub trees : List ℕ → List Ty
-trees T = tys T (types T)
+trees T = tys T (typeRows T)
 
 unfoldable pub tyOf : List ℕ → ℕ → Ty
 tyOf T t = getD (trees T) t broken
