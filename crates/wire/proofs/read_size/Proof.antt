@@ -1,0 +1,22 @@
+-- A size: one case of `size` for each way out, told by the first byte and the int behind it.
+use borrow.Author.Needs.{needs}
+use Rattle.wire.proofs.Laws.{size-none, size-short, size-cut, size-low, size-high, size-long}
+use Rattle.wire.proofs.read_size.Statement.{statement}
+use Rattle.wire.proofs.read_size.Tie as tie
+use Rattle.wire.proofs.read_size.Reads as reads
+use Rattle.wire.proofs.read_size.Lts as lts
+use Rattle.wire.proofs.byte_at.Reads as byte-at-reads
+use Rattle.wire.proofs.int_at.Reads as int-at-reads
+
+pub read-size-spec : {M : Type 1} → statement M
+read-size-spec =
+    tie.close
+    (tie.spec
+    (λ c. search size-none)  -- returns
+    (λ c κs. search needs)  -- byte-at-requires
+    (λ c. search size-short)  -- returns-2
+    (λ c. search size-cut)  -- returns-3
+    (λ c κs. search needs)  -- int-at-requires
+    (λ c. search size-low)  -- returns-4
+    (λ c. search size-high)  -- returns-5
+    (λ c. search size-long))  -- returns-6
