@@ -1,0 +1,165 @@
+-- What a row's tree is, by the row's kind, in terms of the trees of the rows below it.
+--
+--   length-tys                     the first n rows have n trees
+--   ty-row, ty-past                the tree of a row that has one is made from the trees below it; any other row is broken
+--   below-ty, below-none           among the trees below row t stand those of the rows below t and no other
+--   row-enum .. row-dict           the tree of a row of that kind, made from the trees below it
+--   ty-seq, ty-dict                the same where the parts are rows below
+--   row-bool .. row-double         the rows without parts; row-other a row of kind 13 and above
+--   member-below, member-none      the type of a member row among the trees below row t; member-whole among all trees
+--   member-past                    a member row that is not there
+--   members-more, members-none     the members' types one after another
+use Prim.Native.Nat.{ℕ, zero, suc, _+_, _-_, _*_, _≤_, _<_}
+use mathlib.Core.Path.{_≡_, refl, sym, ap, ap₂, _∙_}
+use mathlib.Core.Logic.{⊎-elim}
+use mathlib.Core.List.{List, [], _∷_, _++_}
+use native.Mathlib.Nat.{eq-or-lt-of-le}
+use native.Mathlib.Numerals.{add-one, sub-one}
+use native.Mathlib.Omega.{arith}
+use lib.ListN.{length, getD, length-append, List·getD-append, List·getD-eq-default}
+use lib.Seq.{getD-at}
+use lib.Dec.{eqb, ltb}
+use borrow.Author.Tests.{ne-eqb, lt-ltb, le-ltb}
+use Rattle.encoding.specs.Result.{pick}
+use Rattle.encoding.specs.Types.{Allowed, upto, Num, short, int, long, float, double, Ty, Tys, nil, cons, broken, bool, byte, string, proxy, num, enum, struct, seq, dict}
+use Rattle.encoding.specs.Table.{kind, field, members, memberType, range, memberTy, memberTys, ownRows, rowTy, grow, tys, typeRows, trees, tyOf}
+
+module _ (T : List ℕ) where
+  pub length-tys : (n : ℕ) → length (tys T n) ≡ n
+  unfolding tys grow
+  length-tys zero = refl
+  length-tys (suc n) = length-append (tys T n) _ ∙ omega (arith, length-tys n)
+
+  -- the tree of row i is the same however many rows above it have theirs
+  tys-at : (n i : ℕ) → i < n → getD (tys T n) i broken ≡ rowTy T (tys T i) i
+  unfolding tys grow
+  tys-at zero i h = absurd (omega arith)
+  tys-at (suc n) i h = ⊎-elim
+      (λ e. getD-at (tys T n) _ [] broken i (length-tys n ∙ sym e) ∙ last i (sym e))
+      (λ l. List·getD-append (tys T n) _ broken i (omega (arith, length-tys n)) ∙ tys-at n i l)
+      (eq-or-lt-of-le {n = i} {m = n} (omega arith))
+    where
+      last : (i : ℕ) → n ≡ i → rowTy T (tys T n) (length (tys T n)) ≡ rowTy T (tys T i) i
+      last i e = ap (rowTy T (tys T n)) (length-tys n) ∙ ap (λ (k : ℕ). rowTy T (tys T k) k) e
+
+  pub ty-row : (t : ℕ) → t < typeRows T → tyOf T t ≡ rowTy T (tys T t) t
+  unfolding tyOf trees
+  ty-row t h = tys-at (typeRows T) t h
+
+  pub ty-past : (t : ℕ) → typeRows T ≤ t → tyOf T t ≡ broken
+  unfolding tyOf trees
+  ty-past t h = List·getD-eq-default (tys T (typeRows T)) broken (omega (arith, length-tys (typeRows T)))
+
+  pub below-ty : (t i : ℕ) → t ≤ typeRows T → i < t → getD (tys T t) i broken ≡ tyOf T i
+  below-ty t i h l = tys-at t i l ∙ sym (ty-row i (omega arith))
+
+  pub below-none : (t i : ℕ) → t ≤ i → getD (tys T t) i broken ≡ broken
+  below-none t i h = List·getD-eq-default (tys T t) broken (omega (arith, length-tys t))
+
+-- ---- members
+
+module _ (T : List ℕ) (m : ℕ) where
+  pub member-past : (l : List Ty) → members T ≤ m → memberTy T l m ≡ broken
+  unfolding memberTy
+  member-past l h = rw (le-ltb _ _ h)
+
+  member-in : (l : List Ty) → m < members T → memberTy T l m ≡ getD l (memberType T m) broken
+  unfolding memberTy
+  member-in l h = rw (lt-ltb _ _ h)
+
+  pub member-below : (t : ℕ) → t ≤ typeRows T → m < members T → memberType T m < t → memberTy T (tys T t) m ≡ tyOf T (memberType T m)
+  member-below t h k l = member-in (tys T t) k ∙ below-ty T t (memberType T m) h l
+
+  pub member-none : (t : ℕ) → m < members T → t ≤ memberType T m → memberTy T (tys T t) m ≡ broken
+  member-none t k l = member-in (tys T t) k ∙ below-none T t (memberType T m) l
+
+  -- among all trees
+  pub member-whole : m < members T → memberTy T (trees T) m ≡ tyOf T (memberType T m)
+  unfolding tyOf
+  member-whole k = member-in (trees T) k
+
+module _ (T : List ℕ) (l : List Ty) (i left : ℕ) where
+  pub members-more : 0 < left → memberTys T l (range i left) ≡ cons (memberTy T l i) (memberTys T l (range (i + 1) (left - 1)))
+  unfolding memberTys range
+  members-more h = go left h
+    where
+      go : (n : ℕ) → 0 < n → memberTys T l (range i n) ≡ cons (memberTy T l i) (memberTys T l (range (i + 1) (n - 1)))
+      go zero h = absurd (omega arith)
+      go (suc n) h = rw (add-one, sub-one)
+
+  pub members-none : left ≤ 0 → memberTys T l (range i left) ≡ nil
+  unfolding memberTys range
+  members-none h = let e : left ≡ 0 = omega arith in rw e
+
+-- ---- a row by its kind
+
+module _ (T : List ℕ) (t : ℕ) (h : t < typeRows T) where
+  pub row-enum : kind T t ≡ 8 → tyOf T t ≡ enum (upto (field T t 0 + 65536 * field T t 1))
+  unfolding rowTy
+  row-enum k = ty-row T t h ∙ rw k
+
+  pub row-struct : kind T t ≡ 9 → tyOf T t ≡ struct (memberTys T (tys T t) (range (field T t 0) (field T t 1)))
+  unfolding rowTy ownRows
+  row-struct k = ty-row T t h ∙ rw k
+
+  pub row-seq : kind T t ≡ 10 → tyOf T t ≡ seq (getD (tys T t) (field T t 0) broken)
+  unfolding rowTy
+  row-seq k = ty-row T t h ∙ rw k
+
+  pub row-dict : kind T t ≡ 11 → tyOf T t ≡ dict (getD (tys T t) (field T t 0) broken) (getD (tys T t) (field T t 1) broken)
+  unfolding rowTy
+  row-dict k = ty-row T t h ∙ rw k
+
+  pub ty-seq : kind T t ≡ 10 → field T t 0 < t → tyOf T t ≡ seq (tyOf T (field T t 0))
+  ty-seq k l = row-seq k ∙ ap seq (below-ty T t (field T t 0) (omega arith) l)
+
+  pub ty-dict : kind T t ≡ 11 → field T t 0 < t → field T t 1 < t → tyOf T t ≡ dict (tyOf T (field T t 0)) (tyOf T (field T t 1))
+  ty-dict k l m = row-dict k ∙ ap₂ dict (below-ty T t (field T t 0) (omega arith) l) (below-ty T t (field T t 1) (omega arith) m)
+
+  pub row-proxy : kind T t ≡ 12 → tyOf T t ≡ proxy
+  unfolding rowTy
+  row-proxy k = ty-row T t h ∙ rw k
+
+  pub row-bool : kind T t ≡ 0 → tyOf T t ≡ bool
+  unfolding rowTy
+  row-bool k = ty-row T t h ∙ rw k
+
+  pub row-byte : kind T t ≡ 1 → tyOf T t ≡ byte
+  unfolding rowTy
+  row-byte k = ty-row T t h ∙ rw k
+
+  pub row-short : kind T t ≡ 2 → tyOf T t ≡ num short
+  unfolding rowTy
+  row-short k = ty-row T t h ∙ rw k
+
+  pub row-int : kind T t ≡ 3 → tyOf T t ≡ num int
+  unfolding rowTy
+  row-int k = ty-row T t h ∙ rw k
+
+  pub row-long : kind T t ≡ 4 → tyOf T t ≡ num long
+  unfolding rowTy
+  row-long k = ty-row T t h ∙ rw k
+
+  pub row-float : kind T t ≡ 5 → tyOf T t ≡ num float
+  unfolding rowTy
+  row-float k = ty-row T t h ∙ rw k
+
+  pub row-double : kind T t ≡ 6 → tyOf T t ≡ num double
+  unfolding rowTy
+  row-double k = ty-row T t h ∙ rw k
+
+  pub row-string : kind T t ≡ 7 → tyOf T t ≡ string
+  unfolding rowTy
+  row-string k = ty-row T t h ∙ rw k
+
+  -- an exception, a class, a parameter list or an unknown kind is no value's type
+  pub row-other : 12 < kind T t → tyOf T t ≡ broken
+  unfolding rowTy
+  row-other k = ty-row T t h ∙ simp (
+    ne-eqb (kind T t) 8 (λ e. omega arith),
+    ne-eqb (kind T t) 9 (λ e. omega arith),
+    ne-eqb (kind T t) 10 (λ e. omega arith),
+    ne-eqb (kind T t) 11 (λ e. omega arith),
+    ne-eqb (kind T t) 12 (λ e. omega arith),
+  )
+      (List·getD-eq-default (bool ∷ byte ∷ num short ∷ num int ∷ num long ∷ num float ∷ num double ∷ string ∷ []) broken {n = kind T t} (omega arith))
