@@ -10,12 +10,12 @@ use mathlib.Core.Bool.{Bool, true, false}
 use mathlib.Core.List.{List, [], _∷_, _++_, append-assoc}
 use Prim.Native.Nat.{ℕ, zero, suc, _+_, _-_, _*_, _/_, _%_, _^_, _≤_, _<_}
 use native.Mathlib.Omega.{arith}
-use lib.ListN.{length, take, drop, length-append, length-drop}
+use lib.ListN.{length, take, drop}
 use lib.Seq.{drop-at, length-take-le}
-use lib.Dec.{eqb, leb, ltb}
+use lib.Dec.{ltb}
 use borrow.Author.Tests.{leb-false, ltb-true, ltb-false, lt-leb, lt-ltb, le-ltb}
-use Rattle.encoding.specs.Result.{Res, ok, bad, Parser, pick, _>>=_, pure, chunk, skip, item, must, mapc, firstOf}
-use Rattle.encoding.specs.ResultLaws.{Bound, bind-ok, bind-step, bind-take, bind-written, pure-ok, chunk-ok, chunk-written, item-ok, item-step, must-ok, must-step, mapc-ok, mapc-step, firstOf-ok, Framed, framed-bind, framed-pure, framed-pick, framed-chunk, framed-skip, framed-item, framed-must, framed-mapc, Held, held-bind, held-pure, held-pick, held-chunk, held-skip, held-item, held-must, held-mapc, Ends, ends-chunk, ends-item, ends-bind, Eats, eats-chunk, eats-first, eats-item, eats-must, eats-mapc, Starved, starved-chunk, starved-bind, starved-item, starved-must, starved-mapc}
+use Rattle.encoding.specs.Result.{ok, pick, _>>=_, pure, chunk, item, must, firstOf}
+use Rattle.encoding.specs.ResultLaws.{Bound, bind-ok, bind-step, bind-take, bind-written, pure-ok, chunk-ok, chunk-written, item-ok, item-step, must-ok, must-step, firstOf-ok, Framed, framed-bind, framed-pure, framed-pick, framed-chunk, framed-item, framed-must, framed-mapc, Held, held-bind, held-pure, held-pick, held-chunk, held-item, held-must, held-mapc, Ends, ends-chunk, ends-item, ends-bind, Eats, eats-chunk, eats-first, eats-item, eats-must, eats-mapc, Starved, starved-chunk, starved-bind, starved-item, starved-must}
 use Rattle.encoding.specs.Number.{val, leBytes, negative, number, byte, boolForm, bool, sizeForm, sizeTail, size, sizeBytes, lengthForm, declared, Content, string, stringBytes}
 
 -- ---- bytes

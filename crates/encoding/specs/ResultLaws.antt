@@ -14,9 +14,8 @@ use mathlib.Core.Option.{Option, none, some}
 use mathlib.Core.List.{List, [], _∷_, _++_, map, append-assoc, append-nil}
 use Prim.Native.Nat.{ℕ, zero, suc, _+_, _-_, _≤_}
 use native.Mathlib.Omega.{arith}
-use native.Mathlib.Nat.{le-refl}
 use lib.ListN.{length, take, drop, length-append, length-drop, take-append-drop}
-use lib.Seq.{take-add, drop-at, drop-drop, take-at, length-take-le, drop-append-le}
+use lib.Seq.{take-add, drop-at, drop-drop, take-at, length-take-le}
 use lib.Dec.{eqb, leb}
 use borrow.Author.Tests.{eqb-true, leb-true, le-leb, lt-leb, eq-eqb}
 use Rattle.encoding.specs.Result.{Res, ok, bad, Parser, pick, shift, after, _>>=_, pure, fail, chunk, skip, atFirst, item, judged, must, made, mapc, bytes, recalled, recall, leave, enter, inside, times, turn, many, atEnd, atMark, firstOf}

@@ -14,15 +14,15 @@
 --   required t, optional t       the members of row t, each as declared
 --   nameOf t, named nm           the name of a record; the record of a name
 --   base t, chain t              the base row, if any; the row and its bases, one after another
-use mathlib.Core.Bool.{Bool, true, false, _&&_, _||_, not}
+use mathlib.Core.Bool.{Bool, false, _&&_, _||_, not}
 use mathlib.Core.Option.{Option, none, some}
-use mathlib.Core.List.{List, [], _∷_, _++_, map}
-use Prim.Native.Nat.{ℕ, zero, suc, _+_, _-_, _*_, _/_, _%_, _^_}
+use mathlib.Core.List.{List, [], _∷_, _++_}
+use Prim.Native.Nat.{ℕ, zero, suc, _+_, _-_, _*_}
 use lib.ListN.{length, take, drop, getD}
 use lib.Dec.{eqb, leb, ltb}
 use Rattle.encoding.specs.Result.{pick, firstOf, sameBytes}
 use Rattle.encoding.specs.Number.{val, negative}
-use Rattle.encoding.specs.Types.{Allowed, upto, Num, short, int, long, float, double, Ty, Tys, nil, cons, broken, bool, byte, string, proxy, num, enum, struct, seq, dict}
+use Rattle.encoding.specs.Types.{upto, short, int, long, float, double, Ty, Tys, nil, cons, broken, bool, byte, string, proxy, num, enum, struct, seq, dict}
 
 -- ---- layout
 

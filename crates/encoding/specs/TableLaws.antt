@@ -12,16 +12,14 @@
 use Prim.Native.Nat.{ℕ, zero, suc, _+_, _-_, _*_, _≤_, _<_}
 use mathlib.Core.Path.{_≡_, refl, sym, ap, ap₂, _∙_}
 use mathlib.Core.Logic.{⊎-elim}
-use mathlib.Core.List.{List, [], _∷_, _++_}
+use mathlib.Core.List.{List, [], _∷_}
 use native.Mathlib.Nat.{eq-or-lt-of-le}
 use native.Mathlib.Numerals.{add-one, sub-one}
 use native.Mathlib.Omega.{arith}
 use lib.ListN.{length, getD, length-append, List·getD-append, List·getD-eq-default}
 use lib.Seq.{getD-at}
-use lib.Dec.{eqb, ltb}
 use borrow.Author.Tests.{ne-eqb, lt-ltb, le-ltb}
-use Rattle.encoding.specs.Result.{pick}
-use Rattle.encoding.specs.Types.{Allowed, upto, Num, short, int, long, float, double, Ty, Tys, nil, cons, broken, bool, byte, string, proxy, num, enum, struct, seq, dict}
+use Rattle.encoding.specs.Types.{upto, short, int, long, float, double, Ty, nil, cons, broken, bool, byte, string, proxy, num, enum, struct, seq, dict}
 use Rattle.encoding.specs.Table.{kind, field, members, memberType, range, memberTy, memberTys, ownRows, rowTy, grow, tys, typeRows, trees, tyOf}
 
 module _ (T : List ℕ) where

@@ -6,13 +6,12 @@
 --   value-more, value-part       a value among more bytes; a value in just its bytes
 use mathlib.Core.Path.{_≡_, refl, ap, _∙_}
 use mathlib.Core.Bool.{Bool, true, false, _&&_, true≢false, false≢true}
-use mathlib.Core.List.{List, [], _∷_, _++_}
-use Prim.Native.Nat.{ℕ, _+_, _≤_}
-use native.Mathlib.Omega.{arith}
+use mathlib.Core.List.{List, _++_}
+use Prim.Native.Nat.{ℕ}
 use lib.ListN.{length, take}
 use lib.Dec.{eqb}
 use borrow.Author.Tests.{eqb-true, eq-eqb}
-use Rattle.encoding.specs.Result.{Res, ok, bad, Parser, pick, _>>=_, pure, skip, must, mapc, times}
+use Rattle.encoding.specs.Result.{Res, ok, bad, _>>=_, skip}
 use Rattle.encoding.specs.ResultLaws.{Framed, framed-bind, framed-pure, framed-fail, framed-pick, framed-skip, framed-must, framed-mapc, framed-times, framed-more, framed-part, Held, held-bind, held-pure, held-fail, held-pick, held-skip, held-must, held-mapc, held-times, Eats, eats-fail, eats-first, eats-next, eats-mapc, eats-must}
 use Rattle.encoding.specs.Number.{size}
 use Rattle.encoding.specs.NumberLaws.{framed-byte, framed-bool, framed-size, framed-declared, framed-string, held-byte, held-bool, held-size, held-declared, held-string, eats-size, eats-string, eats-bool}
