@@ -244,10 +244,11 @@ counted-canonical xs y {d} {n} h = go (bind-ok Number.size (λ n. chunk n (λ b.
     go B =
         let S = size-canonical xs y (B .first) in
         let K = chunk-ok (B .fst) (λ b. b) (drop (B .n) xs) (B .next) in
-        let l : length d ≡ B .fst = ap length (K .1) ∙ length-take-le (B .fst) (drop (B .n) xs) (K .0) in
-        (bind-take Number.size (λ n. chunk n (λ b. b)) xs B ∙ ap (λ (z : List ℕ). z ++ take (B .m) (drop (B .n) xs)) (S .0 ∙ ap sizeBytes (sym l))
-          ∙ ap (λ (z : List ℕ). sizeBytes (length d) ++ z) (chunk-whole (B .fst) (drop (B .n) xs) (B .next)),
-         omega (arith, S .1))
+        let l : length d ≡ B .fst = ap length (K .1) ∙ length-take-le (B .fst) (drop (B .n) xs) (K .0) in (
+          bind-take Number.size (λ n. chunk n (λ b. b)) xs B ∙ ap (λ (z : List ℕ). z ++ take (B .m) (drop (B .n) xs)) (S .0 ∙ ap sizeBytes (sym l))
+              ∙ ap (λ (z : List ℕ). sizeBytes (length d) ++ z) (chunk-whole (B .fst) (drop (B .n) xs) (B .next)),
+          omega (arith, S .1),
+        )
 
 pub part-canonical : (f : Form) → Sound f → (xs : List ℕ) → Bytes xs → {d : List ℕ} {n : ℕ} → part f xs ≡ ok d n → take n xs ≡ lengthBytes f d ++ d
 unfolding part lengthBytes extent

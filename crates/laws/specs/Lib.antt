@@ -1,0 +1,3 @@
+-- The laws of reading and writing.
+pub mod Grammar
+pub mod Demands
