@@ -4,19 +4,18 @@
 --   size-..               the cases of `size`
 --   declared-..           the cases of `declared`
 --   string-..             the cases of `string`
-use mathlib.Core.Path.{_≡_, refl, sym, ap, _∙_}
+use mathlib.Core.Path.{_≡_, refl, sym, _∙_}
 use mathlib.Core.Bool.{Bool, true, false}
-use mathlib.Core.List.{List, []}
-use Prim.Native.Nat.{ℕ, zero, suc, _+_, _-_, _*_, _^_, _≤_, _<_, min}
+use mathlib.Core.List.{List}
+use Prim.Native.Nat.{ℕ, suc, _+_, _-_, _*_, _^_, _≤_, _<_, min}
 use native.Mathlib.Omega.{arith}
 use native.Mathlib.Nat.{one-le-pow, pow-suc, pow-le-pow-right, min-eq-left, min-eq-right}
-use lib.ListN.{length, take, drop, getD, length-drop}
-use lib.Dec.{leb, ltb, eqb}
+use lib.ListN.{length, drop, getD, length-drop}
+use lib.Dec.{leb}
 use borrow.Author.Tests.{leb-true, leb-false, le-leb, lt-leb, lt-ltb, le-ltb}
-use Rattle.encoding.specs.Result.{Res, ok, bad, pick, shift, after, _>>=_, pure, chunk, atFirst, item, judged, must, firstOf}
+use Rattle.encoding.specs.Result.{Res, ok, bad, shift, after, _>>=_, pure, chunk, atFirst, item, judged, must, firstOf}
 use Rattle.encoding.specs.Table.{at}
 use Rattle.encoding.specs.Number.{val, negative, number, byte, sizeForm, sizeTail, size, lengthForm, declared, Content, string}
-use Rattle.wire.specs.declared.Step.{Step}
 use Rattle.wire.specs.declared.Step.the-variants.{Took, Fault}
 use Rattle.wire.specs.declared.Sized.{Sized}
 use Rattle.wire.specs.declared.Sized.the-variants.{Is, Isnt}

@@ -1,4 +1,6 @@
--- What the code's answers to a reader are, and laws of the readers that the code is made of.
+-- What the code's answers to a reader are, what its writes leave, and laws of both.
 pub mod Steps
 pub mod Within
 pub mod At
+pub mod Put
+pub mod PutLaws

@@ -8,7 +8,7 @@
 use mathlib.Core.Path.{_≡_, refl, sym, subst, _∙_}
 use mathlib.Core.Bool.{Bool, true, false}
 use mathlib.Core.List.{List}
-use Prim.Native.Nat.{ℕ, _+_, _-_, _≤_}
+use Prim.Native.Nat.{ℕ, _-_, _≤_}
 use native.Mathlib.Omega.{arith}
 use lib.ListN.{length, take, drop, length-drop}
 use lib.Dec.{eqb, leb, ltb}
@@ -18,7 +18,7 @@ use Rattle.encoding.specs.Number.{val, number, byte, sizeForm, sizeTail, size, 
 use Rattle.wire.specs.declared.Step.{Step}
 use Rattle.wire.specs.declared.Step.the-variants.{Took, Fault}
 use Rattle.wire.specs.declared.Sized.{Sized}
-use Rattle.wire.specs.declared.Sized.the-variants.{Is, Isnt}
+use Rattle.wire.specs.declared.Sized.the-variants.{Is}
 use Rattle.wire.specs.Steps.{stepOf, sizedOf}
 
 abbrev pub Within : {A : Type 0} → ℕ → Res A → Type 0

@@ -1,11 +1,14 @@
-// Numbers, sizes, strings, declared lengths and bits, read from the bytes in front. Each function equals a definition, on any bytes.
+// Numbers, sizes, strings, declared lengths and bits, read from the bytes in front and put at a place. Each function equals a definition, on any bytes.
 ghost use mathlib.Core.Path.{_≡_};
 ghost use Prim.Native.Nat.{_+_, _-_, _*_, _/_, _%_, _^_, _≤_, _<_, min};
-ghost use lib.Dec.{eqb};
+ghost use lib.Dec.{leb, ltb};
 ghost use lib.ListN.{length, take, drop};
-ghost use Rattle.encoding.specs.Table.{at};
-ghost use Rattle.encoding.specs.Number.{val, size, string, declared};
+ghost use Rattle.encoding.specs.Result.{pick};
+ghost use Rattle.encoding.specs.Table.{at as number-at};
+ghost use Rattle.encoding.specs.Number.{size, string, declared, leBytes, sizeBytes};
+ghost use Rattle.encoding.specs.Slice.{sliced, compact, bit, worth, flagBits};
 ghost use Rattle.wire.specs.Steps.{stepOf, sizedOf};
+ghost use Rattle.wire.specs.Put.{put, headerBits};
 
 // What a reader took: so many bytes; or a refusal's number and its place, counted from the bytes in front.
 pub enum Step {
@@ -42,7 +45,7 @@ fn minus(a: usize, b: usize) -> usize
 // The number of k bytes at a place; bytes past the end count as 0.
 fn number_at(s: &[u8], i: usize, k: usize) -> usize
     requires { ⌜ k ≤ 8 ⌝ }
-    ensures { λ r. ⌜ (r ≡ at (now (s .entry)) k i) × (r < 256 ^ k) ⌝ }
+    ensures { λ r. ⌜ (r ≡ number-at (now (s .entry)) k i) × (r < 256 ^ k) ⌝ }
 {
     if s.len() <= i {
         return 0;
@@ -57,25 +60,25 @@ fn number_at(s: &[u8], i: usize, k: usize) -> usize
 }
 
 pub fn byte_at(s: &[u8], i: usize) -> usize
-    ensures { λ r. ⌜ (r ≡ at (now (s .entry)) 1 i) × (r < 256) ⌝ }
+    ensures { λ r. ⌜ (r ≡ number-at (now (s .entry)) 1 i) × (r < 256) ⌝ }
 {
     if i < s.len() { wide(s[i]) } else { 0 }
 }
 
 pub fn short_at(s: &[u8], i: usize) -> usize
-    ensures { λ r. ⌜ (r ≡ at (now (s .entry)) 2 i) × (r < 65536) ⌝ }
+    ensures { λ r. ⌜ (r ≡ number-at (now (s .entry)) 2 i) × (r < 65536) ⌝ }
 {
     number_at(s, i, 2)
 }
 
 pub fn int_at(s: &[u8], i: usize) -> usize
-    ensures { λ r. ⌜ (r ≡ at (now (s .entry)) 4 i) × (r < 4294967296) ⌝ }
+    ensures { λ r. ⌜ (r ≡ number-at (now (s .entry)) 4 i) × (r < 4294967296) ⌝ }
 {
     number_at(s, i, 4)
 }
 
 pub fn long_at(s: &[u8], i: usize) -> usize
-    ensures { λ r. ⌜ r ≡ at (now (s .entry)) 8 i ⌝ }
+    ensures { λ r. ⌜ r ≡ number-at (now (s .entry)) 8 i ⌝ }
 {
     number_at(s, i, 8)
 }
@@ -140,4 +143,151 @@ pub fn read_declared(s: &[u8], least: usize, own: usize) -> Step
         return Step::Fault(4, 0);
     }
     Step::Took(4 + rest)
+}
+
+// ---- bits
+
+// The low three bits of an optional's header.
+pub fn type_bits(h: usize) -> usize
+    ensures { λ r. ⌜ r ≡ h % 8 ⌝ }
+{
+    h & 7
+}
+
+// The upper five.
+pub fn tag_bits(h: usize) -> usize
+    ensures { λ r. ⌜ r ≡ h / 8 ⌝ }
+{
+    h >> 3
+}
+
+// An optional's header byte.
+pub fn header_bits(tag: usize, kind: usize) -> usize
+    ensures { λ r. ⌜ r ≡ headerBits tag kind ⌝ }
+{
+    ((tag & 31) << 3) | (kind & 7)
+}
+
+// Bits 0-1 of a slice's flags: the form of its type ID.
+pub fn id_form(flags: usize) -> usize
+    ensures { λ r. ⌜ r ≡ flags % 4 ⌝ }
+{
+    flags & 3
+}
+
+// Bit 2: optional members.
+pub fn has_optionals(flags: usize) -> bool
+    ensures { λ r. ⌜ r ≡ bit flags 4 ⌝ }
+{
+    (flags & 4) != 0
+}
+
+// Bit 3: an indirection table.
+pub fn has_table(flags: usize) -> bool
+    ensures { λ r. ⌜ r ≡ bit flags 8 ⌝ }
+{
+    (flags & 8) != 0
+}
+
+// Bit 4: a slice size.
+pub fn has_size(flags: usize) -> bool
+    ensures { λ r. ⌜ r ≡ bit flags 16 ⌝ }
+{
+    (flags & 16) != 0
+}
+
+// Bit 5: the last slice.
+pub fn is_last(flags: usize) -> bool
+    ensures { λ r. ⌜ r ≡ bit flags 32 ⌝ }
+{
+    (flags & 32) != 0
+}
+
+// Bits 6 and above.
+pub fn has_unused(flags: usize) -> bool
+    ensures { λ r. ⌜ r ≡ ltb 63 flags ⌝ }
+{
+    (flags >> 6) != 0
+}
+
+fn worth_of(b: bool, w: usize) -> usize
+    ensures { λ r. ⌜ r ≡ worth b w ⌝ }
+{
+    if b { w } else { 0 }
+}
+
+// A slice's flags: a type ID, optional members, a slice size, the last slice.
+pub fn slice_flags(id: bool, optionals: bool, size: bool, last: bool) -> usize
+    ensures { λ r. ⌜ r ≡ flagBits (pick size sliced compact) id optionals last ⌝ }
+{
+    worth_of(id, 1) | worth_of(optionals, 4) | worth_of(size, 16) | worth_of(last, 32)
+}
+
+// ---- writing
+
+// Whether k bytes fit at a place of a list of n.
+pub fn fits(n: usize, at: usize, k: usize) -> bool
+    ensures { λ r. ⌜ r ≡ leb (at + k) n ⌝ }
+{
+    if n < k { false } else { at <= n - k }
+}
+
+// Puts the k bytes of a number at a place, where they fit.
+pub fn put_number(out: &mut [u8], at: usize, k: usize, v: usize)
+    ensures { λ _. ⌜ now (out .exit) ≡ put at (leBytes k v) (now (out .entry)) ⌝ }
+{
+    if fits(out.len(), at, k) {
+        let mut left = k;
+        let mut p = at;
+        let mut w = v;
+        while left > 0 {
+            out[p] = (w % 256) as u8;
+            w = w / 256;
+            p += 1;
+            left -= 1;
+        }
+    }
+}
+
+// How many bytes a size takes.
+pub fn size_len(n: usize) -> usize
+    ensures { λ r. ⌜ (r ≡ length (sizeBytes n)) × (r ≤ 5) ⌝ }
+{
+    if n < 255 { 1 } else { 5 }
+}
+
+// Puts a size at a place, where it fits.
+pub fn put_size(out: &mut [u8], at: usize, n: usize)
+    ensures { λ _. ⌜ now (out .exit) ≡ put at (sizeBytes n) (now (out .entry)) ⌝ }
+{
+    if n < 255 {
+        put_number(out, at, 1, n);
+    } else if fits(out.len(), at, 5) {
+        put_number(out, at, 1, 255);
+        put_number(out, at + 1, 4, n);
+    }
+}
+
+// Puts bytes at a place, where they fit.
+pub fn put_bytes(out: &mut [u8], at: usize, from: &[u8])
+    ensures { λ _. ⌜ now (out .exit) ≡ put at (now (from .entry)) (now (out .entry)) ⌝ }
+{
+    let n = from.len();
+    if fits(out.len(), at, n) {
+        let mut i = 0;
+        while i < n {
+            out[at + i] = from[i];
+            i += 1;
+        }
+    }
+}
+
+// Puts a part of bytes, from a on, at most n, at a place, where it fits.
+pub fn put_part(out: &mut [u8], at: usize, from: &[u8], a: usize, n: usize)
+    ensures { λ _. ⌜ now (out .exit) ≡ put at (take n (drop a (now (from .entry)))) (now (out .entry)) ⌝ }
+{
+    if a < from.len() {
+        let k = least(n, from.len() - a);
+        put_bytes(out, at, &from[a..a + k]);
+    }
 }

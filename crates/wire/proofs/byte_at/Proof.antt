@@ -5,9 +5,6 @@ use native.Mathlib.Omega.{arith}
 use Rattle.wire.specs.At.{at-byte, at-past}
 use Rattle.wire.proofs.byte_at.Statement.{statement}
 use Rattle.wire.proofs.byte_at.Tie as tie
-use Rattle.wire.proofs.byte_at.Reads as reads
-use Rattle.wire.proofs.byte_at.Lts as lts
-use Rattle.wire.proofs.wide.Reads as wide-reads
 
 pub byte-at-spec : {M : Type 1} → statement M
 byte-at-spec =

@@ -8,10 +8,6 @@ use Rattle.wire.specs.At.{at-past}
 use Rattle.wire.proofs.Laws.{Digits, digits-begin, digits-turn, digits-room, digits-end, digits-below}
 use Rattle.wire.proofs.number_at.Statement.{statement}
 use Rattle.wire.proofs.number_at.Tie as tie
-use Rattle.wire.proofs.number_at.Reads as reads
-use Rattle.wire.proofs.number_at.Lts as lts
-use Rattle.wire.proofs.least.Reads as least-reads
-use Rattle.wire.proofs.wide.Reads as wide-reads
 
 abbrev Inv-loop : tie.InvT-loop
 Inv-loop s i k j₀ v₀ j v = Digits s i k j v

@@ -3,10 +3,6 @@ use borrow.Author.Needs.{needs}
 use Rattle.wire.proofs.Laws.{declared-none, declared-low, declared-high, declared-cut, declared-whole}
 use Rattle.wire.proofs.read_declared.Statement.{statement}
 use Rattle.wire.proofs.read_declared.Tie as tie
-use Rattle.wire.proofs.read_declared.Reads as reads
-use Rattle.wire.proofs.read_declared.Lts as lts
-use Rattle.wire.proofs.int_at.Reads as int-at-reads
-use Rattle.wire.proofs.minus.Reads as minus-reads
 
 pub read-declared-spec : {M : Type 1} → statement M
 read-declared-spec =

@@ -3,10 +3,6 @@ use borrow.Author.Needs.{needs}
 use Rattle.wire.proofs.Laws.{size-none, size-short, size-cut, size-low, size-high, size-long}
 use Rattle.wire.proofs.read_size.Statement.{statement}
 use Rattle.wire.proofs.read_size.Tie as tie
-use Rattle.wire.proofs.read_size.Reads as reads
-use Rattle.wire.proofs.read_size.Lts as lts
-use Rattle.wire.proofs.byte_at.Reads as byte-at-reads
-use Rattle.wire.proofs.int_at.Reads as int-at-reads
 
 pub read-size-spec : {M : Type 1} → statement M
 read-size-spec =

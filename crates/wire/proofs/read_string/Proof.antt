@@ -4,9 +4,6 @@ use Rattle.wire.specs.Within.{size-within}
 use Rattle.wire.proofs.Laws.{string-whole, string-cut, string-bad}
 use Rattle.wire.proofs.read_string.Statement.{statement}
 use Rattle.wire.proofs.read_string.Tie as tie
-use Rattle.wire.proofs.read_string.Reads as reads
-use Rattle.wire.proofs.read_string.Lts as lts
-use Rattle.wire.proofs.read_size.Reads as read-size-reads
 
 pub read-string-spec : {M : Type 1} → statement M
 read-string-spec =
