@@ -1,4 +1,4 @@
--- What a row's tree is, by the row's kind, in terms of the trees of the rows below it.
+-- What a row's tree is, by the row's kind, in terms of the trees of the rows below it; and a row's chain, by its base.
 --
 --   length-tys                     the first n rows have n trees
 --   ty-row, ty-past                the tree of a row that has one is made from the trees below it; any other row is broken
@@ -9,8 +9,10 @@
 --   member-below, member-none      the type of a member row among the trees below row t; member-whole among all trees
 --   member-past                    a member row that is not there
 --   members-more, members-none     the members' types one after another
+--   base-below, chain-row          a base is a smaller row; a row's chain is the row, then its base's chain
 use Prim.Native.Nat.{ℕ, zero, suc, _+_, _-_, _*_, _≤_, _<_}
 use mathlib.Core.Path.{_≡_, refl, sym, ap, ap₂, _∙_}
+use mathlib.Core.Bool.{Bool, true, false, _&&_}
 use mathlib.Core.Logic.{⊎-elim}
 use mathlib.Core.List.{List, [], _∷_}
 use native.Mathlib.Nat.{eq-or-lt-of-le}
@@ -18,9 +20,11 @@ use native.Mathlib.Numerals.{add-one, sub-one}
 use native.Mathlib.Omega.{arith}
 use lib.ListN.{length, getD, length-append, List·getD-append, List·getD-eq-default}
 use lib.Seq.{getD-at}
-use borrow.Author.Tests.{ne-eqb, lt-ltb, le-ltb}
+use lib.Dec.{leb}
+use borrow.Author.Tests.{leb-true, ne-eqb, lt-ltb, le-ltb}
+use Rattle.encoding.specs.Result.{pick}
 use Rattle.encoding.specs.Types.{upto, short, int, long, float, double, Ty, nil, cons, broken, bool, byte, string, proxy, num, enum, struct, seq, dict}
-use Rattle.encoding.specs.Table.{kind, field, members, memberType, range, memberTy, memberTys, ownRows, rowTy, grow, tys, typeRows, trees, tyOf}
+use Rattle.encoding.specs.Table.{kind, field, members, memberType, range, memberTy, memberTys, ownRows, rowTy, grow, tys, typeRows, trees, tyOf, isRecord, base, upward, climb, chain}
 
 module _ (T : List ℕ) where
   pub length-tys : (n : ℕ) → length (tys T n) ≡ n
@@ -161,3 +165,32 @@ module _ (T : List ℕ) (t : ℕ) (h : t < typeRows T) where
     ne-eqb (kind T t) 12 (λ e. omega arith),
   )
       (List·getD-eq-default (bool ∷ byte ∷ num short ∷ num int ∷ num long ∷ num float ∷ num double ∷ string ∷ []) broken {n = kind T t} (omega arith))
+
+-- ---- bases
+
+pub base-below : (T : List ℕ) (t : ℕ) → base T t ≤ t
+unfolding base
+base-below T t = go (isRecord (kind T t)) (leb (field T t 2) t) refl
+  where
+    go : (a b : Bool) → leb (field T t 2) t ≡ b → pick (a && b) (field T t 2) 0 ≤ t
+    go true true e = leb-true _ _ e
+    go true false e = omega arith
+    go false b e = omega arith
+
+climb-enough : (T : List ℕ) (f g t : ℕ) → t < f → t < g → climb T f t ≡ climb T g t
+unfolding climb upward
+climb-enough T zero g t hf hg = absurd (omega arith)
+climb-enough T (suc f) zero t hf hg = absurd (omega arith)
+climb-enough T (suc f) (suc g) t hf hg = ap (λ (z : List ℕ). t ∷ z) (go (base T t) (base-below T t) (λ r h. climb-enough T f g r (omega arith) (omega arith)))
+  where
+    go : (b : ℕ) → b ≤ t → ((r : ℕ) → r < t → climb T f r ≡ climb T g r) → upward (λ r. climb T f r) b ≡ upward (λ r. climb T g r) b
+    go zero h again = refl
+    go (suc r) h again = again r h
+
+pub chain-row : (T : List ℕ) (t : ℕ) → chain T t ≡ t ∷ upward (chain T) (base T t)
+unfolding chain climb upward
+chain-row T t = ap (λ (z : List ℕ). t ∷ z) (go (base T t) (base-below T t))
+  where
+    go : (b : ℕ) → b ≤ t → upward (λ r. climb T t r) b ≡ upward (chain T) b
+    go zero h = refl
+    go (suc r) h = climb-enough T t (suc r) r h (omega arith)

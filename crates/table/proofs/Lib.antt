@@ -1,0 +1,5 @@
+-- Laws that several proofs cite.
+pub mod Places
+pub mod Ranges
+pub mod Labels
+pub mod Chains

@@ -1,0 +1,16 @@
+-- The part that begins at the row has the kind first. Assumes nothing.
+use borrow.Author.Needs.{needs}
+use Rattle.table.proofs.Places.{kind-is}
+use Rattle.table.proofs.kind.Statement.{statement}
+use Rattle.table.proofs.kind.Tie as tie
+
+pub kind-spec : {M : Type 1} → statement M
+kind-spec =
+    tie.close
+    (tie.spec
+    (λ c κs. search needs)  -- row-requires
+    (λ c. search needs)  -- sub-byte-at
+    (λ c. search needs)  -- part-byte-at-start
+    (λ c. search needs)  -- part-byte-at-end
+    (λ c κs. search needs)  -- byte-at-requires
+    (λ c. search (needs, kind-is)))  -- returns

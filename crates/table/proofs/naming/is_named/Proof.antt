@@ -1,0 +1,18 @@
+-- The part that is compared is the name. Assumes nothing.
+use borrow.Author.Needs.{needs}
+use Rattle.table.proofs.Labels.{named-part}
+use Rattle.table.proofs.naming.is_named.Statement.{statement}
+use Rattle.table.proofs.naming.is_named.Tie as tie
+
+pub is-named-spec : {M : Type 1} → statement M
+is-named-spec =
+    tie.close
+    (tie.spec
+    (λ c κs. search needs)  -- name-start-requires
+    (λ c κs. search needs)  -- name-length-requires
+    (λ c. search needs)  -- add-e
+    (λ c. search needs)  -- sub-same
+    (λ c. search needs)  -- part-same-start
+    (λ c. search needs)  -- part-same-end
+    (λ c κs. search needs)  -- same-requires
+    (λ c. search named-part))  -- returns

@@ -1,0 +1,4 @@
+-- What the contracts of `table` cite beside the definitions of the encoding.
+pub mod Found
+pub mod Names
+pub mod NamesLaws

@@ -1,0 +1,91 @@
+// A record's bases and the members of a row.
+use crate::Found;
+ghost use mathlib.Core.Path.{_≡_};
+ghost use Prim.Native.Nat.{_≤_};
+ghost use lib.Dec.{eqb};
+ghost use Rattle.encoding.specs.Table.{any, takes, optional, lookup, base, chain};
+ghost use Rattle.table.specs.Found.{rowFound, hasTag};
+
+// The base row + 1, or 0; a base that is not smaller is none.
+pub fn base(table: &[u8], t: usize) -> usize
+    ensures { λ r. ⌜ (r ≡ base (now (table .entry)) t) × (r ≤ t) ⌝ }
+{
+    if crate::is_record(crate::kind(table, t)) {
+        let b = crate::field(table, t, 2);
+        if b <= t {
+            return b;
+        }
+    }
+    0
+}
+
+// Row top is row t or one of its bases.
+pub fn in_chain(table: &[u8], t: usize, top: usize) -> bool
+    ensures { λ r. ⌜ r ≡ any (λ o. eqb o top) (chain (now (table .entry)) t) ⌝ }
+{
+    let mut o = t;
+    loop {
+        if o == top {
+            return true;
+        }
+        let b = base(table, o);
+        if b == 0 {
+            return false;
+        }
+        o = b - 1;
+    }
+}
+
+// Member row m is one of the rows that row t names.
+pub fn takes(table: &[u8], t: usize, m: usize) -> bool
+    ensures { λ r. ⌜ r ≡ takes (now (table .entry)) t m ⌝ }
+{
+    let a = crate::field(table, t, 0);
+    if m < a {
+        return false;
+    }
+    m < a + crate::field(table, t, 1)
+}
+
+// Member row m is one of row t or of its bases.
+pub fn of_chain(table: &[u8], t: usize, m: usize) -> bool
+    ensures { λ r. ⌜ r ≡ any (λ o. takes (now (table .entry)) o m) (chain (now (table .entry)) t) ⌝ }
+{
+    let mut o = t;
+    loop {
+        if takes(table, o, m) {
+            return true;
+        }
+        let b = base(table, o);
+        if b == 0 {
+            return false;
+        }
+        o = b - 1;
+    }
+}
+
+// Member row m is optional and has this tag.
+pub fn has_tag(table: &[u8], m: usize, tag: usize) -> bool
+    ensures { λ r. ⌜ r ≡ hasTag (now (table .entry)) tag m ⌝ }
+{
+    if crate::mark(table, m) == 0 {
+        return false;
+    }
+    tag == crate::tag(table, m)
+}
+
+// The optional member of row t that has a tag.
+pub fn tag_member(table: &[u8], t: usize, tag: usize) -> Found
+    ensures { λ r. ⌜ r ≡ rowFound (lookup tag (optional (now (table .entry)) t)) ⌝ }
+{
+    let mut m = crate::field(table, t, 0);
+    let mut left = crate::field(table, t, 1);
+    while left > 0 {
+        if has_tag(table, m, tag) {
+            return Found::At(m);
+        }
+        m += 1;
+        left -= 1;
+    }
+    Found::Nothing
+}

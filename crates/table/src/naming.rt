@@ -1,0 +1,83 @@
+// The names of records.
+use crate::Found;
+ghost use mathlib.Core.Path.{_≡_};
+ghost use Prim.Native.Nat.{_+_, _-_, _≤_};
+ghost use lib.ListN.{length};
+ghost use Rattle.encoding.specs.Result.{sameBytes};
+ghost use Rattle.encoding.specs.Table.{nameOf, named};
+ghost use Rattle.table.specs.Found.{foundOf};
+ghost use Rattle.table.specs.Names.{nameStart, isNamed};
+
+// Where the name of row t begins, or the table's end.
+pub fn name_start(table: &[u8], t: usize) -> usize
+    ensures { λ r. ⌜ (r ≡ nameStart (now (table .entry)) t) × (r ≤ length (now (table .entry))) ⌝ }
+{
+    let a = 12 + 12 * crate::types(table) + 8 * crate::members(table) + crate::field(table, t, 3);
+    if a <= table.len() {
+        return a;
+    }
+    table.len()
+}
+
+// How many bytes the name of row t has within the table.
+pub fn name_length(table: &[u8], t: usize) -> usize
+    ensures { λ r. ⌜ (r ≡ length (nameOf (now (table .entry)) t)) × (nameStart (now (table .entry)) t + r ≤ length (now (table .entry))) ⌝ }
+{
+    let a = name_start(table, t);
+    let n = crate::field(table, t, 4);
+    if n <= table.len() - a {
+        return n;
+    }
+    table.len() - a
+}
+
+// Two strings are the same bytes.
+pub fn same(a: &[u8], b: &[u8]) -> bool
+    ensures { λ r. ⌜ r ≡ sameBytes (now (a .entry)) (now (b .entry)) ⌝ }
+{
+    if a.len() != b.len() {
+        return false;
+    }
+    let mut i = 0;
+    while i < a.len() {
+        if a[i] != b[i] {
+            return false;
+        }
+        i += 1;
+    }
+    true
+}
+
+// The name of row t is this one.
+pub fn is_named(table: &[u8], t: usize, name: &[u8]) -> bool
+    ensures { λ r. ⌜ r ≡ sameBytes (now (name .entry)) (nameOf (now (table .entry)) t) ⌝ }
+{
+    let a = name_start(table, t);
+    let e = a + name_length(table, t);
+    same(name, &table[a..e])
+}
+
+// Row t is a record of this name.
+pub fn is_record_named(table: &[u8], t: usize, name: &[u8]) -> bool
+    ensures { λ r. ⌜ r ≡ isNamed (now (table .entry)) (now (name .entry)) t ⌝ }
+{
+    if crate::is_record(crate::kind(table, t)) {
+        return is_named(table, t, name);
+    }
+    false
+}
+
+// The record of a name.
+pub fn named(table: &[u8], name: &[u8]) -> Found
+    ensures { λ r. ⌜ r ≡ foundOf (named (now (table .entry)) (now (name .entry))) ⌝ }
+{
+    let n = crate::types(table);
+    let mut t = 0;
+    while t < n {
+        if is_record_named(table, t, name) {
+            return Found::At(t);
+        }
+        t += 1;
+    }
+    Found::Nothing
+}
