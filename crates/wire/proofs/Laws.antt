@@ -4,15 +4,16 @@
 --   size-..               the cases of `size`
 --   declared-..           the cases of `declared`
 --   string-..             the cases of `string`
-use mathlib.Core.Path.{_≡_, refl, sym, _∙_}
-use mathlib.Core.Bool.{Bool, true, false}
+use mathlib.Core.Path.{_≡_, sym, ap, _∙_}
+use mathlib.Core.Bool.{Bool, false}
 use mathlib.Core.List.{List}
-use Prim.Native.Nat.{ℕ, suc, _+_, _-_, _*_, _^_, _≤_, _<_, min}
+use Prim.Native.Nat.{ℕ, suc, _+_, _-_, _*_, _^_, _≤_, _<_}
 use native.Mathlib.Omega.{arith}
-use native.Mathlib.Nat.{one-le-pow, pow-suc, pow-le-pow-right, min-eq-left, min-eq-right}
+use native.Mathlib.Nat.{pow-suc, pow-le-pow-right}
 use lib.ListN.{length, drop, getD, length-drop}
+use lib.Seq.{take-all}
 use lib.Dec.{leb}
-use borrow.Author.Tests.{leb-true, leb-false, le-leb, lt-leb, lt-ltb, le-ltb}
+use borrow.Author.Tests.{le-leb, lt-leb, lt-ltb, le-ltb}
 use Rattle.encoding.specs.Result.{Res, ok, bad, shift, after, _>>=_, pure, chunk, atFirst, item, judged, must, firstOf}
 use Rattle.encoding.specs.Table.{at}
 use Rattle.encoding.specs.Number.{val, negative, number, byte, sizeForm, sizeTail, size, lengthForm, declared, Content, string}
@@ -20,7 +21,8 @@ use Rattle.wire.specs.declared.Step.the-variants.{Took, Fault}
 use Rattle.wire.specs.declared.Sized.{Sized}
 use Rattle.wire.specs.declared.Sized.the-variants.{Is, Isnt}
 use Rattle.wire.specs.Steps.{stepOf, sizedOf}
-use Rattle.wire.specs.At.{at-past, at-more}
+use Rattle.wire.proofs.Room.{fits-no}
+use Rattle.wire.specs.At.{at-more}
 
 -- ---- the loop over the digits: those from j on are read
 
@@ -30,20 +32,11 @@ pub record Digits (s : List ℕ) (i k j v : ℕ) : Type 0 where
   pub digits : v ≡ at s (k - j) (i + j)
   pub below : v < 256 ^ (k - j)
 
-pub digits-begin : (s : List ℕ) (i k j : ℕ) → i < length s → j ≡ min k (length s - i) → Digits s i k j 0
+pub digits-begin : (s : List ℕ) (i k : ℕ) → i + k ≤ length s → Digits s i k k 0
 unfolding at val
-digits-begin s i k j h e = go (leb k (length s - i)) refl
-  where
-    go : (t : Bool) → leb k (length s - i) ≡ t → Digits s i k j 0
-    go true t =
-        let l = leb-true k (length s - i) t in
-        let m : j ≡ k = e ∙ min-eq-left l in
-        let z : k - j ≡ 0 = omega arith in
-        record { inside = omega arith; few = omega arith; digits = rw z; below = rw z (omega arith) }
-    go false t =
-        let l = leb-false k (length s - i) t in
-        let m : j ≡ length s - i = e ∙ min-eq-right (omega arith) in
-        record { inside = omega arith; few = omega arith; digits = sym (at-past s (k - j) (i + j) (omega arith)); below = one-le-pow (k - j) 256 (omega arith) }
+digits-begin s i k h =
+    let z : k - k ≡ 0 = omega arith in
+    record { inside = h; few = omega arith; digits = rw z; below = rw z (omega arith) }
 
 module _ (s : List ℕ) (i k j v : ℕ) (d : Digits s i k j v) where
   pub digits-turn : (b : ℕ) → 0 < j → b ≡ getD s (i + (j - 1)) 0 → b < 256 → Digits s i k (j - 1) (b + 256 * v)
@@ -68,6 +61,19 @@ module _ (s : List ℕ) (i k j v : ℕ) (d : Digits s i k j v) where
 
   pub digits-below : j ≤ 0 → v < 256 ^ k
   digits-below h = let n : k - j ≡ k = omega arith in rw n at (d .below)
+
+-- what is past the end adds nothing
+module _ (s : List ℕ) (i k r : ℕ) (b : Bool) (e : b ≡ leb (i + k) (length s)) (q : b ≡ false) where
+  pub cut-few : k ≤ 8 → length s - i ≤ 8
+  cut-few h = omega (arith, fits-no (length s) i k b e q)
+
+  module _ (h : i < length s) where
+    pub cut-digits : r ≡ at s (length s - i) i → r ≡ at s k i
+    unfolding at
+    cut-digits d = d ∙ ap val (take-all (length s - i) (drop i s) (omega (arith, length-drop i s)) ∙ sym (take-all k (drop i s) (omega (arith, length-drop i s, fits-no (length s) i k b e q))))
+
+    pub cut-below : r < 256 ^ (length s - i) → r < 256 ^ k
+    cut-below l = omega (arith, pow-le-pow-right {n = 256} (omega arith) {i = length s - i} {j = k} (omega (arith, fits-no (length s) i k b e q)))
 
 -- ---- a size, by its first byte and the int behind it
 

@@ -15,29 +15,11 @@ use native.Mathlib.Numerals.{add-one}
 use lib.ListN.{length, take, drop, getD, set, length-set, length-append, length-drop, drop-of-length-le}
 use lib.Seq.{sets, drop-cons, take-all, take-nil}
 use lib.Dec.{leb}
-use borrow.Author.Tests.{leb-true, leb-false, le-leb, lt-leb, lt-ltb, le-ltb}
+use borrow.Author.Tests.{leb-true, leb-false, lt-ltb, le-ltb}
 use Rattle.encoding.specs.Number.{leBytes, sizeBytes}
 use Rattle.wire.specs.Put.{put}
+use Rattle.wire.proofs.Room.{fits-yes, fits-no}
 use Rattle.wire.specs.PutLaws.{put-sets, put-over, put-none, put-put, length-leBytes}
-
--- ---- whether bytes fit
-
-pub fits-low : (n at k : ℕ) → n < k → false ≡ leb (at + k) n
-fits-low n at k h = sym (lt-leb (at + k) n (omega arith))
-
-pub fits-else : (n at k : ℕ) → k ≤ n → leb at (n - k) ≡ leb (at + k) n
-fits-else n at k h = go (leb at (n - k)) refl
-  where
-    go : (t : Bool) → leb at (n - k) ≡ t → t ≡ leb (at + k) n
-    go true e = let l = leb-true at (n - k) e in sym (le-leb (at + k) n (omega arith))
-    go false e = let l = leb-false at (n - k) e in sym (lt-leb (at + k) n (omega arith))
-
-module _ (n at k : ℕ) (r : Bool) (e : r ≡ leb (at + k) n) where
-  pub fits-yes : r ≡ true → at + k ≤ n
-  fits-yes q = leb-true (at + k) n (sym e ∙ q)
-
-  pub fits-no : r ≡ false → n < at + k
-  fits-no q = leb-false (at + k) n (sym e ∙ q)
 
 -- ---- bytes b are still to be laid at p of out, which makes `last`, a list of n
 

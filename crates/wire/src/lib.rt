@@ -42,21 +42,39 @@ fn minus(a: usize, b: usize) -> usize
     if b < a { a - b } else { 0 }
 }
 
-// The number of k bytes at a place; bytes past the end count as 0.
-fn number_at(s: &[u8], i: usize, k: usize) -> usize
-    requires { ⌜ k ≤ 8 ⌝ }
+// Whether k bytes fit at a place of a list of n.
+pub fn fits(n: usize, at: usize, k: usize) -> bool
+    ensures { λ r. ⌜ r ≡ leb (at + k) n ⌝ }
+{
+    if n < k { false } else { at <= n - k }
+}
+
+// The number of k bytes at a place, all of them inside.
+fn digits_at(s: &[u8], i: usize, k: usize) -> usize
+    requires { ⌜ (k ≤ 8) × (i + k ≤ length (now s)) ⌝ }
     ensures { λ r. ⌜ (r ≡ number-at (now (s .entry)) k i) × (r < 256 ^ k) ⌝ }
 {
-    if s.len() <= i {
-        return 0;
-    }
-    let mut j = least(k, s.len() - i);
+    let mut j = k;
     let mut v: usize = 0;
     while j > 0 {
         j -= 1;
         v = wide(s[i + j]) + 256 * v;
     }
     v
+}
+
+// The number of k bytes at a place; bytes past the end count as 0.
+fn number_at(s: &[u8], i: usize, k: usize) -> usize
+    requires { ⌜ k ≤ 8 ⌝ }
+    ensures { λ r. ⌜ (r ≡ number-at (now (s .entry)) k i) × (r < 256 ^ k) ⌝ }
+{
+    if fits(s.len(), i, k) {
+        return digits_at(s, i, k);
+    }
+    if s.len() <= i {
+        return 0;
+    }
+    digits_at(s, i, s.len() - i)
 }
 
 pub fn byte_at(s: &[u8], i: usize) -> usize
@@ -224,13 +242,6 @@ pub fn slice_flags(id: bool, optionals: bool, size: bool, last: bool) -> usize
 }
 
 // ---- writing
-
-// Whether k bytes fit at a place of a list of n.
-pub fn fits(n: usize, at: usize, k: usize) -> bool
-    ensures { λ r. ⌜ r ≡ leb (at + k) n ⌝ }
-{
-    if n < k { false } else { at <= n - k }
-}
 
 // Puts the k bytes of a number at a place, where they fit.
 pub fn put_number(out: &mut [u8], at: usize, k: usize, v: usize)

@@ -1,5 +1,5 @@
 -- The two ways to compare, with and without room for k bytes at all, are one test.
-use Rattle.wire.proofs.Writes.{fits-low, fits-else}
+use Rattle.wire.proofs.Room.{fits-low, fits-else}
 use Rattle.wire.proofs.fits.Statement.{statement}
 use Rattle.wire.proofs.fits.Tie as tie
 

@@ -4,7 +4,8 @@ use Prim.Native.Nat.{_+_, _≤_}
 use native.Mathlib.Omega.{arith}
 use denote.Ref.{now}
 use lib.ListN.{length}
-use Rattle.wire.proofs.Writes.{fits-yes, size-put-short, size-put-long, size-put-over}
+use Rattle.wire.proofs.Room.{fits-yes}
+use Rattle.wire.proofs.Writes.{size-put-short, size-put-long, size-put-over}
 use Rattle.wire.proofs.put_size.Statement.{statement}
 use Rattle.wire.proofs.put_size.Tie as tie
 
