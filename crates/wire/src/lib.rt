@@ -115,14 +115,14 @@ pub fn read_size(s: &[u8]) -> Sized
     if s.len() < 5 {
         return Sized::Isnt(4, 0);
     }
-    let n = int_at(s, 1);
-    if n < 255 {
+    let long = int_at(s, 1);
+    if long < 255 {
         return Sized::Isnt(7, 0);
     }
-    if 2147483648 <= n {
+    if 2147483648 <= long {
         return Sized::Isnt(7, 0);
     }
-    Sized::Is(n, 5)
+    Sized::Is(long, 5)
 }
 
 // A string: size, then that many bytes, one item.
