@@ -3,7 +3,7 @@
 --   Digits                what the loop over the digits keeps, from the last to the first
 --   size-..               the cases of `size`
 --   declared-..           the cases of `declared`
---   string-..             the cases of `string`
+--   string-..             the cases of `string`; size-within: its size lies within the bytes at hand
 use mathlib.Core.Path.{_≡_, sym, ap, _∙_}
 use mathlib.Core.Bool.{Bool, false}
 use mathlib.Core.List.{List}
@@ -15,8 +15,10 @@ use lib.Seq.{take-all}
 use lib.Dec.{leb}
 use borrow.Author.Tests.{le-leb, lt-leb, lt-ltb, le-ltb}
 use Rattle.encoding.specs.Result.{Res, ok, bad, shift, after, _>>=_, pure, chunk, atFirst, item, judged, must, firstOf}
+use Rattle.encoding.specs.ResultLaws.{held-took}
 use Rattle.encoding.specs.Table.{at}
 use Rattle.encoding.specs.Number.{val, negative, number, byte, sizeForm, sizeTail, size, lengthForm, declared, Content, string}
+use Rattle.encoding.specs.NumberLaws.{held-size}
 use Rattle.wire.specs.declared.Step.the-variants.{Took, Fault}
 use Rattle.wire.specs.declared.Sized.{Sized}
 use Rattle.wire.specs.declared.Sized.the-variants.{Is, Isnt}
@@ -142,6 +144,9 @@ sized-isnt (ok a m) f p h = let z : _≡_ {A = ℕ} 0 1 = cc in absurd (omega ar
 sized-isnt (bad c q) f p h = cc
 
 module _ (s : List ℕ) (r : Sized) (e : r ≡ sizedOf (size s)) where
+  pub size-within : (n k : ℕ) → r ≡ Is n k → k ≤ length s
+  size-within n k q = held-took size held-size s (sized-is (size s) n k (sym q ∙ e))
+
   pub string-bad : (f p : ℕ) → r ≡ Isnt f p → Fault f 0 ≡ stepOf (string s)
   unfolding string must judged item atFirst _>>=_ after stepOf
   string-bad f p q = rw (sized-isnt (size s) f p (sym q ∙ e))

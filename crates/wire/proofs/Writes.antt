@@ -15,11 +15,12 @@ use native.Mathlib.Numerals.{add-one}
 use lib.ListN.{length, take, drop, getD, set, length-set, length-append, length-drop, drop-of-length-le}
 use lib.Seq.{sets, drop-cons, take-all, take-nil}
 use lib.Dec.{leb}
-use borrow.Author.Tests.{leb-true, leb-false, lt-ltb, le-ltb}
+use borrow.Author.Tests.{leb-true, leb-false}
 use Rattle.encoding.specs.Number.{leBytes, sizeBytes}
+use Rattle.encoding.specs.NumberLaws.{length-leBytes, size-short, size-long}
 use Rattle.wire.specs.Put.{put}
 use Rattle.wire.proofs.Room.{fits-yes, fits-no}
-use Rattle.wire.specs.PutLaws.{put-sets, put-over, put-none, put-put, length-leBytes}
+use Rattle.wire.specs.PutLaws.{put-sets, put-over, put-none, put-put}
 
 -- ---- bytes b are still to be laid at p of out, which makes `last`, a list of n
 
@@ -96,13 +97,13 @@ bytes-over at b out r e q = over-same at (length b) b out r e q refl
 
 -- ---- a size
 
-pub size-bytes-short : (n : ℕ) → n < 255 → leBytes 1 n ≡ sizeBytes n
-unfolding leBytes sizeBytes
-size-bytes-short n h = let e : n % 256 ≡ n = omega arith in rw (lt-ltb n 255 h, e)
+size-bytes-short : (n : ℕ) → n < 255 → leBytes 1 n ≡ sizeBytes n
+unfolding leBytes
+size-bytes-short n h = let e : n % 256 ≡ n = omega arith in rw (e, size-short n h)
 
-pub size-bytes-long : (n : ℕ) → 255 ≤ n → leBytes 1 255 ++ leBytes 4 n ≡ sizeBytes n
-unfolding leBytes sizeBytes
-size-bytes-long n h = rw (le-ltb n 255 h)
+size-bytes-long : (n : ℕ) → 255 ≤ n → leBytes 1 255 ++ leBytes 4 n ≡ sizeBytes n
+unfolding leBytes
+size-bytes-long n h = sym (size-long n h)
 
 pub size-len-short : (n : ℕ) → n < 255 → 1 ≡ length (sizeBytes n)
 size-len-short n h = sym (length-leBytes 1 n) ∙ ap length (size-bytes-short n h)

@@ -1,6 +1,5 @@
 -- What the code's answers to a reader are, what its writes leave, and laws of both.
 pub mod Steps
-pub mod Within
 pub mod At
 pub mod Put
 pub mod PutLaws

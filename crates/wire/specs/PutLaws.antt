@@ -5,19 +5,17 @@
 --   put-length                      the list keeps its length
 --   put-put                         bytes laid behind bytes
 --   put-front                       bytes laid at the start
---   length-leBytes                  a number of k bytes has k bytes
 --   header-bits                     a header byte of bits in their range
 use mathlib.Core.Path.{_≡_, refl, sym, ap, _∙_}
 use mathlib.Core.Bool.{Bool, true, false}
 use mathlib.Core.List.{List, [], _∷_, _++_}
-use Prim.Native.Nat.{ℕ, zero, suc, _+_, _*_, _/_, _≤_, _<_}
+use Prim.Native.Nat.{ℕ, suc, _+_, _*_, _≤_, _<_}
 use native.Mathlib.Omega.{arith}
 use native.Mathlib.Nat.{add-zero, zero-add}
 use lib.ListN.{length, take, drop, set, length-append}
 use lib.Seq.{sets, sets-eq, length-sets}
 use lib.Dec.{leb}
 use borrow.Author.Tests.{leb-true, leb-false, le-leb, lt-leb}
-use Rattle.encoding.specs.Number.{leBytes}
 use Rattle.wire.specs.Put.{put, headerBits}
 
 pub put-fits : (at : ℕ) (b out : List ℕ) → at + length b ≤ length out → put at b out ≡ take at out ++ b ++ drop (at + length b) out
@@ -62,11 +60,6 @@ put-put at p b c out e h =
 
 pub put-front : (b out : List ℕ) → length b ≤ length out → put 0 b out ≡ b ++ drop (length b) out
 put-front b out h = rw zero-add at (put-fits 0 b out (omega arith))
-
-pub length-leBytes : (k n : ℕ) → length (leBytes k n) ≡ k
-unfolding leBytes
-length-leBytes zero n = refl
-length-leBytes (suc k) n = ap suc (length-leBytes k (n / 256))
 
 pub header-bits : (t k : ℕ) → t < 32 → k < 8 → headerBits t k ≡ t * 8 + k
 unfolding headerBits

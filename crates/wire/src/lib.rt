@@ -22,6 +22,7 @@ pub enum Sized {
     Isnt(usize, usize),
 }
 
+// A byte as a number.
 pub fn wide(x: u8) -> usize
     ensures { λ r. ⌜ (r ≡ x) × (r < 256) ⌝ }
 {
@@ -77,24 +78,28 @@ fn number_at(s: &[u8], i: usize, k: usize) -> usize
     digits_at(s, i, s.len() - i)
 }
 
+// The byte at a place, 0 past the end.
 pub fn byte_at(s: &[u8], i: usize) -> usize
     ensures { λ r. ⌜ (r ≡ number-at (now (s .entry)) 1 i) × (r < 256) ⌝ }
 {
     if i < s.len() { wide(s[i]) } else { 0 }
 }
 
+// The short at a place.
 pub fn short_at(s: &[u8], i: usize) -> usize
     ensures { λ r. ⌜ (r ≡ number-at (now (s .entry)) 2 i) × (r < 65536) ⌝ }
 {
     number_at(s, i, 2)
 }
 
+// The int at a place.
 pub fn int_at(s: &[u8], i: usize) -> usize
     ensures { λ r. ⌜ (r ≡ number-at (now (s .entry)) 4 i) × (r < 4294967296) ⌝ }
 {
     number_at(s, i, 4)
 }
 
+// The long at a place.
 pub fn long_at(s: &[u8], i: usize) -> usize
     ensures { λ r. ⌜ r ≡ number-at (now (s .entry)) 8 i ⌝ }
 {
@@ -228,6 +233,7 @@ pub fn has_unused(flags: usize) -> bool
     (flags >> 6) != 0
 }
 
+// A bit by its worth.
 fn worth_of(b: bool, w: usize) -> usize
     ensures { λ r. ⌜ r ≡ worth b w ⌝ }
 {

@@ -1,7 +1,6 @@
 -- A string: its size, then as many bytes, or the size's refusal; the size stays within the bytes at hand.
 use borrow.Author.Needs.{needs}
-use Rattle.wire.specs.Within.{size-within}
-use Rattle.wire.proofs.Laws.{string-whole, string-cut, string-bad}
+use Rattle.wire.proofs.Laws.{size-within, string-whole, string-cut, string-bad}
 use Rattle.wire.proofs.read_string.Statement.{statement}
 use Rattle.wire.proofs.read_string.Tie as tie
 
