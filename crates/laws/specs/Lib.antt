@@ -1,3 +1,6 @@
 -- The laws of reading and writing.
 pub mod Grammar
+pub mod GrammarLaws
+pub mod ProxyExact
 pub mod Demands
+pub mod ValueExact
