@@ -4,6 +4,7 @@
 --   Takes p P       the same of a reader that gives nothing
 --   reads-, takes-  of each combinator
 --   reads-as        two grammars of the same strings
+--   IsByte x, IsSize n, Spells t    what a byte, a size and a string are written as
 use mathlib.Core.Path.{_≡_, refl, sym, ap, _∙_, subst}
 use mathlib.Core.List.{List, [], _∷_, _++_}
 use Prim.Native.Nat.{ℕ, zero, suc}

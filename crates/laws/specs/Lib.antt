@@ -4,3 +4,4 @@ pub mod GrammarLaws
 pub mod ProxyExact
 pub mod Demands
 pub mod ValueExact
+pub mod RowsExact

@@ -1,6 +1,6 @@
 -- A proxy is exactly a byte string of the grammar of proxies: part by part, each by the law of its combinator.
 --
---   takes-text, takes-proxy   of a string and of a proxy
+--   takes-text, takes-bool, takes-proxy   of a string, a bool and a proxy
 use mathlib.Core.Path.{_≡_, refl, subst}
 use mathlib.Core.List.{List, [], _∷_, _++_, append-nil}
 use Prim.Native.Nat.{ℕ, zero, suc, _+_, _≤_}
