@@ -111,22 +111,27 @@ module _ (T : List ℕ) (top : ℕ) (st : Stage) where
 
 -- ---- the walk over slices
 
+framed-unless : (p : Parser Chain) (o : Option Format) → Framed p → Framed (unlessFinished p o)
+unfolding unlessFinished
+framed-unless p none P = P
+framed-unless p (some g) P = framed-pure (record { format = g; list = [] })
+
+held-unless : (p : Parser Chain) (o : Option Format) → Held p → Held (unlessFinished p o)
+unfolding unlessFinished
+held-unless p none P = P
+held-unless p (some g) P = held-pure (record { format = g; list = [] })
+
+unless-same : (p q : Parser Chain) (o : Option Format) (xs : List ℕ) → p xs ≡ q xs → unlessFinished p o xs ≡ unlessFinished q o xs
+unfolding unlessFinished
+unless-same p q none xs e = e
+unless-same p q (some g) xs e = refl
+
 module _ (T : List ℕ) (top : ℕ) where
   -- a slice, and the walk from there
   abbrev pub onward : ℕ → Stage → Parser Chain
   onward f st = slice T top st >>= λ (r : Slice × Stage). mapc (λ c _. ahead (r .0) c) (walk T top f (r .1))
 
-  framed-unless : (p : Parser Chain) (o : Option Format) → Framed p → Framed (unlessFinished p o)
-  unfolding unlessFinished
-  framed-unless p none P = P
-  framed-unless p (some g) P = framed-pure (record { format = g; list = [] })
-
-  held-unless : (p : Parser Chain) (o : Option Format) → Held p → Held (unlessFinished p o)
-  unfolding unlessFinished
-  held-unless p none P = P
-  held-unless p (some g) P = held-pure (record { format = g; list = [] })
-
-  framed-walk : (f : ℕ) (st : Stage) → Framed (walk T top f st)
+  pub framed-walk : (f : ℕ) (st : Stage) → Framed (walk T top f st)
   unfolding walk
   framed-walk zero st = framed-unless (fail 4) (finished st) (framed-fail 4)
   framed-walk (suc f) st =
@@ -179,11 +184,6 @@ module _ (T : List ℕ) (top : ℕ) where
       go : (o : Option Format) → finished st ≡ o → Fuelled f → walk T top g st xs ≡ ok c n
       go (some k) e ih = ap (λ (p : Parser Chain). p xs) (walk-ended g st e ∙ sym (walk-ended (suc f) st e)) ∙ h
       go none e ih = fuel-turn f ih st xs c n e (bind-ok (slice T top st) _ xs (rw e at h)) g l
-
-  unless-same : (p q : Parser Chain) (o : Option Format) (xs : List ℕ) → p xs ≡ q xs → unlessFinished p o xs ≡ unlessFinished q o xs
-  unfolding unlessFinished
-  unless-same p q none xs e = e
-  unless-same p q (some g) xs e = refl
 
   pub walk-enough : (f g : ℕ) (st : Stage) (xs : List ℕ) → length xs ≤ f → length xs ≤ g → walk T top f st xs ≡ walk T top g st xs
   unfolding walk _>>=_ after mapc made fail

@@ -11,17 +11,17 @@
 --   NewerReading   demand 3 of the reader's answer, given room
 use mathlib.Core.Path.{_≡_}
 use mathlib.Core.List.{List, [], _∷_}
-use mathlib.Core.Option.{none}
-use mathlib.Core.Bool.{true, false}
+use mathlib.Core.Option.{Option, none, some}
+use mathlib.Core.Bool.{Bool, true, false}
 use Prim.Native.Nat.{ℕ, _+_, _≤_}
 use lib.ListN.{length, take, drop}
-use Rattle.encoding.specs.Result.{ok, bad}
+use Rattle.encoding.specs.Result.{Res, ok, bad}
 use Rattle.encoding.specs.NumberLaws.{Bytes}
 use Rattle.encoding.specs.Types.{Ty}
 use Rattle.encoding.specs.Value.{exact}
-use Rattle.encoding.specs.Table.{fine, faults, memberTy, trees, named}
+use Rattle.encoding.specs.Table.{Fault, fine, faults, memberTy, trees, named}
 use Rattle.encoding.specs.Slice.{Format, compact, Slice, idOf}
-use Rattle.encoding.specs.Message.{Pieces, exception, class, Read, encode, encapsulate, noTop, limit, rules, Row, rows, answer, reading, room}
+use Rattle.encoding.specs.Message.{Pieces, list, exception, class, Read, encode, encapsulate, noTop, limit, rules, Row, rows, answer, reading, room}
 use Rattle.encoding.specs.Conform.{Conform}
 use Rattle.encoding.specs.Extends.{Extends, TopsMatch, Counterpart}
 use Rattle.laws.specs.Grammar.{IsValue}

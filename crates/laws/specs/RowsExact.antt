@@ -3,7 +3,7 @@
 --
 --   Stands m at b      the bytes b stand in m from the place `at` on
 --   rows-exact         of pieces that conform
---   exact-rows-from    of every message that the rules accept
+--   exact-rows-from    of every message that the rules accept, where `Exact` holds
 use mathlib.Core.Path.{_≡_, refl, sym, ap, _∙_, subst}
 use mathlib.Core.Bool.{Bool, true, false}
 use mathlib.Core.Option.{Option, some}
