@@ -30,48 +30,63 @@ use Rattle.encoding.specs.Types.{upto, short, int, long, float, double, 
 unfoldable pub at : List ℕ → ℕ → ℕ → ℕ
 at T k i = val (take k (drop i T))
 
+-- T of the header, a 16-bit count
 unfoldable pub types : List ℕ → ℕ
 types T = at T 2 5
 
+-- M
 unfoldable pub members : List ℕ → ℕ
 members T = at T 2 7
 
+-- N
 unfoldable pub names : List ℕ → ℕ
 names T = at T 2 9
 
+-- the header is 12 bytes
 unfoldable pub typesAt : List ℕ → ℕ
 typesAt T = 12
 
+-- T type rows of 12 bytes
 unfoldable pub rowAt : List ℕ → ℕ → ℕ
 rowAt T t = typesAt T + 12 * t
 
+-- then the member rows
 unfoldable pub membersAt : List ℕ → ℕ
 membersAt T = rowAt T (types T)
 
+-- M member rows of 8
 unfoldable pub memberAt : List ℕ → ℕ → ℕ
 memberAt T m = membersAt T + 8 * m
 
+-- then N name bytes
 unfoldable pub namesAt : List ℕ → ℕ
 namesAt T = memberAt T (members T)
 
+-- a type row's kind byte
 unfoldable pub kind : List ℕ → ℕ → ℕ
 kind T t = at T 1 (rowAt T t)
 
+-- 16-bit a, b, c, d, e, behind the kind and a zero byte
 unfoldable pub field : List ℕ → ℕ → ℕ → ℕ
 field T t i = at T 2 (rowAt T t + 2 + 2 * i)
 
+-- a member row's 16-bit type
 unfoldable pub memberType : List ℕ → ℕ → ℕ
 memberType T m = at T 2 (memberAt T m)
 
+-- 0 required, 1 optional
 unfoldable pub mark : List ℕ → ℕ → ℕ
 mark T m = at T 1 (memberAt T m + 2)
 
+-- 32-bit tag
 unfoldable pub tag : List ℕ → ℕ → ℕ
 tag T m = at T 4 (memberAt T m + 4)
 
+-- an exception or a class
 abbrev pub isRecord : ℕ → Bool
 isRecord k = eqb k 13 || eqb k 14
 
+-- struct, exception, class, parameter list
 abbrev pub owns : ℕ → Bool
 owns k = eqb k 9 || (isRecord k || eqb k 15)
 
@@ -84,11 +99,13 @@ unfoldable pub range : ℕ → ℕ → List ℕ
 range i zero = []
 range i (suc k) = i ∷ range (suc i) k
 
+-- a record's name: d its start among the name bytes, e its length
 unfoldable pub nameOf : List ℕ → ℕ → List ℕ
 nameOf T t = take (field T t 4) (drop (namesAt T + field T t 3) T)
 
 -- ---- rules
 
+-- no rule is broken, or the first that is: its class and its place
 pub data Fault : Type 0 where
   fine : Fault
   fault : (class place : ℕ) → Fault
@@ -98,6 +115,7 @@ unfoldable pub orElse : Fault → Fault → Fault
 orElse fine g = g
 orElse (fault c p) g = fault c p
 
+-- a class at a place; 0 is none
 unfoldable pub faultAt : ℕ → ℕ → Fault
 faultAt place zero = fine
 faultAt place (suc c) = fault (suc c) place
@@ -118,6 +136,7 @@ any f (i ∷ l) = f i || any f l
 abbrev pub great : ℕ → Bool
 great n = negative 4 n
 
+-- mark FGT, version 1, T 1..256, M 0..1,024, N 0..8,192, a zero byte, and nothing more behind the names; all at 0
 unfoldable pub headerRules : List ℕ → Fault
 headerRules T =
     faultAt 0 (firstOf (
@@ -143,6 +162,7 @@ taken T (suc n) = taken T n + pick (owns (kind T n)) (field T n 1) 0
 unfoldable pub noPart : List ℕ → ℕ → ℕ → Bool
 noPart T t r = leb t r || ltb 12 (kind T r)
 
+-- c is base row + 1 or 0: a base is smaller and of the same kind
 unfoldable pub noBase : List ℕ → ℕ → ℕ → Bool
 noBase T t zero = false
 noBase T t (suc r) = leb t r || not (eqb (kind T r) (kind T t))
@@ -151,6 +171,7 @@ noBase T t (suc r) = leb t r || not (eqb (kind T r) (kind T t))
 unfoldable pub alike : List ℕ → ℕ → Bool
 alike T t = any (λ r. isRecord (kind T r) && sameBytes (nameOf T r) (nameOf T t)) (range 0 t)
 
+-- the rules of type row t
 unfoldable pub typeRules : List ℕ → ℕ → List (ℕ × Bool)
 typeRules T t =
     let k = kind T t in
@@ -168,6 +189,7 @@ typeRules T t =
     ∷ (38, eqb k 8 && great (field T t 0 + 65536 * field T t 1))
     ∷ []
 
+-- the member rows are all taken, none left over, at 0
 unfoldable pub sumRules : List ℕ → Fault
 sumRules T = faultAt 0 (pick (eqb (taken T (types T)) (members T)) 0 35)
 
@@ -180,6 +202,7 @@ ownerOf T m (suc n) = pick (owns (kind T n) && takes T n m) n (ownerOf T m n)
 unfoldable pub tagAlike : List ℕ → ℕ → ℕ → Bool
 tagAlike T o m = any (λ i. eqb (mark T i) 1 && eqb (tag T i) (tag T m)) (range (field T o 0) (m - field T o 0))
 
+-- the rules of member row m, judged with its owner o
 unfoldable pub memberRules : List ℕ → ℕ → List (ℕ × Bool)
 memberRules T m =
     let o = ownerOf T m (types T) in
@@ -197,6 +220,7 @@ unfoldable pub pass : (ℕ → ℕ) → (ℕ → List (ℕ × Bool)) → List �
 pass place rules [] = fine
 pass place rules (r ∷ rs) = orElse (faultAt (place r) (firstOf (rules r))) (pass place rules rs)
 
+-- one pass after another
 unfoldable pub passes : List Fault → Fault
 passes [] = fine
 passes (f ∷ fs) = orElse f (passes fs)
@@ -210,6 +234,7 @@ faults T =
     ∷ pass (memberAt T) (memberRules T) (range 0 (members T))
     ∷ [])
 
+-- outside every class is 1
 unfoldable pub ruleNumber : ℕ → ℕ
 ruleNumber class = 1
 
@@ -219,10 +244,12 @@ ruleNumber class = 1
 unfoldable pub memberTy : List ℕ → List Ty → ℕ → Ty
 memberTy T l m = pick (ltb m (members T)) (getD l (memberType T m) broken) broken
 
+-- the types of member rows
 unfoldable pub memberTys : List ℕ → List Ty → List ℕ → Tys
 memberTys T l [] = nil
 memberTys T l (m ∷ ms) = cons (memberTy T l m) (memberTys T l ms)
 
+-- a first member, b count
 unfoldable pub ownRows : List ℕ → ℕ → List ℕ
 ownRows T t = range (field T t 0) (field T t 1)
 
@@ -236,6 +263,7 @@ rowTy T l t =
     (pick (eqb (kind T t) 12) proxy
     (getD (bool ∷ byte ∷ num short ∷ num int ∷ num long ∷ num float ∷ num double ∷ string ∷ []) (kind T t) broken)))))
 
+-- one more row
 unfoldable pub grow : List ℕ → List Ty → List Ty
 grow T l = l ++ (rowTy T l (length l) ∷ [])
 
@@ -248,12 +276,15 @@ tys T (suc n) = grow T (tys T n)
 unfoldable pub typeRows : List ℕ → ℕ
 typeRows T = pick (leb (types T) 256) (types T) 256
 
+-- the trees of all rows that have one
 unfoldable pub trees : List ℕ → List Ty
 trees T = tys T (typeRows T)
 
+-- the type of a row; broken where it has no tree
 unfoldable pub tyOf : List ℕ → ℕ → Ty
 tyOf T t = getD (trees T) t broken
 
+-- a member: its row; its tag or, if required, its position among the required ones; its type
 pub record Member : Type 0 where
   pub row : ℕ
   pub key : ℕ
@@ -265,14 +296,17 @@ requiredOf T l i [] = []
 requiredOf T l i (m ∷ ms) =
     pick (eqb (mark T m) 0) (record { row = m; key = i; ty = memberTy T l m } ∷ requiredOf T l (suc i) ms) (requiredOf T l i ms)
 
+-- the optional ones, with their tags
 unfoldable pub optionalOf : List ℕ → List Ty → List ℕ → List Member
 optionalOf T l [] = []
 optionalOf T l (m ∷ ms) =
     pick (eqb (mark T m) 0) (optionalOf T l ms) (record { row = m; key = tag T m; ty = memberTy T l m } ∷ optionalOf T l ms)
 
+-- the required members of row t, as declared
 unfoldable pub required : List ℕ → ℕ → List Member
 required T t = requiredOf T (trees T) 0 (ownRows T t)
 
+-- the optional members of row t, as declared
 unfoldable pub optional : List ℕ → ℕ → List Member
 optional T t = optionalOf T (trees T) (ownRows T t)
 
@@ -281,10 +315,12 @@ unfoldable pub lookup : ℕ → List Member → Option Member
 lookup k [] = none
 lookup k (m ∷ ms) = pick (eqb k (m .key)) (some m) (lookup k ms)
 
+-- the first number of a list that passes a test
 unfoldable pub search : (ℕ → Bool) → List ℕ → Option ℕ
 search f [] = none
 search f (i ∷ l) = pick (f i) (some i) (search f l)
 
+-- the record of a name: any record in the table
 unfoldable pub named : List ℕ → List ℕ → Option ℕ
 named T nm = search (λ t. isRecord (kind T t) && sameBytes nm (nameOf T t)) (range 0 (types T))
 
@@ -292,6 +328,7 @@ named T nm = search (λ t. isRecord (kind T t) && sameBytes nm (nameOf T t)) (ra
 unfoldable pub base : List ℕ → ℕ → ℕ
 base T t = pick (isRecord (kind T t) && leb (field T t 2) t) (field T t 2) 0
 
+-- from a base row + 1 on, if there is one
 unfoldable pub upward : (ℕ → List ℕ) → ℕ → List ℕ
 upward f zero = []
 upward f (suc t) = f t
@@ -301,5 +338,6 @@ unfoldable pub climb : List ℕ → ℕ → ℕ → List ℕ
 climb T zero t = []
 climb T (suc f) t = t ∷ upward (λ r. climb T f r) (base T t)
 
+-- a row and its bases
 unfoldable pub chain : List ℕ → ℕ → List ℕ
 chain T t = climb T (suc t) t
