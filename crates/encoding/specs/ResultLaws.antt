@@ -1,6 +1,7 @@
 -- The laws of readers, once per combinator.
 --
 --   -ok, -step         what an acceptance by a combinator tells; how an acceptance is built
+--   both-, either-     tests joined; sameBytes-ok, sameBytes-same: equal lists
 --   Framed p           the frame: where p accepts, it looks at nothing but what it takes
 --   Held p             the bytes that p takes, and the places of its refusals, lie within the input
 --   Ends p             what p delivers is the end of what it takes
@@ -8,8 +9,8 @@
 --   Starved p          on nothing, p is 4 here
 --   many-enough        fuel is never used up: as many turns as there are bytes give what any greater number gives
 --   Run                a loop that accepts, turn by turn
-use mathlib.Core.Path.{_≡_, refl, sym, ap, _∙_, subst}
-use mathlib.Core.Bool.{Bool, true, false}
+use mathlib.Core.Path.{_≡_, refl, sym, ap, ap₂, _∙_, subst}
+use mathlib.Core.Bool.{Bool, true, false, _&&_, _||_, true≢false, false≢true}
 use mathlib.Core.Option.{Option, none, some}
 use mathlib.Core.List.{List, [], _∷_, _++_, map, append-assoc, append-nil}
 use Prim.Native.Nat.{ℕ, zero, suc, _+_, _-_, _≤_}
@@ -18,7 +19,7 @@ use lib.ListN.{length, take, drop, length-append, length-drop, take-append-drop}
 use lib.Seq.{take-add, drop-at, drop-drop, take-at, length-take-le}
 use lib.Dec.{eqb, leb}
 use borrow.Author.Tests.{eqb-true, leb-true, le-leb, lt-leb, eq-eqb}
-use Rattle.encoding.specs.Result.{Res, ok, bad, Parser, pick, shift, after, _>>=_, pure, fail, chunk, skip, atFirst, item, judged, must, made, mapc, bytes, recalled, recall, leave, enter, inside, times, turn, many, atEnd, atMark, firstOf}
+use Rattle.encoding.specs.Result.{Res, ok, bad, Parser, pick, shift, after, _>>=_, pure, fail, chunk, skip, atFirst, item, judged, must, made, mapc, bytes, recalled, recall, leave, enter, inside, times, turn, many, atEnd, atMark, firstOf, sameBytes}
 
 -- ---- acceptance and refusal exclude each other
 
@@ -27,6 +28,35 @@ ok≢bad e h = let z : _≡_ {A = ℕ} 0 1 = cc in omega arith
 
 pub some≢none : {A : Type 0} {o : Option A} {a : A} → o ≡ some a → o ≡ none → ⊥
 some≢none e h = let z : _≡_ {A = ℕ} 0 1 = cc in omega arith
+
+-- ---- tests
+
+pub both-true : (a b : Bool) → a && b ≡ true → (a ≡ true) × (b ≡ true)
+both-true true b h = (refl, h)
+both-true false b h = absurd (false≢true h)
+
+pub both-false : (a b : Bool) → a && b ≡ false → a ≡ true → b ≡ false
+both-false true b h e = h
+both-false false b h e = absurd (false≢true e)
+
+pub either-false : (a b : Bool) → a || b ≡ false → (a ≡ false) × (b ≡ false)
+either-false true b h = absurd (true≢false h)
+either-false false b h = (refl, h)
+
+pub sameBytes-ok : (xs ys : List ℕ) → sameBytes xs ys ≡ true → xs ≡ ys
+unfolding sameBytes
+sameBytes-ok [] [] h = refl
+sameBytes-ok [] (y ∷ ys) h = absurd (false≢true h)
+sameBytes-ok (x ∷ xs) [] h = absurd (false≢true h)
+sameBytes-ok (x ∷ xs) (y ∷ ys) h = let b = both-true (eqb x y) (sameBytes xs ys) h in ap₂ _∷_ (eqb-true x y (b .0)) (sameBytes-ok xs ys (b .1))
+
+sameBytes-self : (xs : List ℕ) → sameBytes xs xs ≡ true
+unfolding sameBytes
+sameBytes-self [] = refl
+sameBytes-self (x ∷ xs) = rw (eq-eqb x x refl) (sameBytes-self xs)
+
+pub sameBytes-same : (xs ys : List ℕ) → xs ≡ ys → sameBytes xs ys ≡ true
+sameBytes-same xs ys e = ap (λ (l : List ℕ). sameBytes xs l) (sym e) ∙ sameBytes-self xs
 
 -- ---- judgements
 

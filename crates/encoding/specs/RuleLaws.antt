@@ -1,0 +1,315 @@
+-- What a table that breaks no rule gives: `faults T ≡ fine`.
+--
+--   type-test, member-test         each test of a row's rules is false
+--   any-none                       no number of a range passes a test
+--   kind-known                     a kind is at most 15
+--   record-kind, owns-record       a record is an exception or a class, and takes member rows
+--   base-right                     a base is a smaller row of the same kind
+--   named-ok, named-at             the record of a name is a record of that name; a record is the one of its name
+--   names-differ                   records of one name are one
+--   climb-enough, chain-node       a chain is the row, then the chain of its base
+--   taken-at, taken-whole          an owner's member rows begin where those of the rows before it end; all are taken
+--   rows-apart                     a member row has one owner
+--   rows-there                     an owner's member rows are there
+--   owner-at                       the owner of a member row
+--   mark-known, tags-differ        a mark is 0 or 1; optionals of one owner and one tag are one
+use mathlib.Core.Path.{_≡_, refl, sym, ap, _∙_, subst}
+use mathlib.Core.Bool.{Bool, true, false, _&&_, _||_, not, true≢false, false≢true}
+use mathlib.Core.Logic.{_⊎_, inl, inr}
+use mathlib.Core.Option.{some}
+use mathlib.Core.List.{List, [], _∷_}
+use Prim.Native.Nat.{ℕ, zero, suc, _+_, _-_, _≤_, _<_}
+use native.Mathlib.Omega.{arith}
+use native.Mathlib.Decide.{ℕ-discrete}
+use lib.ListN.{getD}
+use lib.Dec.{eqb, leb, ltb}
+use borrow.Author.Tests.{eqb-true, eqb-false, leb-true, leb-false, ltb-true, ltb-false, le-leb, lt-ltb, eq-eqb, not-false}
+use Rattle.encoding.specs.Result.{pick, firstOf, sameBytes}
+use Rattle.encoding.specs.ResultLaws.{both-true, both-false, either-false, sameBytes-ok, sameBytes-same}
+use Rattle.encoding.specs.Table.{types, members, kind, field, mark, tag, isRecord, owns, takes, range, nameOf, Fault, fine, fault, orElse, faultAt, any, headerRules, taken, noBase, alike, typeRules, sumRules, ownerOf, tagAlike, memberRules, rowAt, memberAt, pass, passes, faults, search, named, base, upward, climb, chain}
+
+-- ---- passes
+
+orElse-fine : (f g : Fault) → orElse f g ≡ fine → (f ≡ fine) × (g ≡ fine)
+unfolding orElse
+orElse-fine fine g h = (refl, h)
+orElse-fine (fault c p) g h = let z : _≡_ {A = ℕ} 0 1 = cc in absurd (omega arith)
+
+faultAt-fine : (place c : ℕ) → faultAt place c ≡ fine → c ≡ 0
+unfolding faultAt
+faultAt-fine place zero h = refl
+faultAt-fine place (suc c) h = let z : _≡_ {A = ℕ} 0 1 = cc in absurd (omega arith)
+
+pass-fine : (place : ℕ → ℕ) (rules : ℕ → List (ℕ × Bool)) (i k : ℕ) → pass place rules (range i k) ≡ fine → (r : ℕ) → i ≤ r → r < i + k → firstOf (rules r) ≡ 0
+unfolding pass range
+pass-fine place rules i zero h r l m = absurd (omega arith)
+pass-fine place rules i (suc k) h r l m =
+    let a = orElse-fine (faultAt (place i) (firstOf (rules i))) _ h in
+    elim (ℕ-discrete i r) [ yes e ↦ subst (λ (x : ℕ). firstOf (rules x) ≡ 0) e (faultAt-fine (place i) (firstOf (rules i)) (a .0)) | no e ↦ pass-fine place rules (suc i) k (a .1) r (omega (arith, e)) (omega arith) ]
+
+-- each number of a list of judgements is one
+abbrev Some : ℕ → Type 0 → Type 0
+Some zero X = ⊥
+Some (suc n) X = X
+
+abbrev Numbers : List (ℕ × Bool) → Type 0
+Numbers [] = Unit {0}
+Numbers (r ∷ rs) = Some (r .0) (Numbers rs)
+
+test-at : (l : List (ℕ × Bool)) → Numbers l → firstOf l ≡ 0 → (i : ℕ) → getD l i (0, false) .1 ≡ false
+unfolding firstOf
+test-at [] s h i = refl
+test-at (r ∷ rs) s h zero = go (r .0) (r .1) s h
+  where
+    go : (n : ℕ) (b : Bool) → Some n (Numbers rs) → pick b n (firstOf rs) ≡ 0 → b ≡ false
+    go zero b s h = absurd s
+    go (suc n) true s h = absurd (omega arith)
+    go (suc n) false s h = refl
+test-at (r ∷ rs) s h (suc i) = go (r .0) (r .1) s h (λ s h. test-at rs s h i)
+  where
+    go : (n : ℕ) (b : Bool) → Some n (Numbers rs) → pick b n (firstOf rs) ≡ 0 → (Numbers rs → firstOf rs ≡ 0 → getD rs i (0, false) .1 ≡ false) → getD rs i (0, false) .1 ≡ false
+    go zero b s h ih = absurd s
+    go (suc n) true s h ih = absurd (omega arith)
+    go (suc n) false s h ih = ih s h
+
+-- ---- some number of a range
+
+pub any-none : (f : ℕ → Bool) (i k : ℕ) → any f (range i k) ≡ false → (r : ℕ) → i ≤ r → r < i + k → f r ≡ false
+unfolding any range
+any-none f i zero h r l m = absurd (omega arith)
+any-none f i (suc k) h r l m =
+    let a = either-false (f i) (any f (range (suc i) k)) h in
+    elim (ℕ-discrete i r) [ yes e ↦ subst (λ (x : ℕ). f x ≡ false) e (a .0) | no e ↦ any-none f (suc i) k (a .1) r (omega (arith, e)) (omega arith) ]
+
+-- the first of a range that passes a test
+search-ok : (f : ℕ → Bool) (i k : ℕ) (r : ℕ) → search f (range i k) ≡ some r → (i ≤ r) × (r < i + k) × (f r ≡ true)
+unfolding search range
+search-ok f i zero r h = let z : _≡_ {A = ℕ} 0 1 = cc in absurd (omega arith)
+search-ok f i (suc k) r h = go (f i) refl h (λ h. search-ok f (suc i) k r h)
+  where
+    go : (b : Bool) → f i ≡ b → pick b (some i) (search f (range (suc i) k)) ≡ some r
+        → (search f (range (suc i) k) ≡ some r → (suc i ≤ r) × (r < suc i + k) × (f r ≡ true)) → (i ≤ r) × (r < i + suc k) × (f r ≡ true)
+    go true e h ih = let s : i ≡ r = cc in (omega arith, omega arith, subst (λ (x : ℕ). f x ≡ true) s e)
+    go false e h ih = let s = ih h in (omega (arith, s .0), omega (arith, s .1), s .2)
+
+search-at : (f : ℕ → Bool) (i k : ℕ) (r : ℕ) → i ≤ r → r < i + k → f r ≡ true → ((j : ℕ) → j < r → f j ≡ true → ⊥) → search f (range i k) ≡ some r
+unfolding search range
+search-at f i zero r l m e d = absurd (omega arith)
+search-at f i (suc k) r l m e d = go (f i) refl (λ n. search-at f (suc i) k r n (omega arith) e d)
+  where
+    go : (b : Bool) → f i ≡ b → (suc i ≤ r → search f (range (suc i) k) ≡ some r) → pick b (some i) (search f (range (suc i) k)) ≡ some r
+    go true t ih = elim (ℕ-discrete i r) [ yes s ↦ ap some s | no s ↦ absurd (d i (omega (arith, s)) t) ]
+    go false t ih = elim (ℕ-discrete i r) [ yes s ↦ absurd (true≢false (sym e ∙ ap f (sym s) ∙ t)) | no s ↦ ih (omega (arith, s)) ]
+
+-- ---- kinds
+
+pub record-kind : (k : ℕ) → isRecord k ≡ true → (k ≡ 13) ⊎ (k ≡ 14)
+record-kind k h = go (eqb k 13) refl h
+  where
+    go : (b : Bool) → eqb k 13 ≡ b → b || eqb k 14 ≡ true → (k ≡ 13) ⊎ (k ≡ 14)
+    go true e h = inl (eqb-true k 13 e)
+    go false e h = inr (eqb-true k 14 h)
+
+pub owns-record : (k : ℕ) → isRecord k ≡ true → owns k ≡ true
+owns-record k h = go (eqb k 9) (isRecord k) (eqb k 15) h
+  where
+    go : (a b c : Bool) → b ≡ true → a || (b || c) ≡ true
+    go true b c h = refl
+    go false true c h = refl
+    go false false c h = absurd (false≢true h)
+
+-- ---- a record by its name
+
+pub named-ok : (T nm : List ℕ) (t : ℕ) → named T nm ≡ some t → (t < types T) × (isRecord (kind T t) ≡ true) × (nm ≡ nameOf T t)
+unfolding named
+named-ok T nm t h =
+    let s = search-ok (λ t. isRecord (kind T t) && sameBytes nm (nameOf T t)) 0 (types T) t h in
+    let b = both-true (isRecord (kind T t)) (sameBytes nm (nameOf T t)) (s .2) in
+    (omega (arith, s .1), b .0, sameBytes-ok nm (nameOf T t) (b .1))
+
+-- ---- chains
+
+base-le : (T : List ℕ) (t : ℕ) → base T t ≤ t
+unfolding base
+base-le T t = go (isRecord (kind T t)) (leb (field T t 2) t) refl
+  where
+    go : (a b : Bool) → leb (field T t 2) t ≡ b → pick (a && b) (field T t 2) 0 ≤ t
+    go true true e = leb-true (field T t 2) t e
+    go true false e = omega arith
+    go false b e = omega arith
+
+upward-same : (f g : ℕ → List ℕ) (t b : ℕ) → b ≤ t → ((r : ℕ) → r < t → f r ≡ g r) → upward f b ≡ upward g b
+unfolding upward
+upward-same f g t zero h e = refl
+upward-same f g t (suc r) h e = e r h
+
+-- any fuel above the row number gives the same
+pub climb-enough : (T : List ℕ) (f g t : ℕ) → t < f → t < g → climb T f t ≡ climb T g t
+unfolding climb
+climb-enough T zero g t h k = absurd (omega arith)
+climb-enough T (suc f) zero t h k = absurd (omega arith)
+climb-enough T (suc f) (suc g) t h k =
+    ap (λ (l : List ℕ). t ∷ l) (upward-same _ _ t (base T t) (base-le T t) (λ r l. climb-enough T f g r (omega arith) (omega arith)))
+
+pub chain-node : (T : List ℕ) (t : ℕ) → chain T t ≡ t ∷ upward (chain T) (base T t)
+unfolding chain climb
+chain-node T t = ap (λ (l : List ℕ). t ∷ l) (upward-same _ (chain T) t (base T t) (base-le T t) (λ r l. climb-enough T t (suc r) r l (omega arith)))
+
+-- ---- member rows, in turn
+
+taken-rises : (T : List ℕ) (t r : ℕ) → t ≤ r → taken T t ≤ taken T r
+unfolding taken
+taken-rises T t zero h = let e : t ≡ 0 = omega arith in rw e (omega arith)
+taken-rises T t (suc r) h = elim (ℕ-discrete t (suc r)) [ yes e ↦ rw e (omega arith) | no e ↦ omega (arith, taken-rises T t r (omega (arith, e))) ]
+
+-- an owner takes its rows
+taken-next : (T : List ℕ) (t : ℕ) → owns (kind T t) ≡ true → taken T (suc t) ≡ taken T t + field T t 1
+unfolding taken
+taken-next T t o = rw o
+
+-- ---- what no broken rule gives
+
+module _ (T : List ℕ) (right : faults T ≡ fine) where
+  pub type-test : (t : ℕ) → t < types T → (i : ℕ) → getD (typeRules T t) i (0, false) .1 ≡ false
+  unfolding faults passes typeRules
+  type-test t l i =
+      let a = orElse-fine (headerRules T) _ right in
+      let b = orElse-fine (pass (rowAt T) (typeRules T) (range 0 (types T))) _ (a .1) in
+      test-at (typeRules T t) tt (pass-fine (rowAt T) (typeRules T) 0 (types T) (b .0) t (omega arith) (omega arith)) i
+
+  pub member-test : (m : ℕ) → m < members T → (i : ℕ) → getD (memberRules T m) i (0, false) .1 ≡ false
+  unfolding faults passes memberRules
+  member-test m l i =
+      let a = orElse-fine (headerRules T) _ right in
+      let b = orElse-fine (pass (rowAt T) (typeRules T) (range 0 (types T))) _ (a .1) in
+      let c = orElse-fine (sumRules T) _ (b .1) in
+      let d = orElse-fine (pass (memberAt T) (memberRules T) (range 0 (members T))) _ (c .1) in
+      test-at (memberRules T m) tt (pass-fine (memberAt T) (memberRules T) 0 (members T) (d .0) m (omega arith) (omega arith)) i
+
+  pub taken-whole : taken T (types T) ≡ members T
+  unfolding faults passes sumRules
+  taken-whole =
+      let a = orElse-fine (headerRules T) _ right in
+      let b = orElse-fine (pass (rowAt T) (typeRules T) (range 0 (types T))) _ (a .1) in
+      let c = orElse-fine (sumRules T) _ (b .1) in
+      go (eqb (taken T (types T)) (members T)) refl (faultAt-fine 0 _ (c .0))
+    where
+      go : (b : Bool) → eqb (taken T (types T)) (members T) ≡ b → _≡_ {A = ℕ} (pick b 0 35) 0 → taken T (types T) ≡ members T
+      go true e h = eqb-true (taken T (types T)) (members T) e
+      go false e h = absurd (omega arith)
+
+  pub kind-known : (t : ℕ) → t < types T → kind T t ≤ 15
+  unfolding typeRules
+  kind-known t l = ltb-false 15 (kind T t) (type-test t l 2)
+
+  module _ (t : ℕ) (below : t < types T) (rec : isRecord (kind T t) ≡ true) where
+    no-base : noBase T t (field T t 2) ≡ false
+    unfolding typeRules
+    no-base = both-false (isRecord (kind T t)) (noBase T t (field T t 2)) (type-test t below 5) rec
+
+    -- a base is a row before, of the same kind
+    pub base-right : (r : ℕ) → base T t ≡ suc r → (r < t) × (kind T r ≡ kind T t)
+    unfolding base noBase
+    base-right r h = go (field T t 2) no-base (rw rec at h)
+      where
+        go : (b : ℕ) → noBase T t b ≡ false → pick (leb b t) b 0 ≡ suc r → (r < t) × (kind T r ≡ kind T t)
+        go zero e h = go₂ (leb 0 t) h
+          where
+            go₂ : (q : Bool) → _≡_ {A = ℕ} (pick q 0 0) (suc r) → (r < t) × (kind T r ≡ kind T t)
+            go₂ true h = absurd (omega arith)
+            go₂ false h = absurd (omega arith)
+        go (suc b) e h =
+            let s = either-false (leb t b) (not (eqb (kind T b) (kind T t))) e in
+            let l : b < t = leb-false t b (s .0) in
+            let q : suc b ≡ suc r = rw (le-leb (suc b) t (omega arith)) at h in
+            let p : b ≡ r = omega arith in
+            subst (λ (x : ℕ). (x < t) × (kind T x ≡ kind T t)) p (l, eqb-true (kind T b) (kind T t) (not-false (eqb (kind T b) (kind T t)) (s .1)))
+
+    earlier-differ : (r : ℕ) → r < t → isRecord (kind T r) ≡ true → nameOf T r ≡ nameOf T t → ⊥
+    unfolding typeRules alike
+    earlier-differ r l e n =
+        let a = both-false (isRecord (kind T t)) (alike T t) (type-test t below 10) rec in
+        let b = any-none (λ r. isRecord (kind T r) && sameBytes (nameOf T r) (nameOf T t)) 0 t a r (omega arith) (omega arith) in
+        true≢false (sym (sameBytes-same (nameOf T r) (nameOf T t) n) ∙ both-false (isRecord (kind T r)) (sameBytes (nameOf T r) (nameOf T t)) b e)
+
+  pub names-differ : (t r : ℕ) → t < types T → r < types T → isRecord (kind T t) ≡ true → isRecord (kind T r) ≡ true → nameOf T t ≡ nameOf T r → t ≡ r
+  names-differ t r lt lr rt rr n = elim (ℕ-discrete t r) [ yes e ↦ e | no e ↦ go (ltb t r) refl e ]
+    where
+      go : (b : Bool) → ltb t r ≡ b → (t ≡ r → ⊥) → t ≡ r
+      go true q e = absurd (earlier-differ r lr rr t (ltb-true t r q) rt n)
+      go false q e = let l : r ≤ t = ltb-false t r q in absurd (earlier-differ t lt rt r (omega (arith, e)) rr (sym n))
+
+  pub named-at : (t : ℕ) → t < types T → isRecord (kind T t) ≡ true → named T (nameOf T t) ≡ some t
+  unfolding named
+  named-at t l e =
+      search-at (λ r. isRecord (kind T r) && sameBytes (nameOf T t) (nameOf T r)) 0 (types T) t (omega arith) (omega arith)
+      (rw (e, sameBytes-same (nameOf T t) (nameOf T t) refl))
+      (λ j m f.
+      let b = both-true (isRecord (kind T j)) (sameBytes (nameOf T t) (nameOf T j)) f in
+      earlier-differ t l e j m (b .0) (sym (sameBytes-ok (nameOf T t) (nameOf T j) (b .1))))
+
+  pub taken-at : (t : ℕ) → t < types T → owns (kind T t) ≡ true → field T t 0 ≡ taken T t
+  unfolding typeRules
+  taken-at t l o =
+      eqb-true (field T t 0) (taken T t) (not-false (eqb (field T t 0) (taken T t)) (both-false (owns (kind T t)) (not (eqb (field T t 0) (taken T t))) (type-test t l 6) o))
+
+  -- the rows of an owner end before those of a later one begin
+  earlier-apart : (t r : ℕ) → r < types T → owns (kind T t) ≡ true → owns (kind T r) ≡ true → t < r → field T t 0 + field T t 1 ≤ field T r 0
+  earlier-apart t r l ot or h =
+      omega (arith, taken-rises T (suc t) r h, taken-next T t ot, taken-at t (omega arith) ot, taken-at r l or)
+
+  pub rows-apart : (t r m : ℕ) → t < types T → r < types T → owns (kind T t) ≡ true → owns (kind T r) ≡ true
+      → field T t 0 ≤ m → m < field T t 0 + field T t 1 → field T r 0 ≤ m → m < field T r 0 + field T r 1 → t ≡ r
+  rows-apart t r m lt lr ot or a b c d = elim (ℕ-discrete t r) [ yes e ↦ e | no e ↦ go (ltb t r) refl e ]
+    where
+      go : (q : Bool) → ltb t r ≡ q → (t ≡ r → ⊥) → t ≡ r
+      go true q e = absurd (omega (arith, earlier-apart t r lr ot or (ltb-true t r q)))
+      go false q e = let l : r ≤ t = ltb-false t r q in absurd (omega (arith, earlier-apart r t lt or ot (omega (arith, e))))
+
+  pub rows-there : (t m : ℕ) → t < types T → owns (kind T t) ≡ true → m < field T t 0 + field T t 1 → m < members T
+  rows-there t m l o h = omega (arith, taken-rises T (suc t) (types T) l, taken-next T t o, taken-at t l o, taken-whole)
+
+  module _ (t m : ℕ) (below : t < types T) (own : owns (kind T t) ≡ true) (from : field T t 0 ≤ m) (to : m < field T t 0 + field T t 1) where
+    owner-among : (n : ℕ) → t < n → n ≤ types T → ownerOf T m n ≡ t
+    unfolding ownerOf takes
+    owner-among zero l h = absurd (omega arith)
+    owner-among (suc n) l h = go (owns (kind T n)) refl (leb (field T n 0) m) refl (ltb m (field T n 0 + field T n 1)) refl (λ k. owner-among n k (omega arith))
+      where
+        here : owns (kind T n) && (leb (field T n 0) m && ltb m (field T n 0 + field T n 1)) ≡ false → t ≡ n → ⊥
+        here f e =
+            true≢false (sym (rw (← e, own, le-leb (field T t 0) m from, lt-ltb m (field T t 0 + field T t 1) to)) ∙ f)
+
+        past : owns (kind T n) && (leb (field T n 0) m && ltb m (field T n 0 + field T n 1)) ≡ false → (t < n → ownerOf T m n ≡ t) → ownerOf T m n ≡ t
+        past f ih = elim (ℕ-discrete t n) [ yes e ↦ absurd (here f e) | no e ↦ ih (omega (arith, e)) ]
+
+        go : (a : Bool) → owns (kind T n) ≡ a → (b : Bool) → leb (field T n 0) m ≡ b → (c : Bool) → ltb m (field T n 0 + field T n 1) ≡ c
+            → (t < n → ownerOf T m n ≡ t) → pick (a && (b && c)) n (ownerOf T m n) ≡ t
+        go true ea true eb true ec ih =
+            sym (rows-apart t n m below (omega arith) own ea from to (leb-true (field T n 0) m eb) (ltb-true m (field T n 0 + field T n 1) ec))
+        go true ea true eb false ec ih = past (rw (ea, eb, ec)) ih
+        go true ea false eb c ec ih = past (rw (ea, eb)) ih
+        go false ea b eb c ec ih = past (rw ea) ih
+
+    pub owner-at : ownerOf T m (types T) ≡ t
+    owner-at = owner-among (types T) below (omega arith)
+
+    pub mark-known : mark T m ≤ 1
+    unfolding memberRules
+    mark-known = ltb-false 1 (mark T m) (member-test m (rows-there t m below own to) 3)
+
+    -- a member row before it of the same owner, optional too, has another tag
+    tags-earlier : (i : ℕ) → field T t 0 ≤ i → i < m → mark T i ≡ 1 → mark T m ≡ 1 → tag T i ≡ tag T m → ⊥
+    unfolding memberRules tagAlike
+    tags-earlier i l h a b e =
+        let s = both-false (eqb (mark T m) 1) (tagAlike T (ownerOf T m (types T)) m) (member-test m (rows-there t m below own to) 6) (eq-eqb (mark T m) 1 b) in
+        let u : tagAlike T t m ≡ false = rw owner-at at s in
+        let v = any-none (λ i. eqb (mark T i) 1 && eqb (tag T i) (tag T m)) (field T t 0) (m - field T t 0) u i l (omega arith) in
+        eqb-false (tag T i) (tag T m) (both-false (eqb (mark T i) 1) (eqb (tag T i) (tag T m)) v (eq-eqb (mark T i) 1 a)) e
+
+  pub tags-differ : (t m i : ℕ) → t < types T → owns (kind T t) ≡ true → field T t 0 ≤ m → m < field T t 0 + field T t 1 → field T t 0 ≤ i → i < field T t 0 + field T t 1
+      → mark T m ≡ 1 → mark T i ≡ 1 → tag T m ≡ tag T i → m ≡ i
+  tags-differ t m i l o a b c d p q e = elim (ℕ-discrete m i) [ yes s ↦ s | no s ↦ go (ltb m i) refl s ]
+    where
+      go : (r : Bool) → ltb m i ≡ r → (m ≡ i → ⊥) → m ≡ i
+      go true r s = absurd (tags-earlier t i l o c d m a (ltb-true m i r) p q e)
+      go false r s = let h : i ≤ m = ltb-false m i r in absurd (tags-earlier t m l o a b i c (omega (arith, s)) q p (sym e))
