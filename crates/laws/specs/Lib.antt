@@ -5,3 +5,4 @@ pub mod ProxyExact
 pub mod Demands
 pub mod ValueExact
 pub mod RowsExact
+pub mod OptionalExact
