@@ -6,3 +6,6 @@ pub mod Demands
 pub mod ValueExact
 pub mod RowsExact
 pub mod OptionalExact
+pub mod OptionalNewer
+pub mod RecordNewer
+pub mod SliceNewer
