@@ -8,6 +8,7 @@
 --   named-ok, named-at             the record of a name is a record of that name; a record is the one of its name
 --   names-differ                   records of one name are one
 --   climb-enough, chain-node       a chain is the row, then the chain of its base
+--   Own, required-own, optional-own  where a member stands among the rows of its owner
 --   taken-at, taken-whole          an owner's member rows begin where those of the rows before it end; all are taken
 --   rows-apart                     a member row has one owner
 --   rows-there                     an owner's member rows are there
@@ -26,7 +27,8 @@ use lib.Dec.{eqb, leb, ltb}
 use borrow.Author.Tests.{eqb-true, eqb-false, leb-true, leb-false, ltb-true, ltb-false, le-leb, lt-ltb, eq-eqb, not-false}
 use Rattle.encoding.specs.Result.{pick, firstOf, sameBytes}
 use Rattle.encoding.specs.ResultLaws.{both-true, both-false, either-false, sameBytes-ok, sameBytes-same}
-use Rattle.encoding.specs.Table.{types, members, kind, field, mark, tag, isRecord, owns, takes, range, nameOf, Fault, fine, fault, orElse, faultAt, any, headerRules, taken, noBase, alike, typeRules, sumRules, ownerOf, tagAlike, memberRules, rowAt, memberAt, pass, passes, faults, search, named, base, upward, climb, chain}
+use Rattle.encoding.specs.Types.{Ty}
+use Rattle.encoding.specs.Table.{types, members, kind, field, mark, tag, isRecord, owns, takes, range, nameOf, Fault, fine, fault, orElse, faultAt, any, headerRules, taken, noBase, alike, typeRules, sumRules, ownerOf, tagAlike, memberRules, rowAt, memberAt, pass, passes, faults, search, named, base, upward, climb, chain, Member, memberTy, lookup, requiredOf, optionalOf, required, optional, ownRows, trees}
 
 -- ---- passes
 
@@ -166,6 +168,70 @@ taken-rises T t (suc r) h = elim (ℕ-discrete t (suc r)) [ yes e ↦ rw e (omeg
 taken-next : (T : List ℕ) (t : ℕ) → owns (kind T t) ≡ true → taken T (suc t) ≡ taken T t + field T t 1
 unfolding taken
 taken-next T t o = rw o
+
+-- ---- the members of an owner
+
+-- member m stands in the rows from a on, b of them, required or not; an optional one's key is its tag
+pub record Own (T : List ℕ) (a b : ℕ) (required : Bool) (m : Member) : Type 0 where
+  pub from : a ≤ m .row
+  pub to : m .row < a + b
+  pub marked : eqb (mark T (m .row)) 0 ≡ required
+  pub tagged : required ≡ false → m .key ≡ tag T (m .row)
+
+own-later : {T : List ℕ} {a b : ℕ} {q : Bool} {m : Member} → Own T (suc a) b q m → Own T a (suc b) q m
+own-later O = record { from = omega (arith, O .from); to = omega (arith, O .to); marked = O .marked; tagged = O .tagged }
+
+own-here : (T : List ℕ) (a b : ℕ) (q : Bool) (this m : Member) → this ≡ m → this .row ≡ a → eqb (mark T a) 0 ≡ q → (q ≡ false → this .key ≡ tag T a) → Own T a (suc b) q m
+own-here T a b q this m e r k t =
+    let s : m .row ≡ a = ap (λ (x : Member). x .row) (sym e) ∙ r in
+    record { from = omega arith; to = omega arith; marked = ap (λ (x : ℕ). eqb (mark T x) 0) s ∙ k; tagged = λ f. ap (λ (x : Member). x .key) (sym e) ∙ t f ∙ ap (tag T) (sym s) }
+
+required-among : (T : List ℕ) (l : List Ty) (i k a b : ℕ) (m : Member) → lookup k (requiredOf T l i (range a b)) ≡ some m → Own T a b true m
+unfolding requiredOf range lookup
+required-among T l i k a zero m h = let z : _≡_ {A = ℕ} 0 1 = cc in absurd (omega arith)
+required-among T l i k a (suc b) m h =
+    go (eqb (mark T a) 0) refl h (λ h. own-later (required-among T l (suc i) k (suc a) b m h)) (λ h. own-later (required-among T l i k (suc a) b m h))
+  where
+    this : Member
+    this = record { row = a; key = i; ty = memberTy T l a }
+
+    go₂ : eqb (mark T a) 0 ≡ true → (q : Bool) → pick q (some this) (lookup k (requiredOf T l (suc i) (range (suc a) b))) ≡ some m
+        → (lookup k (requiredOf T l (suc i) (range (suc a) b)) ≡ some m → Own T a (suc b) true m) → Own T a (suc b) true m
+    go₂ e true h ih = own-here T a b true this m (cc) refl e (λ f. absurd (true≢false f))
+    go₂ e false h ih = ih h
+
+    go : (q : Bool) → eqb (mark T a) 0 ≡ q → lookup k (pick q (this ∷ requiredOf T l (suc i) (range (suc a) b)) (requiredOf T l i (range (suc a) b))) ≡ some m
+        → (lookup k (requiredOf T l (suc i) (range (suc a) b)) ≡ some m → Own T a (suc b) true m) → (lookup k (requiredOf T l i (range (suc a) b)) ≡ some m → Own T a (suc b) true m)
+        → Own T a (suc b) true m
+    go true e h ia ib = go₂ e (eqb k i) h ia
+    go false e h ia ib = ib h
+
+optional-among : (T : List ℕ) (l : List Ty) (k a b : ℕ) (m : Member) → lookup k (optionalOf T l (range a b)) ≡ some m → Own T a b false m
+unfolding optionalOf range lookup
+optional-among T l k a zero m h = let z : _≡_ {A = ℕ} 0 1 = cc in absurd (omega arith)
+optional-among T l k a (suc b) m h = go (eqb (mark T a) 0) refl h (λ h. own-later (optional-among T l k (suc a) b m h))
+  where
+    this : Member
+    this = record { row = a; key = tag T a; ty = memberTy T l a }
+
+    go₂ : eqb (mark T a) 0 ≡ false → (q : Bool) → pick q (some this) (lookup k (optionalOf T l (range (suc a) b))) ≡ some m
+        → (lookup k (optionalOf T l (range (suc a) b)) ≡ some m → Own T a (suc b) false m) → Own T a (suc b) false m
+    go₂ e true h ih = own-here T a b false this m (cc) refl e (λ f. refl)
+    go₂ e false h ih = ih h
+
+    go : (q : Bool) → eqb (mark T a) 0 ≡ q → lookup k (pick q (optionalOf T l (range (suc a) b)) (this ∷ optionalOf T l (range (suc a) b))) ≡ some m
+        → (lookup k (optionalOf T l (range (suc a) b)) ≡ some m → Own T a (suc b) false m) → Own T a (suc b) false m
+    go true e h ih = ih h
+    go false e h ih = go₂ e (eqb k (tag T a)) h ih
+
+module _ (T : List ℕ) (t k : ℕ) (m : Member) where
+  pub required-own : lookup k (required T t) ≡ some m → Own T (field T t 0) (field T t 1) true m
+  unfolding required ownRows
+  required-own h = required-among T (trees T) 0 k (field T t 0) (field T t 1) m h
+
+  pub optional-own : lookup k (optional T t) ≡ some m → Own T (field T t 0) (field T t 1) false m
+  unfolding optional ownRows
+  optional-own h = optional-among T (trees T) k (field T t 0) (field T t 1) m h
 
 -- ---- what no broken rule gives
 

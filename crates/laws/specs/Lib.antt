@@ -9,3 +9,4 @@ pub mod OptionalExact
 pub mod OptionalNewer
 pub mod RecordNewer
 pub mod SliceNewer
+pub mod RowsNewer
