@@ -8,22 +8,21 @@ use mathlib.Core.Path.{_≡_, refl, sym, ap, ap₂, _∙_, subst, subst₂}
 use mathlib.Core.Bool.{Bool, true, false, _||_, true≢false}
 use mathlib.Core.Option.{Option, none, some}
 use mathlib.Core.List.{List, [], _∷_, _++_, map, append-assoc}
-use Prim.Native.Nat.{ℕ, zero, suc, _+_, _≤_, _<_}
+use Prim.Native.Nat.{ℕ, zero, suc, _+_, _<_}
 use native.Mathlib.Omega.{arith}
 use lib.ListN.{length}
 use lib.Dec.{eqb}
-use borrow.Author.Tests.{eqb-true, eqb-false}
 use Rattle.encoding.specs.Result.{pick, concat}
 use Rattle.encoding.specs.ResultLaws.{some≢none}
 use Rattle.encoding.specs.Types.{bitsOf}
-use Rattle.encoding.specs.Table.{types, kind, isRecord, owns, field, mark, tag, range, nameOf, named, base, upward, chain, Member, lookup, requiredOf, trees, ownRows}
+use Rattle.encoding.specs.Table.{types, kind, isRecord, owns, field, mark, tag, nameOf, named, base, upward, chain, Member, lookup, trees, ownRows}
 use Rattle.encoding.specs.Table
-use Rattle.encoding.specs.RuleLaws.{owns-record, base-right, named-ok, named-at, chain-node, rows-apart}
+use Rattle.encoding.specs.RuleLaws.{Own, required-own, optional-own, owns-record, base-right, named-ok, named-at, chain-node, rows-apart}
 use Rattle.encoding.specs.Optional.{Piece, required, optional, skipped, headerBytes, lengthBytes, frontBytes, contentBytes, pieceBytes, isOptional}
 use Rattle.encoding.specs.Slice.{Format, Slice, known, passed, Stand, later, anyOptional, hasOptionals, idOf, dataBytes, sliceFront, isLast}
 use Rattle.encoding.specs.Message.{Row, listRow, pieceMember, pieceRows, sliceRows, orZero, firstIn}
 use Rattle.encoding.specs.Conform.{Follow, Slices}
-use Rattle.encoding.specs.Extends.{OwnersMatch, SameRecord, Extends, SameOwner, as-records, as-tops, MembersMatch, both-required, both-optional, Counterpart, typeOf, keepOr, losePiece, loseKnown, loseSlice}
+use Rattle.encoding.specs.Extends.{OwnersMatch, Extends, SameOwner, as-records, as-tops, MembersMatch, both-required, both-optional, Counterpart, typeOf, keepOr, losePiece, loseKnown, loseSlice}
 use Rattle.laws.specs.Demands.{Kept, ended, kept, lost}
 use Rattle.laws.specs.OptionalNewer.{lookup-key, optionals-match, required-positions, lookup-same, loseAll}
 use Rattle.laws.specs.RecordNewer.{Pair, new-record, pair-of, pair-only, pair-named, named-both, bases-none, bases-some}
@@ -97,3 +96,295 @@ module _ (old : List ℕ) where
   loseSlices-last [] = refl
   loseSlices-last (s ∷ ss) = refl
 
+-- ---- rows joined
+
+kept-append : {old new : List ℕ} {top top′ : ℕ} {a a′ b b′ : List Row} → Kept old new top top′ a a′ → Kept old new top top′ b b′ → Kept old new top top′ (a ++ b) (a′ ++ b′)
+kept-append ended k = k
+kept-append (kept c p l j) k = kept c p l (kept-append j k)
+kept-append (lost c j) k = lost c (kept-append j k)
+
+-- ---- owners that match
+
+-- t is the one owner of the old table that matches owner u of the new one
+pub record Owners (old new : List ℕ) (top top′ t u : ℕ) : Type 0 where
+  pub match : OwnersMatch old new t u
+  pub owners : SameOwner old new top top′ t u
+  pub inside : u < types new
+  pub own : owns (kind new u) ≡ true
+  pub only : (o : ℕ) → SameOwner old new top top′ o u → o ≡ t
+
+module _ (old new : List ℕ) (X : Extends old new) (top top′ : ℕ) (top-there : top′ < types new) where
+  owner-there : {o o′ : ℕ} → SameOwner old new top top′ o o′ → (o′ < types new) × (owns (kind new o′) ≡ true)
+  owner-there {o′ = o′} (as-records l S) = (S .inside, owns-record (kind new o′) (new-record S))
+  owner-there (as-tops e f k k′) = (subst (λ (x : ℕ). x < types new) (sym f) top-there, rw k′)
+
+  match-own : {t u : ℕ} {m n : Member} → MembersMatch old new t u m n → (q : Bool) × Own new (field new u 0) (field new u 1) q n
+  match-own {u = u} {m = m} {n = n} (both-required a b) = (true, required-own new u (m .key) n b)
+  match-own {u = u} {m = m} {n = n} (both-optional a b) = (false, optional-own new u (m .key) n b)
+
+  -- a counterpart of a member row stands under the row's owner
+  counterpart-owner : (u : ℕ) → u < types new → owns (kind new u) ≡ true → (q : Bool) (n : Member) → Own new (field new u 0) (field new u 1) q n
+      → (m : ℕ) (C : Counterpart old new top top′ m (n .row)) → C .owner′ ≡ u
+  counterpart-owner u l o q n O m C =
+      let A = owner-there (C .owners) in
+      let W = match-own (C .match) .1 in
+      rows-apart new (X .new-right) (C .owner′) u (n .row) (A .0) l (A .1) o (omega (arith, W .from, C .there)) (omega (arith, W .to, C .there)) (O .from) (O .to)
+
+  no-list : (u : ℕ) → isRecord (kind new u) ≡ true → kind new u ≡ 15 → ⊥
+  no-list u r k = true≢false (sym r ∙ ap (λ (x : ℕ). isRecord x) k)
+
+  -- a member of a record that the old table does not know has none
+  lost-record : (u : ℕ) → u < types new → isRecord (kind new u) ≡ true → named old (nameOf new u) ≡ none
+      → (q : Bool) (n : Member) → Own new (field new u 0) (field new u 1) q n → (m : ℕ) → Counterpart old new top top′ m (n .row) → ⊥
+  lost-record u l r z q n O m C =
+      go (subst (SameOwner old new top top′ (C .owner)) (counterpart-owner u l (owns-record (kind new u) r) q n O m C) (C .owners))
+    where
+      go : SameOwner old new top top′ (C .owner) u → ⊥
+      go (as-records k S) = some≢none (pair-named old new X (C .owner) u (pair-of old new X (C .owner) u k S)) z
+      go (as-tops e f k k′) = no-list u r k′
+
+  -- nor has an optional whose tag the old owner does not know
+  lost-optional : (t u : ℕ) → Owners old new top top′ t u → (k : ℕ) (n : Member) → lookup k (Table.optional new u) ≡ some n → lookup k (Table.optional old t) ≡ none
+      → (m : ℕ) → Counterpart old new top top′ m (n .row) → ⊥
+  lost-optional t u W k n e z m C = go (C .match) (counterpart-owner u (W .inside) (W .own) false n (optional-own new u k n e) m C)
+    where
+      O : Own new (field new u 0) (field new u 1) false n
+      O = optional-own new u k n e
+
+      go₂ : MembersMatch old new t u (C .member) (C .member′) → ⊥
+      go₂ (both-required a b) =
+          true≢false (sym (required-own new u (C .member .key) (C .member′) b .marked) ∙ ap (λ (x : ℕ). eqb (mark new x) 0) (C .there) ∙ O .marked)
+      go₂ (both-optional a b) =
+          let same : C .member .key ≡ k =
+          lookup-key (C .member .key) (Table.optional new u) (C .member′) b ∙ optional-own new u (C .member .key) (C .member′) b .tagged refl
+          ∙ ap (tag new) (C .there) ∙ sym (O .tagged refl) ∙ sym (lookup-key k (Table.optional new u) n e) in
+          some≢none (ap (λ (x : ℕ). lookup x (Table.optional old t)) (sym same) ∙ a) z
+
+      go : MembersMatch old new (C .owner) (C .owner′) (C .member) (C .member′) → C .owner′ ≡ u → ⊥
+      go M f =
+          let o : C .owner ≡ t = W .only (C .owner) (subst (SameOwner old new top top′ (C .owner)) f (C .owners)) in
+          go₂ (subst₂ (λ (x y : ℕ). MembersMatch old new x y (C .member) (C .member′)) o f M)
+
+  -- ---- the rows of one owner
+
+  module _ (t u : ℕ) (W : Owners old new top top′ t u) where
+    counterpart-required : (i : ℕ) (m n : Member) → lookup i (Table.required old t) ≡ some m → lookup i (Table.required new u) ≡ some n → Counterpart old new top top′ (m .row) (n .row)
+    counterpart-required i m n e f =
+        let k = lookup-key i (Table.required old t) m e in
+        record {
+          owner = t;
+          owner′ = u;
+          member = m;
+          member′ = n;
+          owners = W .owners;
+          match = both-required (ap (λ (x : ℕ). lookup x (Table.required old t)) (sym k) ∙ e) (ap (λ (x : ℕ). lookup x (Table.required new u)) (sym k) ∙ f);
+          here = refl;
+          there = refl;
+        }
+
+    counterpart-optional : (i : ℕ) (m n : Member) → lookup i (Table.optional old t) ≡ some m → lookup i (Table.optional new u) ≡ some n → Counterpart old new top top′ (m .row) (n .row)
+    counterpart-optional i m n e f =
+        let k = lookup-key i (Table.optional old t) m e in
+        record {
+          owner = t;
+          owner′ = u;
+          member = m;
+          member′ = n;
+          owners = W .owners;
+          match = both-optional (ap (λ (x : ℕ). lookup x (Table.optional old t)) (sym k) ∙ e) (ap (λ (x : ℕ). lookup x (Table.optional new u)) (sym k) ∙ f);
+          here = refl;
+          there = refl;
+        }
+
+    -- the row of one piece, before the others
+    piece-kept : (p : Piece) (at : ℕ) (rs rs′ : List Row) → Kept old new top top′ rs rs′
+        → Kept old new top top′ (listRow (pieceMember new u p) (at + length (frontBytes p)) (contentBytes p) rs)
+        (listRow (pieceMember old t (losePiece (Table.optional old t) p)) (at + length (frontBytes (losePiece (Table.optional old t) p))) (contentBytes (losePiece (Table.optional old t) p)) rs′)
+    unfolding listRow pieceMember losePiece keepOr contentBytes typeOf Table.required
+    piece-kept (required i b) at rs rs′ K = go (lookup i (Table.required old t)) refl (lookup i (Table.required new u)) refl
+      where
+        same : typeOf (lookup i (Table.required old t)) ≡ typeOf (lookup i (Table.required new u))
+        same =
+            lookup-same 0 i (Table.required old t) (Table.required new u) (required-positions old (trees old) 0 (ownRows old t)) (required-positions new (trees new) 0 (ownRows new u))
+            (W .match .required-ones)
+
+        front : ℕ
+        front = at + length (frontBytes (required i b))
+
+        go : (a : Option Member) → lookup i (Table.required old t) ≡ a → (c : Option Member) → lookup i (Table.required new u) ≡ c
+            → Kept old new top top′ (listRow c front b rs) (listRow a front b rs′)
+        go none e none f = K
+        go none e (some n) f = absurd (some≢none (ap typeOf f) (sym same ∙ ap typeOf e))
+        go (some m) e none f = absurd (some≢none (sym same ∙ ap typeOf e) (ap typeOf f))
+        go (some m) e (some n) f = kept (counterpart-required i m n e f) refl refl K
+    piece-kept (optional k f b) at rs rs′ K = go (lookup k (Table.optional old t)) refl (lookup k (Table.optional new u)) refl
+      where
+        lose : Option Member → Piece
+        lose o = keepOr k f b o
+
+        go : (a : Option Member) → lookup k (Table.optional old t) ≡ a → (c : Option Member) → lookup k (Table.optional new u) ≡ c
+            → Kept old new top top′ (listRow c (at + length (frontBytes (optional k f b))) b rs) (listRow (pieceMember old t (lose a)) (at + length (frontBytes (lose a))) (contentBytes (lose a)) rs′)
+        go none e none g = K
+        go none e (some n) g = lost (lost-optional t u W k n g e) K
+        go (some m) e none g = absurd (some≢none (optionals-match k (Table.optional old t) (Table.optional new u) m (W .match .optional-ones) e) (ap typeOf g))
+        go (some m) e (some n) g =
+            subst (λ (o : Option Member). Kept old new top top′ (listRow (some n) (at + length (frontBytes (optional k f b))) b rs) (listRow o (at + length (frontBytes (optional k f b))) b rs′)) (sym e)
+            (kept (counterpart-optional k m n e g) refl refl K)
+    piece-kept (skipped k f b) at rs rs′ K = K
+
+    pub pieces-kept : (at : ℕ) (ps : List Piece) → Kept old new top top′ (pieceRows new u at ps) (pieceRows old t at (loseAll old t ps))
+    unfolding pieceRows
+    pieces-kept at [] = ended
+    pieces-kept at (p ∷ ps) =
+        piece-kept p at _ _ (subst (λ (b : List ℕ). Kept old new top top′ (pieceRows new u (at + length (pieceBytes p)) ps) (pieceRows old t (at + length b) (loseAll old t ps)))
+        (sym (losePiece-bytes (Table.optional old t) p)) (pieces-kept (at + length (pieceBytes p)) ps))
+
+  -- of a record that the old table does not know no row is kept
+  pieces-lost : (u : ℕ) → u < types new → isRecord (kind new u) ≡ true → named old (nameOf new u) ≡ none → (at : ℕ) (ps : List Piece) → Kept old new top top′ (pieceRows new u at ps) []
+  unfolding pieceRows listRow pieceMember
+  pieces-lost u l r z at [] = ended
+  pieces-lost u l r z at (p ∷ ps) = go (pieceMember new u p) (owned p) (pieces-lost u l r z (at + length (pieceBytes p)) ps)
+    where
+      owned : (p : Piece) (n : Member) → pieceMember new u p ≡ some n → (q : Bool) × Own new (field new u 0) (field new u 1) q n
+      owned (required i b) n e = (true, required-own new u i n e)
+      owned (optional k f b) n e = (false, optional-own new u k n e)
+      owned (skipped k f b) n e = absurd (some≢none e refl)
+
+      go : (o : Option Member) → ((n : Member) → o ≡ some n → (q : Bool) × Own new (field new u 0) (field new u 1) q n)
+          → Kept old new top top′ (pieceRows new u (at + length (pieceBytes p)) ps) []
+          → Kept old new top top′ (listRow o (at + length (frontBytes p)) (contentBytes p) (pieceRows new u (at + length (pieceBytes p)) ps)) []
+      go none own K = K
+      go (some n) own K = let O = own n refl in lost (lost-record u l r z (O .0) n (O .1)) K
+
+  -- ---- the rows of a chain
+
+  owners-of : (t u : ℕ) → Pair old new t u → Owners old new top top′ t u
+  owners-of t u P = record {
+    match = P .owners;
+    owners = as-records (P .below) (P .same);
+    inside = P .same .inside;
+    own = owns-record (kind new u) (new-record (P .same));
+    only = only;
+  }
+    where
+      only : (o : ℕ) → SameOwner old new top top′ o u → o ≡ t
+      only o (as-records l S) = pair-only old new X o t u l (P .below) S (P .same)
+      only o (as-tops e f k k′) = absurd (no-list u (new-record (P .same)) k′)
+
+  -- the rows of slices of the new chain us, under the old chain ts
+  abbrev Lists : Format → Stand → List ℕ → List ℕ → List Slice → Type 0
+  Lists g s us ts ss = (at : ℕ) → Kept old new top top′ (sliceRows new g s at us ss) (sliceRows old g s at ts (map (loseSlice old) ss))
+
+  front-same : (g : Format) (s : Stand) (sl : Slice) (ss : List Slice) (sl′ : Slice) → loseSlice old sl ≡ sl′
+      → length (sliceFront g s (isLast ss) sl) ≡ length (sliceFront g s (isLast (map (loseSlice old) ss)) sl′)
+  front-same g s sl ss sl′ e =
+      sym (ap length (loseSlice-front old g s (isLast ss) sl)) ∙ ap₂ (λ (b : Bool) (x : Slice). length (sliceFront g s b x)) (sym (loseSlices-last old ss)) e
+
+  data-same : (sl sl′ : Slice) → loseSlice old sl ≡ sl′ → length (dataBytes sl) ≡ length (dataBytes sl′)
+  data-same sl sl′ e = sym (ap length (loseSlice-data old sl)) ∙ ap (λ (x : Slice). length (dataBytes x)) e
+
+  -- a slice of a record that both know
+  known-kept : (t u : ℕ) → Owners old new top top′ t u → (g : Format) (s : Stand) (us ts : List ℕ) (o : List ℕ) (ps : List Piece) (ss : List Slice) → named old o ≡ some t
+      → Lists g (later g) us ts ss → Lists g s (u ∷ us) (t ∷ ts) (known o ps ∷ ss)
+  unfolding sliceRows loseSlice loseKnown
+  known-kept t u W g s us ts o ps ss e rest at =
+      let now : Slice = known o (loseAll old t ps) in
+      let lose : loseSlice old (known o ps) ≡ now = ap (loseKnown old o ps) e in
+      let f : ℕ = length (sliceFront g s (isLast ss) (known o ps)) in
+      let w : ℕ = length (dataBytes (known o ps)) in
+      subst (λ (sl : Slice). Kept old new top top′ (sliceRows new g s at (u ∷ us) (known o ps ∷ ss)) (sliceRows old g s at (t ∷ ts) (sl ∷ map (loseSlice old) ss))) (sym lose)
+      (subst₂ (λ (a b : ℕ). Kept old new top top′ (pieceRows new u (at + f) ps ++ sliceRows new g (later g) (at + f + w) us ss)
+      (pieceRows old t (at + a) (loseAll old t ps) ++ sliceRows old g (later g) (at + a + b) ts (map (loseSlice old) ss)))
+      (front-same g s (known o ps) ss now lose) (data-same (known o ps) now lose)
+      (kept-append (pieces-kept t u W (at + f) ps) (rest (at + f + w))))
+
+  -- a slice of a record that the old table does not know
+  unknown-kept : (u : ℕ) → u < types new → isRecord (kind new u) ≡ true → (g : Format) (s : Stand) (us ts : List ℕ) (o : List ℕ) (ps : List Piece) (ss : List Slice)
+      → o ≡ nameOf new u → named old o ≡ none → Lists g (later g) us ts ss → Lists g s (u ∷ us) ts (known o ps ∷ ss)
+  unfolding sliceRows loseSlice loseKnown dataBytes
+  unknown-kept u l r g s us ts o ps ss i e rest at =
+      let d : List ℕ = dataBytes (known o ps) in
+      let now : Slice = passed (anyOptional ps) o d in
+      let lose : loseSlice old (known o ps) ≡ now = ap (loseKnown old o ps) e in
+      let f : ℕ = length (sliceFront g s (isLast ss) (known o ps)) in
+      subst (λ (sl : Slice). Kept old new top top′ (sliceRows new g s at (u ∷ us) (known o ps ∷ ss)) (sliceRows old g s at ts (sl ∷ map (loseSlice old) ss))) (sym lose)
+      (subst (λ (a : ℕ). Kept old new top top′ (pieceRows new u (at + f) ps ++ sliceRows new g (later g) (at + f + length d) us ss)
+      (sliceRows old g (later g) (at + a + length d) ts (map (loseSlice old) ss)))
+      (front-same g s (known o ps) ss now lose)
+      (kept-append (pieces-lost u l r (ap (named old) (sym i) ∙ e) (at + f) ps) (rest (at + f + length d))))
+
+  -- behind a slice that both know
+  data Bases : ℕ → ℕ → Type 0 where
+    neither : Bases zero zero
+    both : {t u : ℕ} → Pair old new t u → Bases (suc t) (suc u)
+
+  bases-of : (t u : ℕ) → Pair old new t u → Bases (base old t) (base new u)
+  bases-of t u P = go (base new u) refl
+    where
+      go : (c : ℕ) → base new u ≡ c → Bases (base old t) (base new u)
+      go zero e = rw (e, bases-none old new X t u P e) neither
+      go (suc v) e = let B = bases-some old new X t u P v e in rw (e, B .1) (both (B .3))
+
+  follow-kept : (ss : List Slice) (g : Format) (s : Stand) {b c : ℕ} → Bases b c → Follow new (upward (chain new) c) ss → Lists g s (upward (chain new) c) (upward (chain old) b) ss
+  unfolding upward sliceRows
+  follow-kept [] g s B F = λ at. ended
+  follow-kept (passed b nm d ∷ ss) g s neither F = absurd F
+  follow-kept (passed b nm d ∷ ss) g s (both {u = u} P) F = absurd (subst (λ (l : List ℕ). Follow new l (passed b nm d ∷ ss)) (chain-node new u) F)
+  follow-kept (known o ps ∷ ss) g s neither F = absurd F
+  follow-kept (known o ps ∷ ss) g s (both {t = t} {u = u} P) F =
+      let G = subst (λ (l : List ℕ). Follow new l (known o ps ∷ ss)) (chain-node new u) F in
+      subst₂ (λ (us ts : List ℕ). Lists g s us ts (known o ps ∷ ss)) (sym (chain-node new u)) (sym (chain-node old t))
+      (known-kept t u (owners-of t u P) g s (upward (chain new) (base new u)) (upward (chain old) (base old t)) o ps ss (ap (named old) (G .0) ∙ pair-named old new X t u P)
+      (follow-kept ss g (later g) (bases-of t u P) (G .2)))
+
+  -- a row of the new table that is a record, or none
+  abbrev Standing : ℕ → Type 0
+  Standing zero = Unit {0}
+  Standing (suc u) = (u < types new) × (isRecord (kind new u) ≡ true)
+
+  standing-base : (u : ℕ) → u < types new → isRecord (kind new u) ≡ true → Standing (base new u)
+  standing-base u l r = go (base new u) refl
+    where
+      go : (c : ℕ) → base new u ≡ c → Standing (base new u)
+      go zero e = rw e tt
+      go (suc v) e = let W = base-right new (X .new-right) u l r v e in rw e (omega (arith, W .0), ap (λ (k : ℕ). isRecord k) (W .1) ∙ r)
+
+  -- where the old table seeks
+  behind-kept : (ss : List Slice) (g : Format) (s : Stand) (c : ℕ) → Standing c → Follow new (upward (chain new) c) ss
+      → Lists g s (upward (chain new) c) (chain old (firstIn old (map (loseSlice old) ss))) ss
+  unfolding upward sliceRows loseSlice loseKnown firstIn orZero
+  behind-kept [] g s c S F = λ at. ended
+  behind-kept (passed b nm d ∷ ss) g s zero S F = absurd F
+  behind-kept (passed b nm d ∷ ss) g s (suc u) S F = absurd (subst (λ (l : List ℕ). Follow new l (passed b nm d ∷ ss)) (chain-node new u) F)
+  behind-kept (known o ps ∷ ss) g s zero S F = absurd F
+  behind-kept (known o ps ∷ ss) g s (suc u) S F =
+      go (subst (λ (l : List ℕ). Follow new l (known o ps ∷ ss)) (chain-node new u) F) (named old o) refl (λ c R H. behind-kept ss g (later g) c R H)
+    where
+      head-of : Slice → ℕ
+      head-of sl = firstIn old (sl ∷ map (loseSlice old) ss)
+
+      go : Follow new (u ∷ upward (chain new) (base new u)) (known o ps ∷ ss) → (n : Option ℕ) → named old o ≡ n
+          → ((c : ℕ) → Standing c → Follow new (upward (chain new) c) ss → Lists g (later g) (upward (chain new) c) (chain old (firstIn old (map (loseSlice old) ss))) ss)
+          → Lists g s (chain new u) (chain old (head-of (loseSlice old (known o ps)))) (known o ps ∷ ss)
+      go G (some t) e ih =
+          let first : head-of (loseSlice old (known o ps)) ≡ t = ap (λ (n : Option ℕ). head-of (loseKnown old o ps n)) e ∙ ap orZero e in
+          let P = named-both old new X o t u e (ap (named new) (G .0) ∙ named-at new (X .new-right) u (S .0) (S .1)) in
+          subst (λ (x : ℕ). Lists g s (chain new u) (chain old x) (known o ps ∷ ss)) (sym first) (follow-kept (known o ps ∷ ss) g s (both P) F)
+      go G none e ih =
+          let first : head-of (loseSlice old (known o ps)) ≡ firstIn old (map (loseSlice old) ss) = ap (λ (n : Option ℕ). head-of (loseKnown old o ps n)) e in
+          subst₂ (λ (us : List ℕ) (x : ℕ). Lists g s us (chain old x) (known o ps ∷ ss)) (sym (chain-node new u)) (sym first)
+          (unknown-kept u (S .0) (S .1) g s (upward (chain new) (base new u)) (chain old (firstIn old (map (loseSlice old) ss))) o ps ss (G .0) e
+          (ih (base new u) (standing-base u (S .0) (S .1)) (G .2)))
+
+  pub slices-kept : (ss : List Slice) (g : Format) (s : Stand) → Slices new top′ g ss → (at : ℕ)
+      → Kept old new top top′ (sliceRows new g s at (chain new (firstIn new ss)) ss) (sliceRows old g s at (chain old (firstIn old (map (loseSlice old) ss))) (map (loseSlice old) ss))
+  unfolding upward sliceRows loseSlice firstIn orZero
+  slices-kept [] g s C = absurd C
+  slices-kept (passed b nm d ∷ ss) g s C = λ at.
+      subst (λ (a : ℕ). Kept old new top top′ (sliceRows new g (later g) (at + length (sliceFront g s (isLast ss) (passed b nm d)) + length d) (chain new (firstIn new ss)) ss)
+      (sliceRows old g (later g) (at + a + length d) (chain old (firstIn old (map (loseSlice old) ss))) (map (loseSlice old) ss)))
+      (front-same g s (passed b nm d) ss (passed b nm d) refl) (slices-kept ss g (later g) (C .1) _)
+  slices-kept (known o ps ∷ ss) g s C =
+      let N = named-ok new o (C .row) (C .known) in
+      subst (λ (u : ℕ). Lists g s (chain new u) (chain old (firstIn old (map (loseSlice old) (known o ps ∷ ss)))) (known o ps ∷ ss)) (sym (ap orZero (C .known)))
+      (behind-kept (known o ps ∷ ss) g s (suc (C .row)) (N .0, N .1) (C .follow))
