@@ -38,6 +38,10 @@ pub bytes-append : (xs ys : List ℕ) → Bytes xs → Bytes ys → Bytes (xs ++
 bytes-append [] ys b c = c
 bytes-append (x ∷ xs) ys b c = (b .0, bytes-append xs ys (b .1) c)
 
+pub bytes-end : (xs ys : List ℕ) → Bytes (xs ++ ys) → Bytes ys
+bytes-end [] ys b = b
+bytes-end (x ∷ xs) ys b = bytes-end xs ys (b .1)
+
 -- ---- numbers of any width
 
 pub length-leBytes : (k n : ℕ) → length (leBytes k n) ≡ k

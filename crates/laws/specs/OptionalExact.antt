@@ -18,7 +18,7 @@ use native.Mathlib.Omega.{arith}
 use lib.ListN.{length, take, drop, length-append, length-drop}
 use lib.Seq.{drop-at, take-at, take-nil, take-add, take-length, length-take-le}
 use lib.Dec.{eqb, ltb}
-use borrow.Author.Tests.{eqb-true, eqb-false, ltb-true, ltb-false, lt-ltb, le-ltb, eq-eqb, ne-eqb}
+use borrow.Author.Tests.{not-false, eqb-true, eqb-false, ltb-true, ltb-false, lt-ltb, le-ltb, eq-eqb, ne-eqb}
 use Rattle.encoding.specs.Result.{ok, Parser, pick, _>>=_, pure, fail, chunk, skip, must, mapc, bytes, times, atEnd, atMark, firstOf, concat}
 use Rattle.encoding.specs.ResultLaws.{ok≢bad, some≢none, Bound, bind-ok, bind-step, bind-take, bind-written, pure-ok, chunk-ok, chunk-step, chunk-written, item-step, must-ok, must-step, mapc-ok, mapc-step, bytes-ok, bytes-step, inside-ok, inside-step, firstOf-ok, pick-true, framed-more, framed-part, framed-times, held-took, Run, end, step, run-of, of-run, run-fuel}
 use Rattle.encoding.specs.Number
@@ -383,11 +383,9 @@ skipped-content h xs {p} {n} e =
 
 right-type : (k : Bits) (m : Member) → wrongType k (some m) ≡ false → k ≡ bitsOf (formOf (m .ty))
 unfolding wrongType
-right-type k m h = sym (bits-back k) ∙ ap bitsAt (go (eqb (bits k) (bits (bitsOf (formOf (m .ty))))) refl h) ∙ bits-back (bitsOf (formOf (m .ty)))
-  where
-    go : (q : Bool) → eqb (bits k) (bits (bitsOf (formOf (m .ty)))) ≡ q → not q ≡ false → bits k ≡ bits (bitsOf (formOf (m .ty)))
-    go true e h = eqb-true (bits k) (bits (bitsOf (formOf (m .ty)))) e
-    go false e h = absurd (true≢false h)
+right-type k m h =
+    let f : Bits = bitsOf (formOf (m .ty)) in
+    sym (bits-back k) ∙ ap bitsAt (eqb-true (bits k) (bits f) (not-false _ h)) ∙ bits-back f
 
 -- the bytes that end a part are no more than all
 end-short : (xs l b : List ℕ) (n : ℕ) → n ≤ length xs → Short (length xs) → take n xs ≡ l ++ b → Short (length b)
