@@ -6,6 +6,7 @@ pub mod Demands
 pub mod ValueExact
 pub mod RowsExact
 pub mod OptionalExact
+pub mod SliceExact
 pub mod OptionalNewer
 pub mod RecordNewer
 pub mod SliceNewer
