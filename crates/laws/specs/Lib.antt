@@ -7,6 +7,7 @@ pub mod ValueExact
 pub mod RowsExact
 pub mod OptionalExact
 pub mod SliceExact
+pub mod MessageExact
 pub mod OptionalNewer
 pub mod RecordNewer
 pub mod SliceNewer
