@@ -6,22 +6,28 @@
 --   Exact          demand 2, first sentence: a message is accepted exactly when it is the encoding of pieces that conform, and those are read
 --   ExactRows      each listed row lies in the message, and its bytes are exactly one value of its member's type
 --   ExactValues    a value of a type is exactly a byte string of the grammar of values
+--   ReadBack       demand 2: what the writer makes is read as the members given
+--   WriteAgain     demand 2: an accepted message with nothing skipped, written again in its own format, is the same message
+--   OneMessage     demand 2: the members and their bytes, type and format fix the message
+--   RightLists, WrongBytes, TooLong   where 20, 21 and 22 stand
 --   NewerRead      demand 3: an old table accepts what a new one that extends it accepts, and lists the rows of the members that it knows
 --   NewerRefused   the one exception of demand 3
 --   NewerReading   demand 3 of the reader's answer, given room
 use mathlib.Core.Path.{_≡_}
-use mathlib.Core.List.{List, [], _∷_}
+use mathlib.Core.List.{List, [], _∷_, _++_, map}
 use mathlib.Core.Option.{Option, none, some}
 use mathlib.Core.Bool.{Bool, true, false}
-use Prim.Native.Nat.{ℕ, _+_, _≤_}
-use lib.ListN.{length, take, drop}
-use Rattle.encoding.specs.Result.{Res, ok, bad}
+use Prim.Native.Nat.{ℕ, suc, _+_, _≤_, _<_}
+use lib.ListN.{length, take, drop, getD}
+use lib.Dec.{eqb}
+use Rattle.encoding.specs.Result.{Res, ok, bad, concat}
 use Rattle.encoding.specs.NumberLaws.{Bytes}
 use Rattle.encoding.specs.Types.{Ty}
 use Rattle.encoding.specs.Value.{exact}
-use Rattle.encoding.specs.Table.{Fault, fine, faults, memberTy, trees, named}
-use Rattle.encoding.specs.Slice.{Format, compact, Slice, idOf}
-use Rattle.encoding.specs.Message.{Pieces, list, exception, class, Read, encode, encapsulate, noTop, limit, rules, Row, rows, answer, reading, room}
+use Rattle.encoding.specs.Table.{fine, faults, memberTy, trees, named, any, chain, range}
+use Rattle.encoding.specs.Slice.{Format, compact, formatNumber, Slice, idOf}
+use Rattle.encoding.specs.Message.{Pieces, list, exception, class, Read, encode, encapsulate, noTop, limit, rules, Row, rows, rowBytes, firstKnown, optionalsSkipped, slicesSkipped, answer, reading, room}
+use Rattle.encoding.specs.Write.{Right, Out, out, stop, above, begin, Given, partOf, judgeAll, rowAt, message, writing}
 use Rattle.encoding.specs.Conform.{Conform}
 use Rattle.encoding.specs.Extends.{Extends, TopsMatch, Counterpart}
 use Rattle.laws.specs.Grammar.{IsValue}
@@ -64,6 +70,105 @@ ExactRows =
 
 abbrev pub ExactValues : Type 0
 ExactValues = (t : Ty) (b : List ℕ) → Bytes b → (exact t b ≡ true → IsValue t b) × (IsValue t b → exact t b ≡ true)
+
+-- ---- demand 2: what is written
+
+-- a message and its rows, and another with its own: the same members in the same order, with the same bytes
+pub data SameMembers (m m′ : List ℕ) : List Row → List Row → Type 0 where
+  no-members : SameMembers m m′ [] []
+  same-member : {r r′ : Row} {rs rs′ : List Row} → r .member ≡ r′ .member → partOf m r ≡ partOf m′ r′ → r .len ≡ r′ .len
+      → SameMembers m m′ rs rs′ → SameMembers m m′ (r ∷ rs) (r′ ∷ rs′)
+
+-- type is the top or descends from it
+abbrev pub Below : List ℕ → ℕ → ℕ → Type 0
+Below T top type = any (λ r. eqb r top) (chain T type) ≡ true
+
+-- the rows that count and row bytes name
+abbrev pub rowList : ℕ → List ℕ → List Row
+rowList count rows = map (rowAt rows) (range 0 count)
+
+-- nothing was skipped
+pub record Complete (p : Pieces) : Type 0 where
+  pub optionals : optionalsSkipped p ≡ 0
+  pub slices : slicesSkipped p ≡ 0
+
+-- what the rules make of a written message: the type and format named, nothing skipped, the members given, with their bytes
+pub record ReadBackAs (T : List ℕ) (top type format : ℕ) (rs : List Row) (buffer m : List ℕ) : Type 0 where
+  pub read : Read
+  pub taken : ℕ
+  pub accepted : rules T top m ≡ ok read taken
+  pub of-type : firstKnown T top (read .pieces) ≡ type
+  pub in-format : formatNumber (read .format) ≡ format
+  pub complete : Complete (read .pieces)
+  pub members : SameMembers buffer m rs (rows T top (read .format) (read .pieces))
+
+-- Rules out a writer that touches nothing.
+abbrev pub ReadBack : Type 0
+ReadBack =
+    (T : List ℕ) (top type format count : ℕ) (rs buffer : List ℕ) (room : ℕ) (m : List ℕ) → Bytes T → Bytes buffer
+    → writing T type format count rs buffer room ≡ out m → Below T top type → ReadBackAs T top type format (rowList count rs) buffer m
+
+-- an accepted message with nothing skipped, written again in its own format with its own rows from itself, is the same message
+abbrev pub WriteAgain : Type 0
+WriteAgain =
+    (T : List ℕ) (top : ℕ) (m : List ℕ) (f : Format) (p : Pieces) (n room : ℕ) → Bytes T → Bytes m → rules T top m ≡ ok (readAs f p) n
+    → Complete p → length m ≤ room
+    → writing T (firstKnown T top p) (formatNumber f) (length (rows T top f p)) (concat rowBytes (rows T top f p)) m room ≡ out m
+
+-- two accepted messages of one first known type and one format, nothing skipped, with the same members and the same bytes, are equal
+abbrev pub OneMessage : Type 0
+OneMessage =
+    (T : List ℕ) (top top′ : ℕ) (m m′ : List ℕ) (f : Format) (p p′ : Pieces) (n n′ : ℕ) → Bytes T → Bytes m → Bytes m′
+    → rules T top m ≡ ok (readAs f p) n → rules T top′ m′ ≡ ok (readAs f p′) n′ → firstKnown T top p ≡ firstKnown T top′ p′
+    → Complete p → Complete p′ → SameMembers m m′ (rows T top f p) (rows T top′ f p′) → m ≡ m′
+
+-- some right list begins with these rows
+pub record Begins (T : List ℕ) (type : ℕ) (buffer : List ℕ) (rs : List Row) : Type 0 where
+  pub others : List Row
+  pub right : Right T type buffer (rs ++ others)
+
+-- the bytes of a row are exactly one value of its member's type
+abbrev pub RowFits : List ℕ → List ℕ → Row → Type 0
+RowFits T buffer r = exact (memberTy T (trees T) (r .member)) (partOf buffer r) ≡ true
+
+-- where 20 stands: at the first row with which no right list begins, or at the count where the rows alone are no right list; the rows before have their types' bytes
+pub data Twenty (T : List ℕ) (type : ℕ) (buffer : List ℕ) (rs : List Row) (i : ℕ) : Type 0 where
+  at-row : i < length rs → Begins T type buffer (take i rs) → (Begins T type buffer (take (suc i) rs) → ⊥) → All (RowFits T buffer) (take i rs) → Twenty T type buffer rs i
+  at-count : i ≡ length rs → Begins T type buffer rs → (Right T type buffer rs → ⊥) → All (RowFits T buffer) rs → Twenty T type buffer rs i
+
+-- where 21 stands: at the first row whose bytes aren't exactly its type's, a right list beginning with the rows up to it
+pub record TwentyOne (T : List ℕ) (type : ℕ) (buffer : List ℕ) (rs : List Row) (i : ℕ) : Type 0 where
+  pub inside : i < length rs
+  pub begins : Begins T type buffer (take (suc i) rs)
+  pub before : All (RowFits T buffer) (take i rs)
+  pub misfit : exact (memberTy T (trees T) (getD rs i (record { member = 0; place = 0; len = 0 }) .member)) (partOf buffer (getD rs i (record { member = 0; place = 0; len = 0 }))) ≡ false
+
+-- rows under a table that breaks no rule, for a type of it, behind 2, 23 and 3
+abbrev pub judging : List ℕ → ℕ → List ℕ → List Row → Out (List Given)
+judging T type buffer rs = judgeAll T buffer (begin T type (above (chain T type))) 0 rs
+
+abbrev pub RightLists : Type 0
+RightLists =
+    (T : List ℕ) (type : ℕ) (buffer : List ℕ) (rs : List Row) (i : ℕ) → Bytes T → faults T ≡ fine → noTop T type ≡ false
+    → (judging T type buffer rs ≡ stop 20 i → Twenty T type buffer rs i) × (Twenty T type buffer rs i → judging T type buffer rs ≡ stop 20 i)
+
+abbrev pub WrongBytes : Type 0
+WrongBytes =
+    (T : List ℕ) (type : ℕ) (buffer : List ℕ) (rs : List Row) (i : ℕ) → Bytes T → faults T ≡ fine → noTop T type ≡ false
+    → (judging T type buffer rs ≡ stop 21 i → TwentyOne T type buffer rs i) × (TwentyOne T type buffer rs i → judging T type buffer rs ≡ stop 21 i)
+
+-- 22 stands exactly where the message is over 65,536 bytes or its room, and its place is the message's length
+pub record TwentyTwo (T : List ℕ) (type format count : ℕ) (rs buffer : List ℕ) (room i : ℕ) : Type 0 where
+  pub made : List ℕ
+  pub is-made : message T type format count rs buffer ≡ out made
+  pub too-long : (length made ≤ limit) × (length made ≤ room) → ⊥
+  pub place : i ≡ length made
+
+abbrev pub TooLong : Type 0
+TooLong =
+    (T : List ℕ) (type format count : ℕ) (rs buffer : List ℕ) (room i : ℕ)
+    → (writing T type format count rs buffer room ≡ stop 22 i → TwentyTwo T type format count rs buffer room i)
+    × (TwentyTwo T type format count rs buffer room i → writing T type format count rs buffer room ≡ stop 22 i)
 
 -- ---- demand 3: an old table reads a newer message
 
