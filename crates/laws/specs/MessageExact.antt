@@ -2,7 +2,7 @@
 --
 --   contents-written, -canonical   what stands in the encapsulation, by the top's kind
 --   body-written, -canonical       the encapsulation around it
---   exact-message                  demand 2, first sentence
+--   exact-message, exact-rows      demand 2, first sentence, and the rows listed
 use mathlib.Core.Path.{_≡_, refl, sym, ap, ap₂, _∙_, subst}
 use mathlib.Core.Bool.{Bool, true, false, not}
 use mathlib.Core.List.{List, [], _∷_, _++_, append-nil}
@@ -23,7 +23,8 @@ use Rattle.encoding.specs.Slice.{Format, sliced, Chain, slices, first, slicesBy
 use Rattle.encoding.specs.Message.{Pieces, list, exception, class, Read, encode, encapsulate, parameters, markerForm, contents, sizeForm, versionForm, ended, body, rules}
 use Rattle.encoding.specs.MessageLaws.{held-contents, ended-ok, top-there, rules-ok, rules-step}
 use Rattle.encoding.specs.Conform.{Short, Conform}
-use Rattle.laws.specs.Demands.{readAs, Follows, Exact}
+use Rattle.laws.specs.Demands.{readAs, Follows, Exact, ExactRows}
+use Rattle.laws.specs.RowsExact.{exact-rows-from}
 use Rattle.laws.specs.OptionalExact.{parameters-written, parameters-canonical}
 use Rattle.laws.specs.SliceExact.{slices-written, slices-canonical}
 
@@ -182,3 +183,6 @@ exact-message T top m f p n y = (read, written)
         let b : body T top m ≡ ok (readAs f p) (length m) =
         subst (λ (z : List ℕ). Short (length z) → body T top z ≡ ok (readAs f p) (length z)) (sym (F .encoded)) (body-written T top f p (F .conforms)) (omega (arith, F .short)) in
         rules-step T top m (record { table = F .table; top-right = F .top-there; short = F .short; read = b })
+
+pub exact-rows : ExactRows
+exact-rows = exact-rows-from exact-message

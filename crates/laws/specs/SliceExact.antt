@@ -20,7 +20,7 @@ use lib.Seq.{drop-at, take-length, take-add}
 use lib.Dec.{eqb, ltb}
 use borrow.Author.Tests.{not-true, not-false, eqb-false, ltb-false, ne-eqb}
 use Rattle.encoding.specs.Result.{ok, Parser, pick, pure, fail, must, mapc, inside, firstOf, sameBytes}
-use Rattle.encoding.specs.ResultLaws.{ok≢bad, some≢none, both-true, both-false, either-false, sameBytes-ok, sameBytes-same, Bound, bind-ok, bind-step, bind-take, bind-written, pure-ok, must-ok, must-step, mapc-ok, mapc-step, inside-ok, inside-step, firstOf-ok}
+use Rattle.encoding.specs.ResultLaws.{ok≢bad, some≢none, both-true, both-false, either-false, sameBytes-ok, sameBytes-same, bind-step, bind-written, pure-ok, must-step, mapc-ok, mapc-step, inside-ok, inside-step, firstOf-ok}
 use Rattle.encoding.specs.Number.{byte, declared, leBytes, sizeBytes, Content, string, stringBytes}
 use Rattle.encoding.specs.NumberLaws.{Bytes, bytes-end, bytes-take, bytes-drop, byte-written, byte-canonical, length-leBytes, declared-written, declared-canonical, string-written, string-canonical}
 use Rattle.encoding.specs.Table.{nameOf, named, base, upward, chain, any}
@@ -29,7 +29,7 @@ use Rattle.encoding.specs.Optional.{Piece}
 use Rattle.encoding.specs.Slice.{Format, compact, sliced, isSliced, Slice, known, passed, bit, formatOf, Stand, first, later, mixed, due, flagForm, Head, head, fields, knownData, wrongLast, Stage, seek, follow, standOf, finished, Meaning, skip, row, wrong, knownMeaning, seekMeaning, meaning, isNone, idForm, meaningForm, enterSlice, slice, Chain, ahead, walk, slices, anyOptional, worth, hasOptionals, idOf, dataBytes, flagBits, sliceFront, isLast, slicesBytes}
 use Rattle.encoding.specs.SliceLaws.{walk-ended, walk-on}
 use Rattle.encoding.specs.WalkLaws
-use Rattle.encoding.specs.WalkLaws.{Sliced, slice-ok, slice-step, Walk, walk-of}
+use Rattle.encoding.specs.WalkLaws.{Heads, head-ok, heads-later, Sliced, slice-ok, slice-step, Walk, walk-of}
 use Rattle.encoding.specs.Conform.{Short, Owned, Follow, Passed, Slices}
 use Rattle.laws.specs.OptionalExact.{fields-written, fields-canonical}
 
@@ -95,18 +95,7 @@ id-worth false zero h l = refl
 id-worth false (suc zero) h l = absurd (true≢false h)
 id-worth q (suc (suc n)) h l = absurd (omega arith)
 
-mixed-ok : (s : Stand) (f : ℕ) → mixed s f ≡ false → Agrees s (formatOf f)
-unfolding mixed
-mixed-ok first f h = tt
-mixed-ok (later g) f h = go g (bit f 16) h
-  where
-    go : (g : Format) (q : Bool) → not (Bool·beq (isSliced g) q) ≡ false → g ≡ pick q sliced compact
-    go compact true h = absurd (true≢false h)
-    go compact false h = refl
-    go sliced true h = refl
-    go sliced false h = absurd (true≢false h)
-
-flags-canonical : (s : Stand) (f : ℕ) → flagForm s f ≡ 0 → (f ≡ flagBits (formatOf f) (due s (formatOf f)) (bit f 4) (bit f 32)) × Agrees s (formatOf f)
+flags-canonical : (s : Stand) (f : ℕ) → flagForm s f ≡ 0 → f ≡ flagBits (formatOf f) (due s (formatOf f)) (bit f 4) (bit f 32)
 unfolding flagForm flagBits
 flags-canonical s f h =
     let a = firstOf-ok 13 (ltb 63 f) _ h in
@@ -119,7 +108,7 @@ flags-canonical s f h =
     let fmt : 16 * (f / 16 % 2) ≡ worth (isSliced (formatOf f)) 16 = bit-worth (f / 16 % 2) 16 (omega arith) ∙ ap (λ (q : Bool). worth q 16) (sym (format-bit (bit f 16))) in
     let last : 32 * (f / 32 % 2) ≡ worth (bit f 32) 32 = bit-worth (f / 32 % 2) 32 (omega arith) in
     let three : f / 8 % 2 ≡ 0 = zero-bit (f / 8 % 2) (omega arith) (eqb-false (f / 8 % 2) 1 (d .0)) in
-    (bits-of f (omega (arith, ltb-false 63 f (a .0))) three ∙ ap₂ _+_ (ap₂ _+_ (ap₂ _+_ id opt) fmt) last, mixed-ok s f (b .0))
+    bits-of f (omega (arith, ltb-false 63 f (a .0))) three ∙ ap₂ _+_ (ap₂ _+_ (ap₂ _+_ id opt) fmt) last
   where
     zero-bit : (n : ℕ) → n < 2 → (n ≡ 1 → ⊥) → n ≡ 0
     zero-bit zero h k = refl
@@ -168,32 +157,29 @@ module _ (s : Stand) (form : Format → List ℕ → ℕ) where
     pub agrees : Agrees s (h .format)
     pub given : Given (due s (h .format)) (form (h .format)) (h .id)
 
-  id-canonical : (q : Bool) (g : Format) (xs : List ℕ) → Bytes xs → {nm : List ℕ} {n : ℕ} → pick q (must (form g) string) (pure []) xs ≡ ok nm n
+  id-canonical : (q : Bool) (g : Format) (xs : List ℕ) → Bytes xs → {nm : List ℕ} {n : ℕ} → pick q string (pure []) xs ≡ ok nm n → (q ≡ true → form g nm ≡ 0)
       → (take n xs ≡ pick q (stringBytes nm) []) × Given q (form g) nm
-  id-canonical true g xs y {nm} {n} h =
-      let M = must-ok string xs (form g) h in
-      let S = string-canonical xs y (M .0) in
-      (S .0, (S .1, S .2, M .1))
-  id-canonical false g xs y h = let P = pure-ok [] xs h in (ap (λ (i : ℕ). take i xs) (P .1), tt)
+  id-canonical true g xs y h j = let S = string-canonical xs y h in (S .0, (S .1, S .2, j refl))
+  id-canonical false g xs y h j = (ap (λ (i : ℕ). take i xs) (pure-ok [] xs h .1), tt)
 
   pub head-canonical : (xs : List ℕ) → Bytes xs → {h : Head} {n : ℕ} → head s form xs ≡ ok h n → Fronted h (take n xs)
-  unfolding head
-  head-canonical xs y {h} {n} e = go (bind-ok (must (flagForm s) byte) (λ f. idP (formatOf f) (bit f 4) (bit f 32)) xs e)
+  unfolding WalkLaws.headOf
+  head-canonical xs y {h} {n} e = let H = head-ok s form xs h n e in go (H .0) (H .1)
     where
-      go : Bound (must (flagForm s) byte) (λ f. idP (formatOf f) (bit f 4) (bit f 32)) xs h n → Fronted h (take n xs)
-      go B =
-          let f : ℕ = B .fst in
-          let M = must-ok byte xs (flagForm s) (B .first) in
-          let C = byte-canonical xs (M .0) in
-          let F = flags-canonical s f (M .1) in
-          let N = mapc-ok (pick (due s (formatOf f)) (must (form (formatOf f)) string) (pure [])) (drop (B .n) xs) (λ nm _. headOf (formatOf f) (bit f 4) (bit f 32) nm) (B .next) in
-          let I = id-canonical (due s (formatOf f)) (formatOf f) (drop (B .n) xs) (bytes-drop (B .n) xs y) (N .1) in
-          subst (λ (h : Head). Fronted h (take n xs)) (sym (N .2)) (record {
-            spelt = bind-take (must (flagForm s) byte) (λ f. idP (formatOf f) (bit f 4) (bit f 32)) xs B ∙ ap₂ _++_ (C .0) (I .0)
-                ∙ ap (λ (x : ℕ). x ∷ pick (due s (formatOf f)) (stringBytes (N .0)) []) (F .0);
-            agrees = F .1;
+      agrees : (s : Stand) → Heads s xs h n → Agrees s (h .format)
+      agrees first H = tt
+      agrees (later g) H = sym (heads-later g xs h n H)
+
+      go : Heads s xs h n → (due s (h .format) ≡ true → form (h .format) (h .id) ≡ 0) → Fronted h (take n xs)
+      go H j =
+          let f : ℕ = H .flags in
+          let I = id-canonical (due s (h .format)) (h .format) (drop 1 xs) (bytes-drop 1 xs y) (H .id-read) j in
+          record {
+            spelt = ap (λ (i : ℕ). take i xs) (H .sum) ∙ take-add 1 (H .idBytes) xs ∙ ap₂ _++_ (byte-canonical xs (H .read) .0 ∙ ap (λ (b : ℕ). b ∷ []) (flags-canonical s f (H .form))) (I .0)
+                ∙ ap (λ (k : Head). flagBits (k .format) (due s (k .format)) (k .optionals) (k .last) ∷ pick (due s (h .format)) (stringBytes (h .id)) []) (sym (H .is));
+            agrees = agrees s H;
             given = I .1;
-          })
+          }
 
 -- ---- size and data
 
