@@ -5,6 +5,7 @@
 --
 --   Exact          demand 2, first sentence: a message is accepted exactly when it is the encoding of pieces that conform, and those are read
 --   ExactRows      each listed row lies in the message, and its bytes are exactly one value of its member's type
+--   ExactCounts    the skip counts count what the rows leave out
 --   ExactValues    a value of a type is exactly a byte string of the grammar of values
 --   ReadBack       demand 2: what the writer makes is read as the members given
 --   WriteAgain     demand 2: an accepted message with nothing skipped, written again in its own format, is the same message
@@ -15,17 +16,17 @@
 --   NewerReading   demand 3 of the reader's answer, given room
 use mathlib.Core.Path.{_≡_}
 use mathlib.Core.List.{List, [], _∷_, _++_, map}
-use mathlib.Core.Option.{Option, none, some}
-use mathlib.Core.Bool.{Bool, true, false}
+use mathlib.Core.Option.{none}
+use mathlib.Core.Bool.{true, false}
 use Prim.Native.Nat.{ℕ, suc, _+_, _≤_, _<_}
 use lib.ListN.{length, take, drop, getD}
 use lib.Dec.{eqb}
-use Rattle.encoding.specs.Result.{Res, ok, bad, concat}
+use Rattle.encoding.specs.Result.{ok, bad, concat}
 use Rattle.encoding.specs.NumberLaws.{Bytes}
 use Rattle.encoding.specs.Types.{Ty}
 use Rattle.encoding.specs.Value.{exact}
 use Rattle.encoding.specs.Table.{fine, faults, memberTy, trees, named, any, chain, range}
-use Rattle.encoding.specs.Slice.{Format, compact, formatNumber, Slice, idOf}
+use Rattle.encoding.specs.Slice.{Format, compact, formatNumber, Slice, known, passed, idOf}
 use Rattle.encoding.specs.Message.{Pieces, list, exception, class, Read, encode, encapsulate, noTop, limit, rules, Row, rows, rowBytes, firstKnown, optionalsSkipped, slicesSkipped, answer, reading, room}
 use Rattle.encoding.specs.Write.{Right, Out, out, stop, above, begin, Given, partOf, judgeAll, rowAt, message, writing}
 use Rattle.encoding.specs.Conform.{Conform}
@@ -47,7 +48,7 @@ pub record Follows (T : List ℕ) (top : ℕ) (m : List ℕ) (f : Format) (p : P
   pub encoded : m ≡ encapsulate (encode f p)
 
 -- Rules out a reader that only refuses, and one that gives a fixed list: both directions speak of every message.
--- Rules out rows invented after the first slice, and made-up skip counts: rows and counts are read off the pieces, and the pieces are those of the message.
+-- Rules out pieces invented after the first slice: the pieces are those of the message.
 abbrev pub Exact : Type 0
 Exact =
     (T : List ℕ) (top : ℕ) (m : List ℕ) (f : Format) (p : Pieces) (n : ℕ) → Bytes m
@@ -59,6 +60,7 @@ pub data All {A : Type 0} (P : A → Type 0) : List A → Type 0 where
   more : {a : A} {l : List A} → P a → All P l → All P (a ∷ l)
 
 -- a row lies inside the message, and its bytes are exactly one value of the member's type
+-- Rules out rows invented after the first slice.
 pub record RowExact (T m : List ℕ) (r : Row) : Type 0 where
   pub inside : r .place + r .len ≤ length m
   pub one : exact (memberTy T (trees T) (r .member)) (take (r .len) (drop (r .place) m)) ≡ true
@@ -67,6 +69,35 @@ abbrev pub ExactRows : Type 0
 ExactRows =
     (T : List ℕ) (top : ℕ) (m : List ℕ) (f : Format) (p : Pieces) (n : ℕ) → Bytes m
     → rules T top m ≡ ok (readAs f p) n → All (RowExact T m) (rows T top f p)
+
+-- the members that stand in known slices, and the slices
+unfoldable pub membersIn : List Slice → ℕ
+membersIn [] = 0
+membersIn (known o ps ∷ ss) = length ps + membersIn ss
+membersIn (passed b nm d ∷ ss) = membersIn ss
+
+unfoldable pub memberCount : Pieces → ℕ
+memberCount (list ps) = length ps
+memberCount (exception ss) = membersIn ss
+memberCount (class ss) = membersIn ss
+
+unfoldable pub sliceCount : Pieces → ℕ
+sliceCount (list ps) = 0
+sliceCount (exception ss) = length ss
+sliceCount (class ss) = length ss
+
+-- the slices that a table knows: one for each row of the first known type's chain
+unfoldable pub knownCount : List ℕ → ℕ → Pieces → ℕ
+knownCount T top (list ps) = 0
+knownCount T top (exception ss) = length (chain T (firstKnown T top (exception ss)))
+knownCount T top (class ss) = length (chain T (firstKnown T top (class ss)))
+
+-- every member of a known slice is listed or counted as skipped, every slice is known or counted as skipped
+-- Rules out made-up skip counts.
+abbrev pub ExactCounts : Type 0
+ExactCounts =
+    (T : List ℕ) (top : ℕ) (m : List ℕ) (f : Format) (p : Pieces) (n : ℕ) → Bytes m → rules T top m ≡ ok (readAs f p) n
+    → (length (rows T top f p) + optionalsSkipped p ≡ memberCount p) × (knownCount T top p + slicesSkipped p ≡ sliceCount p)
 
 abbrev pub ExactValues : Type 0
 ExactValues = (t : Ty) (b : List ℕ) → Bytes b → (exact t b ≡ true → IsValue t b) × (IsValue t b → exact t b ≡ true)

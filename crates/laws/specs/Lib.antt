@@ -5,6 +5,7 @@ pub mod ProxyExact
 pub mod Demands
 pub mod ValueExact
 pub mod RowsExact
+pub mod CountsExact
 pub mod OptionalExact
 pub mod SliceExact
 pub mod MessageExact
@@ -12,3 +13,4 @@ pub mod OptionalNewer
 pub mod RecordNewer
 pub mod SliceNewer
 pub mod RowsNewer
+pub mod Promises

@@ -150,10 +150,10 @@ module _ (T : List ℕ) (t k : ℕ) {x : Member} where
   optional-ty h = lookup-all k (optional-typed T (trees T) (ownRows T t)) h
 
 -- a required member is found by its key
-abbrev Found : List Member → Member → Type 0
+abbrev pub Found : List Member → Member → Type 0
 Found ms x = lookup (x .key) ms ≡ some x
 
-required-found : (T : List ℕ) (t : ℕ) → All (Found (Table.required T t)) (Table.required T t)
+pub required-found : (T : List ℕ) (t : ℕ) → All (Found (Table.required T t)) (Table.required T t)
 unfolding Table.required
 required-found T t = all-map (λ x F. F .1) (required-from T (trees T) 0 (ownRows T t))
 

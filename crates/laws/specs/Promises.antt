@@ -1,0 +1,19 @@
+-- Every promise of `Demands`, with its proof.
+use Rattle.laws.specs.Demands.{Exact, ExactRows, ExactCounts, ExactValues}
+use Rattle.laws.specs.MessageExact.{exact-message, exact-rows}
+use Rattle.laws.specs.CountsExact.{exact-counts-from}
+use Rattle.laws.specs.ValueExact.{exact-values}
+
+pub record Promises : Type 0 where
+  pub exact : Exact
+  pub rows : ExactRows
+  pub counts : ExactCounts
+  pub values : ExactValues
+
+pub promises : Promises
+promises = record {
+  exact = exact-message;
+  rows = exact-rows;
+  counts = exact-counts-from exact-message;
+  values = exact-values;
+}
