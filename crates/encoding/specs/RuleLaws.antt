@@ -5,6 +5,7 @@
 --   kind-known                     a kind is at most 15
 --   record-kind, owns-record       a record is an exception or a class, and takes member rows
 --   base-right                     a base is a smaller row of the same kind
+--   name-short                     a name is at most 255 bytes long
 --   named-ok, named-at             the record of a name is a record of that name; a record is the one of its name
 --   names-differ                   records of one name are one
 --   climb-enough, chain-node       a chain is the row, then the chain of its base
@@ -22,13 +23,13 @@ use mathlib.Core.List.{List, [], _∷_}
 use Prim.Native.Nat.{ℕ, zero, suc, _+_, _-_, _≤_, _<_}
 use native.Mathlib.Omega.{arith}
 use native.Mathlib.Decide.{ℕ-discrete}
-use lib.ListN.{getD}
+use lib.ListN.{length, drop, getD, length-take}
 use lib.Dec.{eqb, leb, ltb}
 use borrow.Author.Tests.{eqb-true, eqb-false, leb-true, leb-false, ltb-true, ltb-false, le-leb, lt-ltb, eq-eqb, not-false}
 use Rattle.encoding.specs.Result.{pick, firstOf, sameBytes}
 use Rattle.encoding.specs.ResultLaws.{both-true, both-false, either-false, sameBytes-ok, sameBytes-same}
 use Rattle.encoding.specs.Types.{Ty}
-use Rattle.encoding.specs.Table.{types, members, kind, field, mark, tag, isRecord, owns, takes, range, nameOf, Fault, fine, fault, orElse, faultAt, any, headerRules, taken, noBase, alike, typeRules, sumRules, ownerOf, tagAlike, memberRules, rowAt, memberAt, pass, passes, faults, search, named, base, upward, climb, chain, Member, memberTy, lookup, requiredOf, optionalOf, required, optional, ownRows, trees}
+use Rattle.encoding.specs.Table.{types, members, kind, field, mark, tag, isRecord, owns, takes, range, namesAt, nameOf, Fault, fine, fault, orElse, faultAt, any, headerRules, taken, noBase, alike, typeRules, sumRules, ownerOf, tagAlike, memberRules, rowAt, memberAt, pass, passes, faults, search, named, base, upward, climb, chain, Member, memberTy, lookup, requiredOf, optionalOf, required, optional, ownRows, trees}
 
 -- ---- passes
 
@@ -290,6 +291,13 @@ module _ (T : List ℕ) (right : faults T ≡ fine) where
             let q : suc b ≡ suc r = rw (le-leb (suc b) t (omega arith)) at h in
             let p : b ≡ r = omega arith in
             subst (λ (x : ℕ). (x < t) × (kind T x ≡ kind T t)) p (l, eqb-true (kind T b) (kind T t) (not-false (eqb (kind T b) (kind T t)) (s .1)))
+
+    pub name-short : length (nameOf T t) ≤ 255
+    unfolding typeRules nameOf
+    name-short =
+        let a = both-false (isRecord (kind T t)) (eqb (field T t 4) 0 || ltb 255 (field T t 4)) (type-test t below 8) rec in
+        let b = ltb-false 255 (field T t 4) (either-false (eqb (field T t 4) 0) (ltb 255 (field T t 4)) a .1) in
+        omega (arith, b, length-take (field T t 4) (drop (namesAt T + field T t 3) T))
 
     earlier-differ : (r : ℕ) → r < t → isRecord (kind T r) ≡ true → nameOf T r ≡ nameOf T t → ⊥
     unfolding typeRules alike

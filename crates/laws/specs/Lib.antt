@@ -1,4 +1,4 @@
--- The laws of reading and writing.
+-- The laws of reading and writing: `Demands` states the promises, `Promises` has them with their proofs.
 pub mod Grammar
 pub mod GrammarLaws
 pub mod ProxyExact
@@ -12,5 +12,7 @@ pub mod MessageExact
 pub mod OptionalNewer
 pub mod RecordNewer
 pub mod SliceNewer
+pub mod LoseLaws
 pub mod RowsNewer
+pub mod MessageNewer
 pub mod Promises

@@ -4,7 +4,8 @@
 --   pair-of, pair-only            records of one kind and name match; a new record has one match at most
 --   named-both, named-only        a name known to both is of a pair; what the old table names the new one names
 --   pair-named                    the old table finds its record by the new one's name
---   bases-none, bases-some        neither of a pair has a base, or both do and these are a pair
+--   Bases, bases-of               neither of a pair has a base, or both do and these are a pair
+--   Standing, standing-base       the base of a record is a record
 --   Descends T top t              top is in the chain of t; descends-ok: it is t, or in the chain of t's base
 --   descends-newer                where the new top is in a new record's chain, the old top is in that of its match
 use mathlib.Core.Path.{_≡_, refl, sym, ap, _∙_, subst}
@@ -16,7 +17,7 @@ use native.Mathlib.Omega.{arith}
 use lib.Dec.{eqb}
 use borrow.Author.Tests.{eqb-true, eq-eqb}
 use Rattle.encoding.specs.ResultLaws.{some≢none}
-use Rattle.encoding.specs.Table.{types, kind, isRecord, nameOf, named, base, upward, chain, any}
+use Rattle.encoding.specs.Table.{types, kind, fine, faults, isRecord, nameOf, named, base, upward, chain, any}
 use Rattle.encoding.specs.RuleLaws.{base-right, names-differ, named-ok, named-at, chain-node}
 use Rattle.encoding.specs.Extends.{OwnersMatch, SameRecord, BasesMatch, Extends}
 
@@ -54,6 +55,18 @@ module _ (T : List ℕ) (top t : ℕ) where
       go true d = refl
       go false d = d
 
+-- a row + 1 that is a record, or 0
+abbrev pub Standing : List ℕ → ℕ → Type 0
+Standing T zero = Unit {0}
+Standing T (suc t) = (t < types T) × (isRecord (kind T t) ≡ true)
+
+pub standing-base : (T : List ℕ) → faults T ≡ fine → (t : ℕ) → t < types T → isRecord (kind T t) ≡ true → Standing T (base T t)
+standing-base T right t l r = go (base T t) refl
+  where
+    go : (c : ℕ) → base T t ≡ c → Standing T (base T t)
+    go zero e = rw e tt
+    go (suc v) e = let W = base-right T right t l r v e in rw e (omega (arith, W .0), ap (λ (k : ℕ). isRecord k) (W .1) ∙ r)
+
 -- ---- pairs
 
 pub record Pair (old new : List ℕ) (t u : ℕ) : Type 0 where
@@ -61,6 +74,11 @@ pub record Pair (old new : List ℕ) (t u : ℕ) : Type 0 where
   pub same : SameRecord old new t u
   pub owners : OwnersMatch old new t u
   pub bases : BasesMatch old new (base old t) (base new u)
+
+-- base rows + 1, or 0: of a pair, or none
+pub data Bases (old new : List ℕ) : ℕ → ℕ → Type 0 where
+  neither : Bases old new zero zero
+  both : {t u : ℕ} → Pair old new t u → Bases old new (suc t) (suc u)
 
 pub new-record : {old new : List ℕ} {t u : ℕ} → SameRecord old new t u → isRecord (kind new u) ≡ true
 new-record S = ap (λ (k : ℕ). isRecord k) (sym (S .kinds)) ∙ S .old-one
@@ -108,6 +126,13 @@ module _ (old new : List ℕ) (X : Extends old new) where
         go (suc r) e m =
             let l : r < t = base-right old (X .old-right) t (P .below) (P .same .old-one) r e .0 in
             (r, e, l, pair-of r v (omega (arith, P .below)) m)
+
+    pub bases-of : Bases old new (base old t) (base new u)
+    bases-of = go (base new u) refl
+      where
+        go : (c : ℕ) → base new u ≡ c → Bases old new (base old t) (base new u)
+        go zero e = rw (e, bases-none e) neither
+        go (suc v) e = let B = bases-some v e in rw (e, B .1) (both (B .3))
 
   -- the tops match: what descends from the new one descends, in the old table, from the old one
   pub descends-newer : (top top′ : ℕ) → Pair old new top top′ → (f t u : ℕ) → t < f → Pair old new t u → Descends new top′ u → Descends old top t

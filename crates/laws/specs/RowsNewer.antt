@@ -1,100 +1,29 @@
 -- The rows of a newer message under an old table: those of the members that it knows, at the same places.
 --
---   losePiece-bytes, loseSlice-data, loseSlice-front   what an old table makes of a piece or a slice is encoded alike
 --   Owners old new top top′ t u                        owners that match, the old one alone for the new one
 --   pieces-kept                                        the rows of one owner
 --   slices-kept                                        the rows of a chain
 use mathlib.Core.Path.{_≡_, refl, sym, ap, ap₂, _∙_, subst, subst₂}
-use mathlib.Core.Bool.{Bool, true, false, _||_, true≢false}
+use mathlib.Core.Bool.{Bool, true, false, true≢false}
 use mathlib.Core.Option.{Option, none, some}
-use mathlib.Core.List.{List, [], _∷_, _++_, map, append-assoc}
+use mathlib.Core.List.{List, [], _∷_, _++_, map}
 use Prim.Native.Nat.{ℕ, zero, suc, _+_, _<_}
 use native.Mathlib.Omega.{arith}
 use lib.ListN.{length}
 use lib.Dec.{eqb}
-use Rattle.encoding.specs.Result.{pick, concat}
 use Rattle.encoding.specs.ResultLaws.{some≢none}
-use Rattle.encoding.specs.Types.{bitsOf}
 use Rattle.encoding.specs.Table.{types, kind, isRecord, owns, field, mark, tag, nameOf, named, base, upward, chain, Member, lookup, trees, ownRows}
 use Rattle.encoding.specs.Table
-use Rattle.encoding.specs.RuleLaws.{Own, required-own, optional-own, owns-record, base-right, named-ok, named-at, chain-node, rows-apart}
-use Rattle.encoding.specs.Optional.{Piece, required, optional, skipped, headerBytes, lengthBytes, frontBytes, contentBytes, pieceBytes, isOptional}
-use Rattle.encoding.specs.Slice.{Format, Slice, known, passed, Stand, later, anyOptional, hasOptionals, idOf, dataBytes, sliceFront, isLast}
+use Rattle.encoding.specs.RuleLaws.{Own, required-own, optional-own, owns-record, named-ok, named-at, chain-node, rows-apart}
+use Rattle.encoding.specs.Optional.{Piece, required, optional, skipped, frontBytes, contentBytes, pieceBytes}
+use Rattle.encoding.specs.Slice.{Format, Slice, known, passed, Stand, later, anyOptional, dataBytes, sliceFront, isLast}
 use Rattle.encoding.specs.Message.{Row, listRow, pieceMember, pieceRows, sliceRows, orZero, firstIn}
 use Rattle.encoding.specs.Conform.{Follow, Slices}
 use Rattle.encoding.specs.Extends.{OwnersMatch, Extends, SameOwner, as-records, as-tops, MembersMatch, both-required, both-optional, Counterpart, typeOf, keepOr, losePiece, loseKnown, loseSlice}
 use Rattle.laws.specs.Demands.{Kept, ended, kept, lost}
 use Rattle.laws.specs.OptionalNewer.{lookup-key, optionals-match, required-positions, lookup-same, loseAll}
-use Rattle.laws.specs.RecordNewer.{Pair, new-record, pair-of, pair-only, pair-named, named-both, bases-none, bases-some}
-
--- ---- what an old table makes of pieces is encoded alike
-
-pub losePiece-bytes : (ms : List Member) (p : Piece) → pieceBytes (losePiece ms p) ≡ pieceBytes p
-unfolding losePiece keepOr pieceBytes frontBytes contentBytes
-losePiece-bytes ms (required i b) = refl
-losePiece-bytes ms (optional t f b) = go (lookup t ms)
-  where
-    go : (o : Option Member) → pieceBytes (keepOr t f b o) ≡ pieceBytes (optional t f b)
-    go none = sym (append-assoc (headerBytes t (bitsOf f)) (lengthBytes f b) b)
-    go (some m) = refl
-losePiece-bytes ms (skipped t k b) = refl
-
-losePiece-optional : (ms : List Member) (p : Piece) → isOptional (losePiece ms p) ≡ isOptional p
-unfolding losePiece keepOr isOptional
-losePiece-optional ms (required i b) = refl
-losePiece-optional ms (optional t f b) = go (lookup t ms)
-  where
-    go : (o : Option Member) → isOptional (keepOr t f b o) ≡ true
-    go none = refl
-    go (some m) = refl
-losePiece-optional ms (skipped t k b) = refl
-
-losePieces-bytes : (ms : List Member) (ps : List Piece) → concat pieceBytes (map (losePiece ms) ps) ≡ concat pieceBytes ps
-unfolding concat
-losePieces-bytes ms [] = refl
-losePieces-bytes ms (p ∷ ps) = ap₂ _++_ (losePiece-bytes ms p) (losePieces-bytes ms ps)
-
-losePieces-optional : (ms : List Member) (ps : List Piece) → anyOptional (map (losePiece ms) ps) ≡ anyOptional ps
-unfolding anyOptional
-losePieces-optional ms [] = refl
-losePieces-optional ms (p ∷ ps) = ap₂ _||_ (losePiece-optional ms p) (losePieces-optional ms ps)
-
-module _ (old : List ℕ) where
-  pub loseSlice-data : (sl : Slice) → dataBytes (loseSlice old sl) ≡ dataBytes sl
-  unfolding loseSlice loseKnown dataBytes
-  loseSlice-data (known o ps) = go (named old o)
-    where
-      go : (n : Option ℕ) → dataBytes (loseKnown old o ps n) ≡ dataBytes (known o ps)
-      go none = refl
-      go (some t) = ap₂ (λ (b : List ℕ) (q : Bool). b ++ pick q (255 ∷ []) []) (losePieces-bytes (Table.optional old t) ps) (losePieces-optional (Table.optional old t) ps)
-  loseSlice-data (passed b nm d) = refl
-
-  loseSlice-flag : (sl : Slice) → hasOptionals (loseSlice old sl) ≡ hasOptionals sl
-  unfolding loseSlice loseKnown hasOptionals
-  loseSlice-flag (known o ps) = go (named old o)
-    where
-      go : (n : Option ℕ) → hasOptionals (loseKnown old o ps n) ≡ anyOptional ps
-      go none = refl
-      go (some t) = losePieces-optional (Table.optional old t) ps
-  loseSlice-flag (passed b nm d) = refl
-
-  loseSlice-id : (sl : Slice) → idOf (loseSlice old sl) ≡ idOf sl
-  unfolding loseSlice loseKnown idOf
-  loseSlice-id (known o ps) = go (named old o)
-    where
-      go : (n : Option ℕ) → idOf (loseKnown old o ps n) ≡ o
-      go none = refl
-      go (some t) = refl
-  loseSlice-id (passed b nm d) = refl
-
-  pub loseSlice-front : (g : Format) (s : Stand) (last : Bool) (sl : Slice) → sliceFront g s last (loseSlice old sl) ≡ sliceFront g s last sl
-  unfolding sliceFront
-  loseSlice-front g s last sl = rw (loseSlice-flag sl, loseSlice-id sl, loseSlice-data sl)
-
-  loseSlices-last : (ss : List Slice) → isLast (map (loseSlice old) ss) ≡ isLast ss
-  unfolding isLast
-  loseSlices-last [] = refl
-  loseSlices-last (s ∷ ss) = refl
+use Rattle.laws.specs.LoseLaws.{losePiece-bytes, loseSlice-data, loseSlice-front, loseSlices-last}
+use Rattle.laws.specs.RecordNewer.{Bases, neither, both, bases-of, Standing, standing-base, Pair, new-record, pair-of, pair-only, pair-named, named-both}
 
 -- ---- rows joined
 
@@ -314,18 +243,7 @@ module _ (old new : List ℕ) (X : Extends old new) (top top′ : ℕ) (top-ther
       (kept-append (pieces-lost u l r (ap (named old) (sym i) ∙ e) (at + f) ps) (rest (at + f + length d))))
 
   -- behind a slice that both know
-  data Bases : ℕ → ℕ → Type 0 where
-    neither : Bases zero zero
-    both : {t u : ℕ} → Pair old new t u → Bases (suc t) (suc u)
-
-  bases-of : (t u : ℕ) → Pair old new t u → Bases (base old t) (base new u)
-  bases-of t u P = go (base new u) refl
-    where
-      go : (c : ℕ) → base new u ≡ c → Bases (base old t) (base new u)
-      go zero e = rw (e, bases-none old new X t u P e) neither
-      go (suc v) e = let B = bases-some old new X t u P v e in rw (e, B .1) (both (B .3))
-
-  follow-kept : (ss : List Slice) (g : Format) (s : Stand) {b c : ℕ} → Bases b c → Follow new (upward (chain new) c) ss → Lists g s (upward (chain new) c) (upward (chain old) b) ss
+  follow-kept : (ss : List Slice) (g : Format) (s : Stand) {b c : ℕ} → Bases old new b c → Follow new (upward (chain new) c) ss → Lists g s (upward (chain new) c) (upward (chain old) b) ss
   unfolding upward sliceRows
   follow-kept [] g s B F = λ at. ended
   follow-kept (passed b nm d ∷ ss) g s neither F = absurd F
@@ -335,22 +253,10 @@ module _ (old new : List ℕ) (X : Extends old new) (top top′ : ℕ) (top-ther
       let G = subst (λ (l : List ℕ). Follow new l (known o ps ∷ ss)) (chain-node new u) F in
       subst₂ (λ (us ts : List ℕ). Lists g s us ts (known o ps ∷ ss)) (sym (chain-node new u)) (sym (chain-node old t))
       (known-kept t u (owners-of t u P) g s (upward (chain new) (base new u)) (upward (chain old) (base old t)) o ps ss (ap (named old) (G .0) ∙ pair-named old new X t u P)
-      (follow-kept ss g (later g) (bases-of t u P) (G .2)))
-
-  -- a row of the new table that is a record, or none
-  abbrev Standing : ℕ → Type 0
-  Standing zero = Unit {0}
-  Standing (suc u) = (u < types new) × (isRecord (kind new u) ≡ true)
-
-  standing-base : (u : ℕ) → u < types new → isRecord (kind new u) ≡ true → Standing (base new u)
-  standing-base u l r = go (base new u) refl
-    where
-      go : (c : ℕ) → base new u ≡ c → Standing (base new u)
-      go zero e = rw e tt
-      go (suc v) e = let W = base-right new (X .new-right) u l r v e in rw e (omega (arith, W .0), ap (λ (k : ℕ). isRecord k) (W .1) ∙ r)
+      (follow-kept ss g (later g) (bases-of old new X t u P) (G .2)))
 
   -- where the old table seeks
-  behind-kept : (ss : List Slice) (g : Format) (s : Stand) (c : ℕ) → Standing c → Follow new (upward (chain new) c) ss
+  behind-kept : (ss : List Slice) (g : Format) (s : Stand) (c : ℕ) → Standing new c → Follow new (upward (chain new) c) ss
       → Lists g s (upward (chain new) c) (chain old (firstIn old (map (loseSlice old) ss))) ss
   unfolding upward sliceRows loseSlice loseKnown firstIn orZero
   behind-kept [] g s c S F = λ at. ended
@@ -364,7 +270,7 @@ module _ (old new : List ℕ) (X : Extends old new) (top top′ : ℕ) (top-ther
       head-of sl = firstIn old (sl ∷ map (loseSlice old) ss)
 
       go : Follow new (u ∷ upward (chain new) (base new u)) (known o ps ∷ ss) → (n : Option ℕ) → named old o ≡ n
-          → ((c : ℕ) → Standing c → Follow new (upward (chain new) c) ss → Lists g (later g) (upward (chain new) c) (chain old (firstIn old (map (loseSlice old) ss))) ss)
+          → ((c : ℕ) → Standing new c → Follow new (upward (chain new) c) ss → Lists g (later g) (upward (chain new) c) (chain old (firstIn old (map (loseSlice old) ss))) ss)
           → Lists g s (chain new u) (chain old (head-of (loseSlice old (known o ps)))) (known o ps ∷ ss)
       go G (some t) e ih =
           let first : head-of (loseSlice old (known o ps)) ≡ t = ap (λ (n : Option ℕ). head-of (loseKnown old o ps n)) e ∙ ap orZero e in
@@ -374,7 +280,7 @@ module _ (old new : List ℕ) (X : Extends old new) (top top′ : ℕ) (top-ther
           let first : head-of (loseSlice old (known o ps)) ≡ firstIn old (map (loseSlice old) ss) = ap (λ (n : Option ℕ). head-of (loseKnown old o ps n)) e in
           subst₂ (λ (us : List ℕ) (x : ℕ). Lists g s us (chain old x) (known o ps ∷ ss)) (sym (chain-node new u)) (sym first)
           (unknown-kept u (S .0) (S .1) g s (upward (chain new) (base new u)) (chain old (firstIn old (map (loseSlice old) ss))) o ps ss (G .0) e
-          (ih (base new u) (standing-base u (S .0) (S .1)) (G .2)))
+          (ih (base new u) (standing-base new (X .new-right) u (S .0) (S .1)) (G .2)))
 
   pub slices-kept : (ss : List Slice) (g : Format) (s : Stand) → Slices new top′ g ss → (at : ℕ)
       → Kept old new top top′ (sliceRows new g s at (chain new (firstIn new ss)) ss) (sliceRows old g s at (chain old (firstIn old (map (loseSlice old) ss))) (map (loseSlice old) ss))
