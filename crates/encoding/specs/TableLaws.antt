@@ -7,7 +7,7 @@
 --   ty-seq, ty-dict                the same where the parts are rows below
 --   row-bool .. row-double         the rows without parts; row-other a row of kind 13 and above
 --   member-below, member-none      the type of a member row among the trees below row t; member-whole among all trees
---   member-past                    a member row that is not there
+--   member-in, member-past         a member row that is there; one that is not
 --   members-more, members-none     the members' types one after another
 --   base-below, chain-row          a base is a smaller row; a row's chain is the row, then its base's chain
 use Prim.Native.Nat.{ℕ, zero, suc, _+_, _-_, _*_, _≤_, _<_}
@@ -65,7 +65,7 @@ module _ (T : List ℕ) (m : ℕ) where
   unfolding memberTy
   member-past l h = rw (le-ltb _ _ h)
 
-  member-in : (l : List Ty) → m < members T → memberTy T l m ≡ getD l (memberType T m) broken
+  pub member-in : (l : List Ty) → m < members T → memberTy T l m ≡ getD l (memberType T m) broken
   unfolding memberTy
   member-in l h = rw (lt-ltb _ _ h)
 

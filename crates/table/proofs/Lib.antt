@@ -3,3 +3,4 @@ pub mod Places
 pub mod Ranges
 pub mod Labels
 pub mod Chains
+pub mod Shapes

@@ -2,3 +2,4 @@
 pub mod Found
 pub mod Names
 pub mod NamesLaws
+pub mod Forms

@@ -1,6 +1,7 @@
 // The type table: what its bytes say. Each look-up equals its definition on any bytes: past the end is 0.
-// naming.rt has the records' names, chain.rt bases and members.
+// naming.rt has the records' names, chain.rt bases and members, forms.rt the form of an optional of each row.
 pub mod chain;
+pub mod forms;
 pub mod naming;
 
 ghost use mathlib.Core.Path.{_≡_};

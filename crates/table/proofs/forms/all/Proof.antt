@@ -1,0 +1,30 @@
+-- The loop's invariant: the rows below t have their forms, and behind them stands 10. The measure is the number of rows left. Assumes nothing.
+use Prim.Native.Nat.{_-_, _≤_}
+use borrow.Author.Needs.{needs}
+use mathlib.Core.Path.{_≡_}
+use native.Mathlib.Omega.{arith}
+use Rattle.encoding.specs.Table.{typeRows}
+use Rattle.table.proofs.Shapes.{Filling, filling-begin, filling-done, filling-next, filling-end}
+use Rattle.table.proofs.forms.all.Statement.{statement}
+use Rattle.table.proofs.forms.all.Tie as tie
+
+abbrev Inv-loop : tie.InvT-loop
+Inv-loop table n forms₀ t₀ forms t = (n ≡ typeRows table) × (n ≤ 256) × (t ≤ n) × Filling table forms t
+
+abbrev μ-loop : tie.MeasureT-loop
+μ-loop table n forms₀ t₀ forms t = n - t
+
+pub all-spec : {M : Type 1} → statement M
+all-spec =
+    tie.close
+    (tie.spec
+    Inv-loop
+    μ-loop
+    (λ c κs. search needs)  -- rows-requires
+    (λ c. search (needs, filling-begin))  -- loop-holds
+    (λ c κs. search (needs, filling-done))  -- form-requires
+    (λ c. search needs)  -- array-write-forms
+    (λ c. omega arith)  -- add-t
+    (λ c. omega arith)  -- loop-less
+    (λ c. search (needs, filling-next))  -- loop-again
+    (λ c. search filling-end))  -- returns
