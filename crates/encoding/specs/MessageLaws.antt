@@ -2,25 +2,27 @@
 --
 --   held-parameters, held-contents, held-body   of a parameter list, of what an encapsulation holds, of a message
 --   ended-ok               nothing is behind the record
+--   length-encapsulate, body-encapsulated   an encapsulation is six bytes longer than what it holds, and read as that
 --   top-there              a top is a row of a kind from 13 on
---   rules-ok, rules-step   what the rules accept: table, top, limit and body
-use mathlib.Core.Path.{_≡_, refl}
+--   rules-ok, rules-step   what the rules accept: table, top, limit and body; rules-body where only the body is left
+use mathlib.Core.Path.{_≡_, refl, sym, ap, _∙_}
 use mathlib.Core.Bool.{false}
 use mathlib.Core.List.{List, [], _∷_, _++_}
-use Prim.Native.Nat.{ℕ, zero, suc, _≤_, _<_}
+use Prim.Native.Nat.{ℕ, zero, suc, _+_, _^_, _≤_, _<_}
 use native.Mathlib.Omega.{arith}
-use lib.ListN.{length}
+use lib.ListN.{length, length-append}
+use lib.Seq.{drop-at}
 use lib.Dec.{eqb, leb, ltb}
-use borrow.Author.Tests.{leb-false, ltb-false, le-ltb}
-use Rattle.encoding.specs.Result.{ok, atEnd, firstOf}
-use Rattle.encoding.specs.ResultLaws.{ok≢bad, either-false, firstOf-ok, Held, held-bind, held-pick, held-must, held-mapc, atEnd-fits}
-use Rattle.encoding.specs.Number.{byte}
-use Rattle.encoding.specs.NumberLaws.{held-byte, held-number}
+use borrow.Author.Tests.{leb-false, ltb-false, le-ltb, eq-eqb}
+use Rattle.encoding.specs.Result.{Res, ok, bad, Parser, shift, _>>=_, must, atEnd, firstOf}
+use Rattle.encoding.specs.ResultLaws.{ok≢bad, either-false, firstOf-ok, bind-next, must-step, Held, held-bind, held-pick, held-must, held-mapc, atEnd-fits}
+use Rattle.encoding.specs.Number.{byte, number, leBytes}
+use Rattle.encoding.specs.NumberLaws.{length-leBytes, number-written, held-byte, held-number}
 use Rattle.encoding.specs.Table.{types, kind, Fault, fine, fault, faults, required, optional}
 use Rattle.encoding.specs.OptionalLaws.{held-optionals, held-requireds}
 use Rattle.encoding.specs.Slice.{sliced, Chain}
 use Rattle.encoding.specs.SliceLaws.{held-slices}
-use Rattle.encoding.specs.Message.{list, exception, class, Read, parameters, markerForm, contents, sizeForm, versionForm, ended, body, noTop, limit, afterRules, unless, rules}
+use Rattle.encoding.specs.Message.{list, exception, class, Read, encapsulate, parameters, markerForm, contents, sizeForm, versionForm, ended, body, noTop, limit, afterRules, unless, rules}
 
 pub held-parameters : (T : List ℕ) (t : ℕ) → Held (parameters T t)
 unfolding parameters
@@ -51,6 +53,31 @@ pub ended-ok : {A : Type 0} (a : A) (xs : List ℕ) {b : A} {n : ℕ} → ended 
 unfolding ended
 ended-ok a [] h = (refl, cc, cc)
 ended-ok a (x ∷ xs) h = absurd (ok≢bad h refl)
+
+-- ---- the encapsulation
+
+pub length-encapsulate : (b : List ℕ) → length (encapsulate b) ≡ 6 + length b
+unfolding encapsulate
+length-encapsulate b = length-append (leBytes 4 (6 + length b)) (1 ∷ 1 ∷ b) ∙ omega (arith, length-leBytes 4 (6 + length b))
+
+shift-twice : {A : Type 0} (n k : ℕ) (r : Res A) → shift n (shift k r) ≡ shift (n + k) r
+unfolding shift
+shift-twice n k (ok a m) = ap (ok a) (omega arith)
+shift-twice n k (bad c q) = ap (bad c) (omega arith)
+
+-- an encapsulation is read as what it holds, six bytes on
+pub body-encapsulated : (T : List ℕ) (top : ℕ) (b : List ℕ) → 6 + length b < 2 ^ 31 → body T top (encapsulate b) ≡ shift 6 ((contents T top >>= ended) b)
+unfolding body sizeForm versionForm encapsulate leBytes
+body-encapsulated T top b h =
+    let n : ℕ = 6 + length b in
+    let w : List ℕ = leBytes 4 n in
+    let m : List ℕ = w ++ (1 ∷ 1 ∷ b) in
+    let right : sizeForm (length m) n ≡ 0 = rw (le-ltb n 6 (omega arith), eq-eqb n (length m) (sym (length-encapsulate b))) in
+    let versioned : Parser Read = must versionForm (number 2) >>= λ _. contents T top >>= ended in
+    bind-next (must (sizeForm (length m)) (number 4)) (λ _. versioned) m (must-step (number 4) m (sizeForm (length m)) (number-written 4 n (1 ∷ 1 ∷ b) (omega arith)) right)
+    ∙ ap (λ (z : List ℕ). shift 4 (versioned z)) (drop-at w (1 ∷ 1 ∷ b) 4 (length-leBytes 4 n))
+    ∙ ap (shift 4) (bind-next (must versionForm (number 2)) (λ _. contents T top >>= ended) (1 ∷ 1 ∷ b) (must-step (number 2) (1 ∷ 1 ∷ b) versionForm (number-written 2 257 b (omega arith)) refl))
+    ∙ shift-twice 4 2 ((contents T top >>= ended) b)
 
 -- ---- the rules before the body
 
@@ -85,6 +112,10 @@ module _ (T : List ℕ) (top : ℕ) (m : List ℕ) where
       go fine e h = go₂ judged refl e h
       go (fault c p) e h = absurd (ok≢bad h refl)
 
-  pub rules-step : {r : Read} {n : ℕ} → Admitted T top m r n → rules T top m ≡ ok r n
+  -- past table, top and limit the rules are the body
+  pub rules-body : faults T ≡ fine → noTop T top ≡ false → length m ≤ limit → rules T top m ≡ body T top m
   unfolding rules afterRules unless firstOf
-  rules-step A = rw (A .table, A .top-right, le-ltb limit (length m) (A .short)) (A .read)
+  rules-body f t l = rw (f, t, le-ltb limit (length m) l)
+
+  pub rules-step : {r : Read} {n : ℕ} → Admitted T top m r n → rules T top m ≡ ok r n
+  rules-step A = rules-body (A .table) (A .top-right) (A .short) ∙ A .read

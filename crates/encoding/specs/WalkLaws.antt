@@ -1,9 +1,9 @@
 -- The slices of a record, step by step: what an acceptance tells, and how it is built.
 --
---   Heads, head-ok, head-step    flags and type ID; head-refused where the ID is judged away
+--   Heads, head-ok               flags and type ID; head-refused where the ID is judged away
 --   heads-later                  behind a slice of a format the flags say the same format
 --   Sliced, slice-ok, slice-step one slice; slice-refused where its head is refused
---   Walk, walk-of, of-walk       a walk over slices that accepts, slice by slice
+--   Walk, walk-of                a walk over slices that accepts, slice by slice
 use mathlib.Core.Path.{_≡_, refl, sym, ap, ap₂, _∙_}
 use mathlib.Core.Bool.{Bool, true, false, Bool·beq}
 use mathlib.Core.Option.{Option, none, some}
@@ -13,7 +13,7 @@ use native.Mathlib.Omega.{arith}
 use lib.ListN.{drop}
 use borrow.Author.Tests.{not-false, ne-eqb}
 use Rattle.encoding.specs.Result.{ok, bad, Parser, pick, _>>=_, pure, fail, judged, must, made, mapc, shift, recall, recalled}
-use Rattle.encoding.specs.ResultLaws.{ok≢bad, firstOf-ok, Bound, bind-ok, bind-step, bind-bad, bind-next, must-ok, must-step, mapc-ok, mapc-step, recall-ok, recall-step}
+use Rattle.encoding.specs.ResultLaws.{ok≢bad, firstOf-ok, Bound, bind-ok, bind-step, bind-bad, bind-next, must-ok, must-step, mapc-ok, recall-ok, recall-step}
 use Rattle.encoding.specs.Number.{byte, string}
 use Rattle.encoding.specs.NumberLaws.{byte-canonical}
 use Rattle.encoding.specs.Slice.{Format, compact, sliced, isSliced, Slice, bit, formatOf, Stand, later, mixed, due, flagForm, Head, head, Stage, standOf, finished, meaning, Meaning, idForm, meaningForm, enterSlice, slice, Chain, ahead, unlessFinished, walk}
@@ -73,19 +73,6 @@ module _ (s : Stand) (j : Format → List ℕ → ℕ) (xs : List ℕ) where
     same-format : h .format ≡ formatOf (H .flags)
     unfolding headOf
     same-format = ap (λ (x : Head). x .format) (H .is)
-
-    pub head-step : (due s (h .format) ≡ true → j (h .format) (h .id) ≡ 0) → head s j xs ≡ ok h n
-    unfolding head idOf headOf
-    head-step right =
-        bind-step (must (flagForm s) byte) idOf xs (must-step byte xs (flagForm s) (H .read) (H .form))
-        (mapc-step (pick (due s (formatOf (H .flags))) (must (j (formatOf (H .flags))) string) (pure [])) (drop 1 xs) (λ nm _. headOf (H .flags) nm)
-        (ap (λ (g : Format). pick (due s g) (must (j g) string) (pure []) (drop 1 xs)) (sym same-format) ∙ due-step (due s (h .format)) (H .id-read) right))
-        ∙ ap₂ ok (sym (H .is)) (sym (H .sum))
-      where
-        due-step : (q : Bool) → pick q string (pure []) (drop 1 xs) ≡ ok (h .id) (H .idBytes) → (q ≡ true → j (h .format) (h .id) ≡ 0)
-            → pick q (must (j (h .format)) string) (pure []) (drop 1 xs) ≡ ok (h .id) (H .idBytes)
-        due-step true e r = must-step string (drop 1 xs) (j (h .format)) e (r refl)
-        due-step false e r = e
 
     -- an ID that is due and judged away is refused at its own place
     pub head-refused : (c : ℕ) → due s (h .format) ≡ true → j (h .format) (h .id) ≡ suc c → head s j xs ≡ bad (suc c) 1
@@ -178,10 +165,3 @@ module _ (T : List ℕ) (top : ℕ) where
           → ((st′ : Stage) (ys : List ℕ) (c′ : Chain) (m : ℕ) → walk T top f st′ ys ≡ ok c′ m → Walk T top f st′ ys c′ m) → Walk T top (suc f) st xs c n
       go none d e ih = go₂ (bind-ok (slice T top st) (continue f) xs e) d ih
       go (some g) d e ih = let ec : c ≡ record { format = g; list = [] } = cc in let en : n ≡ 0 = cc in rw (ec, en) (done d)
-
-  pub of-walk : {f : ℕ} {st : Stage} {xs : List ℕ} {c : Chain} {n : ℕ} → Walk T top f st xs c n → walk T top f st xs ≡ ok c n
-  unfolding walk unlessFinished pure continue
-  of-walk (done {f = zero} {st = st} {xs = xs} d) = rw d
-  of-walk (done {f = suc f} {st = st} {xs = xs} d) = rw d
-  of-walk (next {f = f} {st = st} {xs = xs} {sl = sl} {st′ = st′} {k = k} d e r) =
-      rw d (bind-step (slice T top st) (continue f) xs e (mapc-step (walk T top f st′) (drop k xs) (λ c _. ahead sl c) (of-walk r)))

@@ -9,19 +9,19 @@ use mathlib.Core.List.{List, [], _∷_, _++_, append-nil}
 use Prim.Native.Nat.{ℕ, _+_, _≤_}
 use native.Mathlib.Nat.{add-zero}
 use native.Mathlib.Omega.{arith}
-use lib.ListN.{length, take, drop, length-append, length-drop, take-append-drop}
-use lib.Seq.{drop-at, drop-length}
+use lib.ListN.{length, take, drop, length-drop, take-append-drop}
+use lib.Seq.{drop-length}
 use lib.Dec.{eqb, ltb}
-use borrow.Author.Tests.{not-false, eqb-true, eqb-false, ltb-false, eq-eqb, le-ltb}
-use Rattle.encoding.specs.Result.{ok, Parser, pick, _>>=_, must, mapc}
+use borrow.Author.Tests.{not-false, eqb-true, eqb-false, ltb-false}
+use Rattle.encoding.specs.Result.{ok, Parser, pick, shift, _>>=_, must, mapc}
 use Rattle.encoding.specs.ResultLaws.{either-false, pick-ok, pick-true, Bound, bind-ok, bind-step, bind-take, must-ok, must-step, mapc-ok, mapc-step, held-took}
 use Rattle.encoding.specs.Number.{byte, number, leBytes}
-use Rattle.encoding.specs.NumberLaws.{Bytes, bytes-drop, byte-written, byte-canonical, length-leBytes, number-written, number-canonical}
+use Rattle.encoding.specs.NumberLaws.{Bytes, bytes-drop, byte-written, byte-canonical, number-canonical}
 use Rattle.encoding.specs.Table.{kind}
 use Rattle.encoding.specs.RuleLaws.{kind-known}
 use Rattle.encoding.specs.Slice.{Format, sliced, Chain, slices, first, slicesBytes}
 use Rattle.encoding.specs.Message.{Pieces, list, exception, class, Read, encode, encapsulate, parameters, markerForm, contents, sizeForm, versionForm, ended, body, rules}
-use Rattle.encoding.specs.MessageLaws.{held-contents, ended-ok, top-there, rules-ok, rules-step}
+use Rattle.encoding.specs.MessageLaws.{held-contents, ended-ok, length-encapsulate, body-encapsulated, top-there, rules-ok, rules-step}
 use Rattle.encoding.specs.Conform.{Short, Conform}
 use Rattle.laws.specs.Demands.{readAs, Follows, Exact, ExactRows}
 use Rattle.laws.specs.RowsExact.{exact-rows-from}
@@ -145,26 +145,13 @@ module _ (T : List ℕ) (top : ℕ) where
       let b : List ℕ = encode f p in
       bind-step (contents T top) ended b {m = 0} (contents-written f p C sh) (ap (ended (readAs f p)) (drop-length b)) ∙ ap (ok (readAs f p)) (add-zero (length b))
 
-  versioned-written : (f : Format) (p : Pieces) → Conform T top f p → Short (length (encode f p)) → versionedP (1 ∷ 1 ∷ encode f p) ≡ ok (readAs f p) (2 + length (encode f p))
-  unfolding versionForm leBytes
-  versioned-written f p C sh =
-      let b : List ℕ = encode f p in
-      bind-step (must versionForm (number 2)) (λ _. closedP) (1 ∷ 1 ∷ b) (must-step (number 2) (1 ∷ 1 ∷ b) versionForm (number-written 2 257 b (omega arith)) refl) (closed-written f p C sh)
-
   pub body-written : (f : Format) (p : Pieces) → Conform T top f p → Short (length (encapsulate (encode f p)))
       → body T top (encapsulate (encode f p)) ≡ ok (readAs f p) (length (encapsulate (encode f p)))
-  unfolding body sizeForm encapsulate
+  unfolding shift
   body-written f p C sh =
       let b : List ℕ = encode f p in
-      let n : ℕ = 6 + length b in
-      let w : List ℕ = leBytes 4 n in
-      let k : length w ≡ 4 = length-leBytes 4 n in
-      let l : length (w ++ (1 ∷ 1 ∷ b)) ≡ n = omega (arith, length-append w (1 ∷ 1 ∷ b)) in
-      let s : sizeForm (length (w ++ (1 ∷ 1 ∷ b))) n ≡ 0 = rw (le-ltb n 6 (omega arith), eq-eqb n (length (w ++ (1 ∷ 1 ∷ b))) (sym l)) in
-      bind-step (must (sizeForm (length (w ++ (1 ∷ 1 ∷ b)))) (number 4)) (λ _. versionedP) (w ++ (1 ∷ 1 ∷ b))
-      (must-step (number 4) (w ++ (1 ∷ 1 ∷ b)) (sizeForm (length (w ++ (1 ∷ 1 ∷ b)))) (number-written 4 n (1 ∷ 1 ∷ b) (omega arith)) s)
-      (ap versionedP (drop-at w (1 ∷ 1 ∷ b) 4 k) ∙ versioned-written f p C (omega arith))
-      ∙ ap (ok (readAs f p)) (omega arith)
+      let l = length-encapsulate b in
+      body-encapsulated T top b (omega (arith, l)) ∙ ap (shift 6) (closed-written f p C (omega (arith, l))) ∙ ap (ok (readAs f p)) (sym l)
 
 -- ---- the rules
 

@@ -5,29 +5,29 @@
 --   conform-newer, rows-newer                   what the old table makes of the pieces conforms to it; its rows
 --   newer-read, newer-refused, newer-reading    the promises
 use mathlib.Core.Path.{_≡_, refl, sym, ap, _∙_, subst, subst₂}
-use mathlib.Core.Bool.{Bool, true, false, true≢false}
+use mathlib.Core.Bool.{true, false, true≢false}
 use mathlib.Core.Logic.{⊎-elim}
 use mathlib.Core.Option.{none}
 use mathlib.Core.List.{List, [], _∷_, _++_, append-assoc, append-nil}
 use Prim.Native.Nat.{ℕ, _+_, _≤_, _<_}
 use native.Mathlib.Omega.{arith}
-use lib.ListN.{length, length-append}
-use lib.Seq.{drop-at}
-use borrow.Author.Tests.{le-leb, lt-leb, le-ltb, eq-eqb}
-use Rattle.encoding.specs.Result.{Res, ok, bad, Parser, pick, _>>=_, pure, shift, judged, must, made, mapc, recalled, recall, firstOf}
+use lib.ListN.{length}
+use borrow.Author.Tests.{le-leb, lt-leb, le-ltb}
+use Rattle.encoding.specs.Result.{Res, ok, bad, Parser, shift, must, made, mapc}
 use Rattle.encoding.specs.ResultLaws.{bind-bad, bind-next, must-step}
-use Rattle.encoding.specs.Number.{byte, number, leBytes, string, stringBytes}
-use Rattle.encoding.specs.NumberLaws.{byte-written, length-leBytes, number-written, string-written}
-use Rattle.encoding.specs.Table.{types, kind, isRecord, fine, faults, named}
+use Rattle.encoding.specs.Number.{byte, stringBytes}
+use Rattle.encoding.specs.NumberLaws.{byte-written}
+use Rattle.encoding.specs.Table.{types, kind, isRecord, named}
 use Rattle.encoding.specs.RuleLaws.{record-kind, named-ok, name-short}
 use Rattle.encoding.specs.Optional.{Piece}
-use Rattle.encoding.specs.Slice.{Format, compact, sliced, Slice, known, passed, bit, formatOf, first, later, due, flagForm, Head, head, seek, standOf, finished, meaning, isNone, idForm, meaningForm, slice, Chain, unlessFinished, walk, slices, anyOptional, hasOptionals, idOf, dataBytes, flagBits, sliceFront, isLast, slicesBytes}
-use Rattle.encoding.specs.Message.{Pieces, list, exception, class, Read, encode, encapsulate, markerForm, contents, sizeForm, versionForm, ended, body, noTop, limit, afterRules, unless, rules, rows, Answer, answer, within, room, reading, accepted}
-use Rattle.encoding.specs.MessageLaws.{top-there}
+use Rattle.encoding.specs.Slice.{Format, compact, sliced, Slice, known, passed, first, later, due, seek, standOf, finished, isNone, idForm, slice, Chain, unlessFinished, walk, slices, anyOptional, hasOptionals, idOf, dataBytes, flagBits, sliceFront, isLast, slicesBytes}
+use Rattle.encoding.specs.WalkLaws.{head-ok, head-refused, slice-refused}
+use Rattle.encoding.specs.Message.{Pieces, list, exception, class, Read, encode, encapsulate, markerForm, contents, ended, body, noTop, limit, rules, rows, Answer, answer, within, room, reading, accepted}
+use Rattle.encoding.specs.MessageLaws.{top-there, length-encapsulate, body-encapsulated, rules-body}
 use Rattle.encoding.specs.Conform.{Short, Slices, Conform}
 use Rattle.encoding.specs.Extends.{Extends, TopsMatch, as-records, as-lists, SameOwner, as-tops, lose}
 use Rattle.laws.specs.Demands.{readAs, Follows, Kept, firstId, Foreign, an-exception, a-class, Newer, Understood, NewerRead, NewerRefused, NewerReading}
-use Rattle.laws.specs.SliceExact.{content-any, flags-written}
+use Rattle.laws.specs.SliceExact.{content-any, head-written}
 use Rattle.laws.specs.MessageExact.{exact-message}
 use Rattle.laws.specs.LoseLaws.{lose-bytes}
 use Rattle.laws.specs.OptionalNewer.{owned-newer}
@@ -82,13 +82,6 @@ old-top old new top top′ (as-records l S) = rw (lt-leb (types old) top l, le-l
     go k r = ⊎-elim (λ e. omega arith) (λ e. omega arith) (record-kind k r)
 old-top old new top top′ (as-lists l l′ k k′ M) = rw (lt-leb (types old) top l, le-ltb (kind old top) 13 (omega arith))
 
--- what is encapsulated is no longer than the whole
-inside-short : (m b : List ℕ) → m ≡ encapsulate b → length m ≤ limit → 6 + length b ≤ limit
-unfolding encapsulate
-inside-short m b e l =
-    let w : List ℕ = leBytes 4 (6 + length b) in
-    omega (arith, ap length e, length-append w (1 ∷ 1 ∷ b), length-leBytes 4 (6 + length b))
-
 module _ (old new : List ℕ) (top top′ : ℕ) (m : List ℕ) (f : Format) (p : Pieces) (N : Newer old new top top′ m f p) where
   followed : Follows new top′ m f p
   followed = exact-message new top′ m f p (N .taken) (N .bytes) .0 (N .accepted) .0
@@ -96,7 +89,7 @@ module _ (old new : List ℕ) (top top′ : ℕ) (m : List ℕ) (f : Format) (p 
   understood : ((place : ℕ) → Foreign old f p place → ⊥) → Understood old new top top′ m f p
   understood fit =
       let E = followed in
-      let short : Short (length (encode f p)) = omega (arith, inside-short m (encode f p) (E .encoded) (E .short)) in
+      let short : Short (length (encode f p)) = omega (arith, ap length (E .encoded) ∙ length-encapsulate (encode f p), E .short) in
       record {
         pieces = lose old top p;
         taken = length m;
@@ -115,55 +108,19 @@ newer-read = understood
 
 -- ---- the old table refuses: compact, and the first type ID is unknown to it
 
-module _ (T : List ℕ) (top : ℕ) (o : List ℕ) (unknown : named T o ≡ none) (short : Short (length o)) where
-  head-refused : (opt last : Bool) (r : List ℕ) → head first (idForm T (seek first)) (flagBits compact true opt last ∷ (stringBytes o ++ r)) ≡ bad 15 1
-  unfolding head idForm isNone due mapc made must judged shift
-  head-refused opt last r =
-      let f : ℕ = flagBits compact true opt last in
-      let w : List ℕ = stringBytes o ++ r in
-      let F = flags-written first compact opt last tt in
-      let rest : Format → Res Head = λ g. mapc (λ nm _. record { format = formatOf f; optionals = bit f 4; last = bit f 32; id = nm }) (pick (due first g) (must (idForm T (seek first) g) string) (pure [])) w in
-      let away : rest compact ≡ bad 15 0 = rw (mapc, must, string-written o r (content-any o) short, unknown) in
-      bind-next (must (flagForm first) byte) _ (f ∷ w) (must-step byte (f ∷ w) (flagForm first) (byte-written f w) (F .0)) ∙ ap (shift 1) (ap rest (F .1) ∙ away)
-
-  slice-refused : (opt last : Bool) (r : List ℕ) → slice T top (seek first) (flagBits compact true opt last ∷ (stringBytes o ++ r)) ≡ bad 15 1
-  unfolding slice standOf recall recalled must judged
-  slice-refused opt last r =
-      let judge : Head → ℕ = λ h. meaningForm (meaning T top (seek first) h) in
-      ap (recalled 14) (bind-bad (must judge (head first (idForm T (seek first)))) _ (flagBits compact true opt last ∷ (stringBytes o ++ r)) (ap (judged judge) (head-refused opt last r)))
-
-  -- at the type ID, behind the flags
-  slices-refused : (ps : List Piece) (ss : List Slice) → slices T top (slicesBytes compact first (known o ps ∷ ss)) ≡ bad 15 1
-  unfolding slices slicesBytes sliceFront walk unlessFinished finished due idOf hasOptionals
-  slices-refused ps ss =
-      let d : List ℕ = dataBytes (known o ps) in
-      let w : List ℕ = slicesBytes compact (later compact) ss in
-      let r : List ℕ = d ++ w in
-      let spelt : stringBytes o ++ [] ++ d ++ w ≡ stringBytes o ++ r = rw (append-nil (stringBytes o)) (append-assoc (stringBytes o) d w) in
-      bind-bad (slice T top (seek first)) _ _ (ap (λ (z : List ℕ). slice T top (seek first) (flagBits compact true (anyOptional ps) (isLast ss) ∷ z)) spelt ∙ slice-refused (anyOptional ps) (isLast ss) r)
-
--- ---- where a refusal of the contents stands in the message
-
-module _ (T : List ℕ) (top : ℕ) (b : List ℕ) (c q : ℕ) (refuses : contents T top b ≡ bad c q) where
-  body-refused : 6 + length b ≤ limit → body T top (encapsulate b) ≡ bad c (6 + q)
-  unfolding body sizeForm versionForm encapsulate leBytes shift
-  body-refused h =
-      let n : ℕ = 6 + length b in
-      let w : List ℕ = leBytes 4 n in
-      let m : List ℕ = w ++ (1 ∷ 1 ∷ b) in
-      let k : length w ≡ 4 = length-leBytes 4 n in
-      let s : sizeForm (length m) n ≡ 0 = rw (le-ltb n 6 (omega arith), eq-eqb n (length m) (omega (arith, k, length-append w (1 ∷ 1 ∷ b)))) in
-      let versioned : Parser Read = must versionForm (number 2) >>= λ _. contents T top >>= ended in
-      let v : versioned (1 ∷ 1 ∷ b) ≡ bad c (2 + q) =
-      bind-next (must versionForm (number 2)) (λ _. contents T top >>= ended) (1 ∷ 1 ∷ b) (must-step (number 2) (1 ∷ 1 ∷ b) versionForm (number-written 2 257 b (omega arith)) refl)
-      ∙ ap (shift 2) (bind-bad (contents T top) ended b refuses) in
-      bind-next (must (sizeForm (length m)) (number 4)) (λ _. versioned) m (must-step (number 4) m (sizeForm (length m)) (number-written 4 n (1 ∷ 1 ∷ b) (omega arith)) s)
-      ∙ ap (λ (z : List ℕ). shift 4 (versioned z)) (drop-at w (1 ∷ 1 ∷ b) 4 k) ∙ ap (shift 4) v ∙ ap (bad c) (omega arith)
-
--- past the table's rules, the top and the limit the rules are the body
-rules-body : (T : List ℕ) (top : ℕ) (m : List ℕ) → faults T ≡ fine → noTop T top ≡ false → length m ≤ limit → rules T top m ≡ body T top m
-unfolding rules afterRules unless firstOf
-rules-body T top m f t l = rw (f, t, le-ltb limit (length m) l)
+-- at the type ID, behind the flags
+slices-refused : (T : List ℕ) (top : ℕ) (o : List ℕ) → named T o ≡ none → Short (length o) → (ps : List Piece) (ss : List Slice)
+    → slices T top (slicesBytes compact first (known o ps ∷ ss)) ≡ bad 15 1
+unfolding slices slicesBytes sliceFront walk unlessFinished finished standOf due idForm isNone idOf hasOptionals
+slices-refused T top o unknown short ps ss =
+    let d : List ℕ = dataBytes (known o ps) in
+    let w : List ℕ = slicesBytes compact (later compact) ss in
+    let xs : List ℕ = flagBits compact true (anyOptional ps) (isLast ss) ∷ (stringBytes o ++ (d ++ w)) in
+    let H = head-written first (λ _ _. 0) compact (anyOptional ps) (isLast ss) o (d ++ w) tt (content-any o, short, refl) in
+    let R = head-refused first (idForm T (seek first)) xs _ _ (head-ok first (λ _ _. 0) xs _ _ H .0) 14 refl (rw unknown) in
+    let spelt : stringBytes o ++ [] ++ d ++ w ≡ stringBytes o ++ (d ++ w) = rw (append-nil (stringBytes o)) (append-assoc (stringBytes o) d w) in
+    bind-bad (slice T top (seek first)) _ _
+    (ap (λ (z : List ℕ). slice T top (seek first) (flagBits compact true (anyOptional ps) (isLast ss) ∷ z)) spelt ∙ slice-refused T top (seek first) xs 1 R)
 
 top-kind : {old new : List ℕ} {top top′ : ℕ} → TopsMatch old new top top′ → kind old top ≡ kind new top′
 top-kind (as-records l S) = S .kinds
@@ -192,11 +149,13 @@ module _ (old new : List ℕ) (X : Extends old new) (top top′ : ℕ) where
       ∙ ap (λ (r : Res Chain). shift 1 (made (λ (c : Chain) _. readAs (c .format) (class (c .list))) r)) e)
 
 pub newer-refused : NewerRefused
+unfolding shift
 newer-refused old new top top′ m f p N place F = go F (followed old new top top′ m f p N)
   where
     whole : (b : List ℕ) (q : ℕ) → m ≡ encapsulate b → length m ≤ limit → contents old top b ≡ bad 15 q → rules old top m ≡ bad 15 (6 + q)
     whole b q e l h =
-        rules-body old top m (N .extends .old-right) (old-top old new top top′ (N .tops)) l ∙ ap (body old top) e ∙ body-refused old top b 15 q h (inside-short m b e l)
+        rules-body old top m (N .extends .old-right) (old-top old new top top′ (N .tops)) l ∙ ap (body old top) e
+        ∙ body-encapsulated old top b (omega (arith, ap length e ∙ length-encapsulate b, l)) ∙ ap (shift 6) (bind-bad (contents old top) ended b h)
 
     go : {g : Format} {p : Pieces} {place : ℕ} → Foreign old g p place → Follows new top′ m g p → rules old top m ≡ bad 15 place
     go (an-exception {ss = ss} z) E =

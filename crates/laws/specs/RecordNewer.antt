@@ -111,7 +111,7 @@ module _ (old new : List ℕ) (X : Extends old new) where
     pub pair-named : named old (nameOf new u) ≡ some t
     pair-named = ap (named old) (sym (P .same .names)) ∙ named-at old (X .old-right) t (P .below) (P .same .old-one)
 
-    pub bases-none : base new u ≡ 0 → base old t ≡ 0
+    bases-none : base new u ≡ 0 → base old t ≡ 0
     bases-none e = go (base old t) refl (subst (BasesMatch old new (base old t)) e (P .bases))
       where
         go : (b : ℕ) → base old t ≡ b → BasesMatch old new b zero → base old t ≡ 0

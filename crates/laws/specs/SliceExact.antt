@@ -41,10 +41,10 @@ Agrees first g = Unit {0}
 Agrees (later h) g = h ≡ g
 
 -- a flags byte that is right there, and its bits
-abbrev pub Flags : Stand → Format → Bool → Bool → ℕ → Type 0
+abbrev Flags : Stand → Format → Bool → Bool → ℕ → Type 0
 Flags s g opt last f = (flagForm s f ≡ 0) × (formatOf f ≡ g) × (bit f 4 ≡ opt) × (bit f 32 ≡ last)
 
-pub flags-written : (s : Stand) (g : Format) (opt last : Bool) → Agrees s g → Flags s g opt last (flagBits g (due s g) opt last)
+flags-written : (s : Stand) (g : Format) (opt last : Bool) → Agrees s g → Flags s g opt last (flagBits g (due s g) opt last)
 unfolding flagForm flagBits due mixed firstOf
 flags-written first compact true true a = (refl, refl, refl, refl)
 flags-written first compact true false a = (refl, refl, refl, refl)
