@@ -5,8 +5,8 @@
 --   kind-known                     a kind is at most 15
 --   record-kind, owns-record       a record is an exception or a class, and takes member rows
 --   base-right                     a base is a smaller row of the same kind
---   name-short                     a name is at most 255 bytes long
 --   named-ok, named-at             the record of a name is a record of that name; a record is the one of its name
+--   named-short                    a record's name is at most 255 bytes long
 --   names-differ                   records of one name are one
 --   climb-enough, chain-node       a chain is the row, then the chain of its base
 --   Own, required-own, optional-own  where a member stands among the rows of its owner
@@ -292,7 +292,7 @@ module _ (T : List ℕ) (right : faults T ≡ fine) where
             let p : b ≡ r = omega arith in
             subst (λ (x : ℕ). (x < t) × (kind T x ≡ kind T t)) p (l, eqb-true (kind T b) (kind T t) (not-false (eqb (kind T b) (kind T t)) (s .1)))
 
-    pub name-short : length (nameOf T t) ≤ 255
+    name-short : length (nameOf T t) ≤ 255
     unfolding typeRules nameOf
     name-short =
         let a = both-false (isRecord (kind T t)) (eqb (field T t 4) 0 || ltb 255 (field T t 4)) (type-test t below 8) rec in
@@ -321,6 +321,9 @@ module _ (T : List ℕ) (right : faults T ≡ fine) where
       (λ j m f.
       let b = both-true (isRecord (kind T j)) (sameBytes (nameOf T t) (nameOf T j)) f in
       earlier-differ t l e j m (b .0) (sym (sameBytes-ok (nameOf T t) (nameOf T j) (b .1))))
+
+  pub named-short : (nm : List ℕ) (t : ℕ) → named T nm ≡ some t → length nm ≤ 255
+  named-short nm t e = let n = named-ok T nm t e in subst (λ (l : List ℕ). length l ≤ 255) (sym (n .2)) (name-short t (n .0) (n .1))
 
   pub taken-at : (t : ℕ) → t < types T → owns (kind T t) ≡ true → field T t 0 ≡ taken T t
   unfolding typeRules

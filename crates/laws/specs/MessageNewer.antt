@@ -4,8 +4,8 @@
 --
 --   conform-newer, rows-newer                   what the old table makes of the pieces conforms to it; its rows
 --   newer-read, newer-refused, newer-reading    the promises
-use mathlib.Core.Path.{_≡_, refl, sym, ap, _∙_, subst, subst₂}
-use mathlib.Core.Bool.{true, false, true≢false}
+use mathlib.Core.Path.{_≡_, refl, sym, ap, _∙_, subst₂}
+use mathlib.Core.Bool.{true, false}
 use mathlib.Core.Logic.{⊎-elim}
 use mathlib.Core.Option.{none}
 use mathlib.Core.List.{List, [], _∷_, _++_, append-assoc, append-nil}
@@ -18,7 +18,7 @@ use Rattle.encoding.specs.ResultLaws.{bind-bad, bind-next, must-step}
 use Rattle.encoding.specs.Number.{byte, stringBytes}
 use Rattle.encoding.specs.NumberLaws.{byte-written}
 use Rattle.encoding.specs.Table.{types, kind, isRecord, named}
-use Rattle.encoding.specs.RuleLaws.{record-kind, named-ok, name-short}
+use Rattle.encoding.specs.RuleLaws.{record-kind, named-short}
 use Rattle.encoding.specs.Optional.{Piece}
 use Rattle.encoding.specs.Slice.{Format, compact, sliced, Slice, known, passed, first, later, due, seek, standOf, finished, isNone, idForm, slice, Chain, unlessFinished, walk, slices, anyOptional, hasOptionals, idOf, dataBytes, flagBits, sliceFront, isLast, slicesBytes}
 use Rattle.encoding.specs.WalkLaws.{head-ok, head-refused, slice-refused}
@@ -31,31 +31,30 @@ use Rattle.laws.specs.SliceExact.{content-any, head-written}
 use Rattle.laws.specs.MessageExact.{exact-message}
 use Rattle.laws.specs.LoseLaws.{lose-bytes}
 use Rattle.laws.specs.OptionalNewer.{owned-newer}
-use Rattle.laws.specs.RecordNewer.{new-record, pair-of}
+use Rattle.laws.specs.RecordNewer.{record-list, new-record, pair-of}
 use Rattle.laws.specs.SliceNewer.{slices-newer}
 use Rattle.laws.specs.RowsNewer.{pieces-kept, slices-kept}
 
 -- ---- what the old table makes of the pieces
 
--- a record is no parameter list
-record-list : (k : ℕ) → isRecord k ≡ true → k ≡ 15 → ⊥
-record-list k r e = true≢false (sym r ∙ ap (λ (x : ℕ). isRecord x) e)
+-- what would be foreign in the compact format is not compact
+else-sliced : {A : Type 0} (P : Format → Type 0) → (A → P compact) → (g : Format) → (P g → ⊥) → A → g ≡ sliced
+else-sliced P foreign compact fit a = absurd (fit (foreign a))
+else-sliced P foreign sliced fit a = refl
 
 module _ (old new : List ℕ) (X : Extends old new) (top top′ : ℕ) where
   pub conform-newer : TopsMatch old new top top′ → (g : Format) (p : Pieces) → Conform new top′ g p → Short (length (encode g p)) → ((place : ℕ) → Foreign old g p place → ⊥)
       → Conform old top g (lose old top p)
   unfolding encode lose
   conform-newer (as-records l S) g (list ps) C h fit = absurd (record-list (kind new top′) (new-record S) (C .0))
-  conform-newer (as-records l S) g (exception ss) C h fit = (S .kinds ∙ C .0, slices-newer old new X top top′ (pair-of old new X top top′ l S) ss g first (C .1) h (go g fit))
-    where
-      go : (g : Format) → ((place : ℕ) → Foreign old g (exception ss) place → ⊥) → named old (firstId ss) ≡ none → g ≡ sliced
-      go compact fit z = absurd (fit 7 (an-exception z))
-      go sliced fit z = refl
-  conform-newer (as-records l S) g (class ss) C h fit = (S .kinds ∙ C .0, slices-newer old new X top top′ (pair-of old new X top top′ l S) ss g first (C .1) (omega (arith, h)) (go g fit))
-    where
-      go : (g : Format) → ((place : ℕ) → Foreign old g (class ss) place → ⊥) → named old (firstId ss) ≡ none → g ≡ sliced
-      go compact fit z = absurd (fit 8 (a-class z))
-      go sliced fit z = refl
+  conform-newer (as-records l S) g (exception ss) C h fit = (
+    S .kinds ∙ C .0,
+    slices-newer old new X top top′ (pair-of old new X top top′ l S) ss g first (C .1) h (else-sliced (λ f. Foreign old f (exception ss) 7) an-exception g (fit 7)),
+  )
+  conform-newer (as-records l S) g (class ss) C h fit = (
+    S .kinds ∙ C .0,
+    slices-newer old new X top top′ (pair-of old new X top top′ l S) ss g first (C .1) (omega (arith, h)) (else-sliced (λ f. Foreign old f (class ss) 8) a-class g (fit 8)),
+  )
   conform-newer (as-lists l l′ k k′ M) g (list ps) C h fit = (k, C .1, owned-newer old new top top′ M ps (C .2))
   conform-newer (as-lists l l′ k k′ M) g (exception ss) C h fit = absurd (omega (arith, k′, C .0))
   conform-newer (as-lists l l′ k k′ M) g (class ss) C h fit = absurd (omega (arith, k′, C .0))
@@ -74,6 +73,7 @@ module _ (old new : List ℕ) (X : Extends old new) (top top′ : ℕ) where
 
 -- ---- the old table accepts
 
+-- the old top is one
 old-top : (old new : List ℕ) (top top′ : ℕ) → TopsMatch old new top top′ → noTop old top ≡ false
 unfolding noTop
 old-top old new top top′ (as-records l S) = rw (lt-leb (types old) top l, le-ltb (kind old top) 13 (go (kind old top) (S .old-one)))
@@ -108,7 +108,7 @@ newer-read = understood
 
 -- ---- the old table refuses: compact, and the first type ID is unknown to it
 
--- at the type ID, behind the flags
+-- 15 at the type ID, behind the flags
 slices-refused : (T : List ℕ) (top : ℕ) (o : List ℕ) → named T o ≡ none → Short (length o) → (ps : List Piece) (ss : List Slice)
     → slices T top (slicesBytes compact first (known o ps ∷ ss)) ≡ bad 15 1
 unfolding slices slicesBytes sliceFront walk unlessFinished finished standOf due idForm isNone idOf hasOptionals
@@ -122,31 +122,31 @@ slices-refused T top o unknown short ps ss =
     bind-bad (slice T top (seek first)) _ _
     (ap (λ (z : List ℕ). slice T top (seek first) (flagBits compact true (anyOptional ps) (isLast ss) ∷ z)) spelt ∙ slice-refused T top (seek first) xs 1 R)
 
+-- the tops are of one kind
 top-kind : {old new : List ℕ} {top top′ : ℕ} → TopsMatch old new top top′ → kind old top ≡ kind new top′
 top-kind (as-records l S) = S .kinds
 top-kind (as-lists l l′ k k′ M) = k ∙ sym k′
 
-module _ (old new : List ℕ) (X : Extends old new) (top top′ : ℕ) where
-  first-refused : (ss : List Slice) → Slices new top′ compact ss → named old (firstId ss) ≡ none → slices old top (slicesBytes compact first ss) ≡ bad 15 1
-  unfolding firstId idOf
-  first-refused [] C z = absurd C
-  first-refused (passed b nm d ∷ ss) C z = let e = C .0 .format in let u : _≡_ {A = ℕ} 0 1 = cc in absurd (omega arith)
-  first-refused (known o ps ∷ ss) C z =
-      let N = named-ok new o (C .row) (C .known) in
-      let i : length o ≤ 255 = subst (λ (nm : List ℕ). length nm ≤ 255) (sym (N .2)) (name-short new (X .new-right) (C .row) (N .0) (N .1)) in
-      slices-refused old top o z (omega (arith, i)) ps ss
+-- the first slice of a compact record is known to the new table
+first-refused : (old new : List ℕ) → Extends old new → (top top′ : ℕ) (ss : List Slice) → Slices new top′ compact ss → named old (firstId ss) ≡ none
+    → slices old top (slicesBytes compact first ss) ≡ bad 15 1
+unfolding firstId idOf
+first-refused old new X top top′ [] C z = absurd C
+first-refused old new X top top′ (passed b nm d ∷ ss) C z = let e = C .0 .format in let u : _≡_ {A = ℕ} 0 1 = cc in absurd (omega arith)
+first-refused old new X top top′ (known o ps ∷ ss) C z = slices-refused old top o z (omega (arith, named-short new (X .new-right) o (C .row) (C .known))) ps ss
 
-  exception-refused : (ss : List Slice) → kind old top ≡ 13 → slices old top (slicesBytes compact first ss) ≡ bad 15 1 → contents old top (encode compact (exception ss)) ≡ bad 15 1
+module _ (T : List ℕ) (top : ℕ) (ss : List Slice) (refused : slices T top (slicesBytes compact first ss) ≡ bad 15 1) where
+  exception-refused : kind T top ≡ 13 → contents T top (encode compact (exception ss)) ≡ bad 15 1
   unfolding contents encode mapc made
-  exception-refused ss k e = rw (k, mapc, e)
+  exception-refused k = rw (k, mapc, refused)
 
-  class-refused : (ss : List Slice) → kind old top ≡ 14 → slices old top (slicesBytes compact first ss) ≡ bad 15 1 → contents old top (encode compact (class ss)) ≡ bad 15 2
+  class-refused : kind T top ≡ 14 → contents T top (encode compact (class ss)) ≡ bad 15 2
   unfolding contents encode mapc made markerForm shift
-  class-refused ss k e =
+  class-refused k =
       let w : List ℕ = slicesBytes compact first ss in
-      let rest : ℕ → Parser Read = λ _. mapc (λ (c : Chain) _. readAs (c .format) (class (c .list))) (slices old top) in
+      let rest : ℕ → Parser Read = λ _. mapc (λ (c : Chain) _. readAs (c .format) (class (c .list))) (slices T top) in
       rw k (bind-next (must markerForm byte) rest (1 ∷ w) (must-step byte (1 ∷ w) markerForm (byte-written 1 w) refl)
-      ∙ ap (λ (r : Res Chain). shift 1 (made (λ (c : Chain) _. readAs (c .format) (class (c .list))) r)) e)
+      ∙ ap (λ (r : Res Chain). shift 1 (made (λ (c : Chain) _. readAs (c .format) (class (c .list))) r)) refused)
 
 pub newer-refused : NewerRefused
 unfolding shift
@@ -160,10 +160,10 @@ newer-refused old new top top′ m f p N place F = go F (followed old new top to
     go : {g : Format} {p : Pieces} {place : ℕ} → Foreign old g p place → Follows new top′ m g p → rules old top m ≡ bad 15 place
     go (an-exception {ss = ss} z) E =
         whole (encode compact (exception ss)) 1 (E .encoded) (E .short)
-        (exception-refused old new (N .extends) top top′ ss (top-kind (N .tops) ∙ E .conforms .0) (first-refused old new (N .extends) top top′ ss (E .conforms .1) z))
+        (exception-refused old top ss (first-refused old new (N .extends) top top′ ss (E .conforms .1) z) (top-kind (N .tops) ∙ E .conforms .0))
     go (a-class {ss = ss} z) E =
         whole (encode compact (class ss)) 2 (E .encoded) (E .short)
-        (class-refused old new (N .extends) top top′ ss (top-kind (N .tops) ∙ E .conforms .0) (first-refused old new (N .extends) top top′ ss (E .conforms .1) z))
+        (class-refused old top ss (first-refused old new (N .extends) top top′ ss (E .conforms .1) z) (top-kind (N .tops) ∙ E .conforms .0))
 
 -- ---- the reader's answer, where the lent list has room
 

@@ -1,6 +1,7 @@
 -- Records of an old and a new table that match, and their chains.
 --
 --   Pair old new t u              record t of the old table and record u of the new one match
+--   record-list, new-record       a record is no parameter list; what matches a record is one
 --   pair-of, pair-only            records of one kind and name match; a new record has one match at most
 --   named-both, named-only        a name known to both is of a pair; what the old table names the new one names
 --   pair-named                    the old table finds its record by the new one's name
@@ -9,7 +10,7 @@
 --   Descends T top t              top is in the chain of t; descends-ok: it is t, or in the chain of t's base
 --   descends-newer                where the new top is in a new record's chain, the old top is in that of its match
 use mathlib.Core.Path.{_≡_, refl, sym, ap, _∙_, subst}
-use mathlib.Core.Bool.{Bool, true, false, _||_, false≢true}
+use mathlib.Core.Bool.{Bool, true, false, _||_, true≢false, false≢true}
 use mathlib.Core.Option.{none, some}
 use mathlib.Core.List.{List}
 use Prim.Native.Nat.{ℕ, zero, suc, _<_}
@@ -79,6 +80,10 @@ pub record Pair (old new : List ℕ) (t u : ℕ) : Type 0 where
 pub data Bases (old new : List ℕ) : ℕ → ℕ → Type 0 where
   neither : Bases old new zero zero
   both : {t u : ℕ} → Pair old new t u → Bases old new (suc t) (suc u)
+
+-- a record is no parameter list
+pub record-list : (k : ℕ) → isRecord k ≡ true → k ≡ 15 → ⊥
+record-list k r e = true≢false (sym r ∙ ap (λ (x : ℕ). isRecord x) e)
 
 pub new-record : {old new : List ℕ} {t u : ℕ} → SameRecord old new t u → isRecord (kind new u) ≡ true
 new-record S = ap (λ (k : ℕ). isRecord k) (sym (S .kinds)) ∙ S .old-one

@@ -23,7 +23,7 @@ use Rattle.encoding.specs.Extends.{OwnersMatch, Extends, SameOwner, as-records,
 use Rattle.laws.specs.Demands.{Kept, ended, kept, lost}
 use Rattle.laws.specs.OptionalNewer.{lookup-key, optionals-match, required-positions, lookup-same, loseAll}
 use Rattle.laws.specs.LoseLaws.{losePiece-bytes, loseSlice-data, loseSlice-front, loseSlices-last}
-use Rattle.laws.specs.RecordNewer.{Bases, neither, both, bases-of, Standing, standing-base, Pair, new-record, pair-of, pair-only, pair-named, named-both}
+use Rattle.laws.specs.RecordNewer.{Bases, neither, both, bases-of, Standing, standing-base, record-list, Pair, new-record, pair-of, pair-only, pair-named, named-both}
 
 -- ---- rows joined
 
@@ -59,9 +59,6 @@ module _ (old new : List ℕ) (X : Extends old new) (top top′ : ℕ) (top-ther
       let W = match-own (C .match) .1 in
       rows-apart new (X .new-right) (C .owner′) u (n .row) (A .0) l (A .1) o (omega (arith, W .from, C .there)) (omega (arith, W .to, C .there)) (O .from) (O .to)
 
-  no-list : (u : ℕ) → isRecord (kind new u) ≡ true → kind new u ≡ 15 → ⊥
-  no-list u r k = true≢false (sym r ∙ ap (λ (x : ℕ). isRecord x) k)
-
   -- a member of a record that the old table does not know has none
   lost-record : (u : ℕ) → u < types new → isRecord (kind new u) ≡ true → named old (nameOf new u) ≡ none
       → (q : Bool) (n : Member) → Own new (field new u 0) (field new u 1) q n → (m : ℕ) → Counterpart old new top top′ m (n .row) → ⊥
@@ -70,7 +67,7 @@ module _ (old new : List ℕ) (X : Extends old new) (top top′ : ℕ) (top-ther
     where
       go : SameOwner old new top top′ (C .owner) u → ⊥
       go (as-records k S) = some≢none (pair-named old new X (C .owner) u (pair-of old new X (C .owner) u k S)) z
-      go (as-tops e f k k′) = no-list u r k′
+      go (as-tops e f k k′) = record-list (kind new u) r k′
 
   -- nor has an optional whose tag the old owner does not know
   lost-optional : (t u : ℕ) → Owners old new top top′ t u → (k : ℕ) (n : Member) → lookup k (Table.optional new u) ≡ some n → lookup k (Table.optional old t) ≡ none
@@ -198,7 +195,7 @@ module _ (old new : List ℕ) (X : Extends old new) (top top′ : ℕ) (top-ther
     where
       only : (o : ℕ) → SameOwner old new top top′ o u → o ≡ t
       only o (as-records l S) = pair-only old new X o t u l (P .below) S (P .same)
-      only o (as-tops e f k k′) = absurd (no-list u (new-record (P .same)) k′)
+      only o (as-tops e f k k′) = absurd (record-list (kind new u) (new-record (P .same)) k′)
 
   -- the rows of slices of the new chain us, under the old chain ts
   abbrev Lists : Format → Stand → List ℕ → List ℕ → List Slice → Type 0

@@ -6,12 +6,12 @@ use mathlib.Core.Path.{_≡_, refl, sym, ap, _∙_, subst, subst₂}
 use mathlib.Core.Bool.{true}
 use mathlib.Core.Option.{Option, none, some}
 use mathlib.Core.List.{List, [], _∷_, _++_, map}
-use Prim.Native.Nat.{ℕ, suc, _≤_, _<_}
+use Prim.Native.Nat.{ℕ, suc, _<_}
 use native.Mathlib.Omega.{arith}
 use lib.ListN.{length, length-append}
 use Rattle.encoding.specs.ResultLaws.{some≢none}
 use Rattle.encoding.specs.Table.{types, kind, isRecord, nameOf, named, base, upward, chain}
-use Rattle.encoding.specs.RuleLaws.{base-right, name-short, named-ok, named-at, chain-node}
+use Rattle.encoding.specs.RuleLaws.{base-right, named-short, named-ok, named-at, chain-node}
 use Rattle.encoding.specs.Slice.{Format, sliced, Slice, known, passed, Stand, later, idOf, dataBytes, sliceFront, isLast, slicesBytes}
 use Rattle.encoding.specs.Conform.{Short, Follow, Slices}
 use Rattle.encoding.specs.Extends.{Extends, loseKnown, loseSlice}
@@ -74,7 +74,7 @@ module _ (old new : List ℕ) (X : Extends old new) where
             go₂ (here q) = absurd (some≢none (ap (named old) (G .0) ∙ ap (λ (v : ℕ). named old (nameOf new v)) q ∙ pair-named old new X top top′ tops) e)
             go₂ (above v q w) =
                 let W = base-right new (X .new-right) u l r v q in
-                let i : length o ≤ 255 = subst (λ (z : List ℕ). length z ≤ 255) (sym (G .0)) (name-short new (X .new-right) u l r) in (
+                let i = named-short new (X .new-right) o u (ap (named new) (G .0) ∙ named-at new (X .new-right) u l r) in (
                   record { format = fit e; unknown = e; content = content-any o; short = omega (arith, i); shorter = short .0 },
                   ih v (omega (arith, W .0)) (ap (λ (k : ℕ). isRecord k) (W .1) ∙ r) w (subst (λ (c : ℕ). Follow new (upward (chain new) c) ss) q (G .2)) (short .1) (λ z. fit e),
                 )
