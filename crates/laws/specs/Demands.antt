@@ -228,12 +228,13 @@ pub record Newer (old new : List ℕ) (top top′ : ℕ) (m : List ℕ) (f : For
   pub taken : ℕ
   pub accepted : rules new top′ m ≡ ok (readAs f p) taken
 
--- what the old table makes of it: accepted, in the same format, with the rows of the members that it knows
+-- what the old table makes of it: accepted, in the same format, with the rows of the members that it knows; it skips no fewer slices
 pub record Understood (old new : List ℕ) (top top′ : ℕ) (m : List ℕ) (f : Format) (p : Pieces) : Type 0 where
   pub pieces : Pieces
   pub taken : ℕ
   pub accepted : rules old top m ≡ ok (readAs f pieces) taken
   pub kept : Kept old new top top′ (rows new top′ f p) (rows old top f pieces)
+  pub skips : slicesSkipped p ≤ slicesSkipped pieces
 
 abbrev pub NewerRead : Type 0
 NewerRead =

@@ -4,18 +4,20 @@
 --   loseSlice-data, loseSlice-front    of a slice: its data; its flags, type ID and size
 --   loseSlices-last, loseSlices-bytes  of slices
 --   lose-bytes                         of a message
+--   lose-passed                        the slices skipped are no fewer
 use mathlib.Core.Path.{_≡_, refl, sym, ap, ap₂, _∙_}
 use mathlib.Core.Bool.{Bool, true, _||_}
 use mathlib.Core.Option.{Option, none, some}
 use mathlib.Core.List.{List, [], _∷_, _++_, map, append-assoc}
-use Prim.Native.Nat.{ℕ}
+use Prim.Native.Nat.{ℕ, _≤_}
+use native.Mathlib.Omega.{arith}
 use Rattle.encoding.specs.Result.{pick, concat}
 use Rattle.encoding.specs.Types.{bitsOf}
 use Rattle.encoding.specs.Table.{named, Member, lookup}
 use Rattle.encoding.specs.Table
 use Rattle.encoding.specs.Optional.{Piece, required, optional, skipped, headerBytes, lengthBytes, frontBytes, contentBytes, pieceBytes, isOptional}
 use Rattle.encoding.specs.Slice.{Format, Slice, known, passed, Stand, first, later, anyOptional, hasOptionals, idOf, dataBytes, sliceFront, isLast, slicesBytes}
-use Rattle.encoding.specs.Message.{Pieces, list, exception, class, encode}
+use Rattle.encoding.specs.Message.{Pieces, list, exception, class, encode, passedIn, slicesSkipped}
 use Rattle.encoding.specs.Extends.{keepOr, losePiece, loseKnown, loseSlice, lose}
 
 pub losePiece-bytes : (ms : List Member) (p : Piece) → pieceBytes (losePiece ms p) ≡ pieceBytes p
@@ -97,3 +99,20 @@ module _ (old : List ℕ) where
   lose-bytes top g (list ps) = losePieces-bytes (Table.optional old top) ps
   lose-bytes top g (exception ss) = loseSlices-bytes g first ss
   lose-bytes top g (class ss) = ap (λ (w : List ℕ). 1 ∷ w) (loseSlices-bytes g first ss)
+
+-- what the new table skipped the old one skips
+loseSlices-passed : (old : List ℕ) (ss : List Slice) → passedIn ss ≤ passedIn (map (loseSlice old) ss)
+unfolding passedIn loseSlice loseKnown
+loseSlices-passed old [] = omega arith
+loseSlices-passed old (known o ps ∷ ss) = go (named old o) (loseSlices-passed old ss)
+  where
+    go : (n : Option ℕ) → passedIn ss ≤ passedIn (map (loseSlice old) ss) → passedIn ss ≤ passedIn (loseKnown old o ps n ∷ map (loseSlice old) ss)
+    go none h = omega arith
+    go (some t) h = h
+loseSlices-passed old (passed b nm d ∷ ss) = let h = loseSlices-passed old ss in omega arith
+
+pub lose-passed : (old : List ℕ) (top : ℕ) (p : Pieces) → slicesSkipped p ≤ slicesSkipped (lose old top p)
+unfolding slicesSkipped lose
+lose-passed old top (list ps) = omega arith
+lose-passed old top (exception ss) = loseSlices-passed old ss
+lose-passed old top (class ss) = loseSlices-passed old ss

@@ -29,7 +29,7 @@ use Rattle.encoding.specs.Extends.{Extends, TopsMatch, as-records, as-lists, Sa
 use Rattle.laws.specs.Demands.{readAs, Follows, Kept, firstId, Foreign, an-exception, a-class, Newer, Understood, NewerRead, NewerRefused, NewerReading}
 use Rattle.laws.specs.SliceExact.{content-any, head-written}
 use Rattle.laws.specs.MessageExact.{exact-message}
-use Rattle.laws.specs.LoseLaws.{lose-bytes}
+use Rattle.laws.specs.LoseLaws.{lose-bytes, lose-passed}
 use Rattle.laws.specs.OptionalNewer.{owned-newer}
 use Rattle.laws.specs.RecordNewer.{record-list, new-record, pair-of}
 use Rattle.laws.specs.SliceNewer.{slices-newer}
@@ -101,6 +101,7 @@ module _ (old new : List ℕ) (top top′ : ℕ) (m : List ℕ) (f : Format) (p 
           encoded = E .encoded ∙ ap encapsulate (sym (lose-bytes old top f p));
         });
         kept = rows-newer old new (N .extends) top top′ (N .tops) (top-there new top′ (E .top-there) .0) f p (E .conforms);
+        skips = lose-passed old top p;
       }
 
 pub newer-read : NewerRead
