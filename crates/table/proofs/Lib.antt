@@ -4,3 +4,4 @@ pub mod Ranges
 pub mod Labels
 pub mod Chains
 pub mod Shapes
+pub mod Judging

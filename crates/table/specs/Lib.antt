@@ -3,3 +3,5 @@ pub mod Found
 pub mod Names
 pub mod NamesLaws
 pub mod Forms
+pub mod Checks
+pub mod ChecksLaws

@@ -1,8 +1,10 @@
 // The type table: what its bytes say. Each look-up equals its definition on any bytes: past the end is 0.
-// naming.rt has the records' names, chain.rt bases and members, forms.rt the form of an optional of each row.
+// naming.rt has the records' names, chain.rt bases and members, forms.rt the form of an optional of each row,
+// rules.rt the check of every rule.
 pub mod chain;
 pub mod forms;
 pub mod naming;
+pub mod rules;
 
 ghost use mathlib.Core.Path.{_≡_};
 ghost use Prim.Native.Nat.{_+_, _≤_, _<_};
@@ -13,6 +15,12 @@ ghost use Rattle.encoding.specs.Table.{at, types, members, names, rowAt, member
 pub enum Found {
     At(usize),
     Nothing,
+}
+
+// No rule is broken; or the first that is, as its class and its place.
+pub enum Verdict {
+    Fine,
+    Broken(usize, usize),
 }
 
 // T of the header.

@@ -1,0 +1,22 @@
+-- The passes in turn; once the type rows and the sum are fine, the member rows owner by owner are the member rows in order. Assumes nothing.
+use borrow.Author.Needs.{needs}
+use Rattle.table.proofs.Judging.{check-header, check-types, check-sum, check-members}
+use Rattle.table.proofs.rules.check.Statement.{statement}
+use Rattle.table.proofs.rules.check.Tie as tie
+
+pub check-spec : {M : Type 1} → statement M
+check-spec =
+    tie.close
+    (tie.spec
+    (λ c κs. search needs)  -- header-requires
+    (λ c. search check-header)  -- returns
+    (λ c κs. search needs)  -- type-rows-requires
+    (λ c. search needs)  -- enum-known-v
+    (λ c. search check-types)  -- returns-2
+    (λ c. search needs)  -- enum-told
+    (λ c κs. search needs)  -- types-requires
+    (λ c κs. search needs)  -- taken-requires
+    (λ c κs. search needs)  -- members-requires
+    (λ c. search check-sum)  -- returns-3
+    (λ c κs. search needs)  -- member-rows-requires
+    (λ c. search check-members))  -- returns-4

@@ -1,0 +1,16 @@
+-- By its one rule. Assumes nothing.
+use borrow.Author.Needs.{needs}
+use Rattle.table.proofs.Judging.{enum-great, enum-fine}
+use Rattle.table.proofs.rules.enum_row.Statement.{statement}
+use Rattle.table.proofs.rules.enum_row.Tie as tie
+
+pub enum-row-spec : {M : Type 1} → statement M
+enum-row-spec =
+    tie.close
+    (tie.spec
+    (λ c κs. search needs)  -- field-requires
+    (λ c κs. search needs)  -- field-requires-2
+    (λ c. search needs)  -- mul-if1
+    (λ c. search needs)  -- add-if1
+    (λ c. search enum-great)  -- returns
+    (λ c. search enum-fine))  -- returns-2

@@ -1,0 +1,30 @@
+-- The loop's invariant: the owners left decide. The measure is their number. Assumes nothing.
+use Prim.Native.Nat.{_-_}
+use borrow.Author.Needs.{needs}
+use native.Mathlib.Omega.{arith}
+use Rattle.table.proofs.Judging.{Owners, owners-begin, owners-fault, owners-next, owners-end}
+use Rattle.table.proofs.rules.member_rows.Statement.{statement}
+use Rattle.table.proofs.rules.member_rows.Tie as tie
+
+abbrev Inv-loop : tie.InvT-loop
+Inv-loop table n o₀ o = Owners table n o
+
+abbrev μ-loop : tie.MeasureT-loop
+μ-loop table n o₀ o = n - o
+
+pub member-rows-spec : {M : Type 1} → statement M
+member-rows-spec =
+    tie.close
+    (tie.spec
+    Inv-loop
+    μ-loop
+    (λ c κs. search needs)  -- types-requires
+    (λ c. search owners-begin)  -- loop-holds
+    (λ c κs. search needs)  -- owner-requires
+    (λ c. search needs)  -- enum-told
+    (λ c. search needs)  -- enum-known-v
+    (λ c. search owners-fault)  -- returns
+    (λ c. omega arith)  -- add-o
+    (λ c. omega arith)  -- loop-less
+    (λ c. search owners-next)  -- loop-again
+    (λ c. search owners-end))  -- returns-2

@@ -1,0 +1,16 @@
+-- By the row's number, then by the two kinds. Assumes nothing.
+use borrow.Author.Needs.{needs}
+use Rattle.table.proofs.Judging.{base-free, base-over, base-kinds}
+use Rattle.table.proofs.rules.no_base.Statement.{statement}
+use Rattle.table.proofs.rules.no_base.Tie as tie
+
+pub no-base-spec : {M : Type 1} → statement M
+no-base-spec =
+    tie.close
+    (tie.spec
+    (λ c. search base-free)  -- returns
+    (λ c. search base-over)  -- returns-2
+    (λ c. search needs)  -- sub-kind
+    (λ c κs. search needs)  -- kind-requires
+    (λ c κs. search needs)  -- kind-requires-2
+    (λ c. search base-kinds))  -- returns-3

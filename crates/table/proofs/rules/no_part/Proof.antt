@@ -1,0 +1,13 @@
+-- By the row's number, then by its kind. Assumes nothing.
+use borrow.Author.Needs.{needs}
+use Rattle.table.proofs.Judging.{part-above, part-below}
+use Rattle.table.proofs.rules.no_part.Statement.{statement}
+use Rattle.table.proofs.rules.no_part.Tie as tie
+
+pub no-part-spec : {M : Type 1} → statement M
+no-part-spec =
+    tie.close
+    (tie.spec
+    (λ c. search part-above)  -- returns
+    (λ c κs. search needs)  -- kind-requires
+    (λ c. search part-below))  -- returns-2

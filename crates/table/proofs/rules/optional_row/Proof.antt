@@ -1,0 +1,22 @@
+-- Its rules in turn. Assumes nothing.
+use borrow.Author.Needs.{needs}
+use Rattle.table.proofs.Judging.{optional-part, optional-mark, optional-struct, optional-great, optional-alike, optional-fine}
+use Rattle.table.proofs.rules.optional_row.Statement.{statement}
+use Rattle.table.proofs.rules.optional_row.Tie as tie
+
+pub optional-row-spec : {M : Type 1} → statement M
+optional-row-spec =
+    tie.close
+    (tie.spec
+    (λ c κs. search needs)  -- member-type-requires
+    (λ c κs. search needs)  -- no-part-requires
+    (λ c. search optional-part)  -- returns
+    (λ c κs. search needs)  -- mark-requires
+    (λ c. search optional-mark)  -- returns-2
+    (λ c κs. search needs)  -- kind-requires
+    (λ c. search optional-struct)  -- returns-3
+    (λ c κs. search needs)  -- tag-requires
+    (λ c. search optional-great)  -- returns-4
+    (λ c κs. search needs)  -- tag-alike-requires
+    (λ c. search optional-alike)  -- returns-5
+    (λ c. search optional-fine))  -- returns-6

@@ -1,0 +1,32 @@
+-- The loop's invariant: the rows left decide, and `prior` is what the rows before t take. The measure is the number of rows left. Assumes nothing.
+use Prim.Native.Nat.{_-_}
+use borrow.Author.Needs.{needs}
+use native.Mathlib.Omega.{arith}
+use Rattle.table.proofs.Judging.{Types, types-begin, types-fault, types-next, types-end}
+use Rattle.table.proofs.rules.type_rows.Statement.{statement}
+use Rattle.table.proofs.rules.type_rows.Tie as tie
+
+abbrev Inv-loop : tie.InvT-loop
+Inv-loop table n prior₀ t₀ prior t = Types table n t prior
+
+abbrev μ-loop : tie.MeasureT-loop
+μ-loop table n prior₀ t₀ prior t = n - t
+
+pub type-rows-spec : {M : Type 1} → statement M
+type-rows-spec =
+    tie.close
+    (tie.spec
+    Inv-loop
+    μ-loop
+    (λ c κs. search needs)  -- types-requires
+    (λ c. search types-begin)  -- loop-holds
+    (λ c κs. search needs)  -- type-row-requires
+    (λ c. omega (arith, c .before .before .before .loop .inv .few))  -- mul-t7
+    (λ c. omega (arith, c .before .before .before .loop .inv .few))  -- add-t8
+    (λ c. search types-fault)  -- returns
+    (λ c κs. search needs)  -- share-requires
+    (λ c. omega (arith, c .before .before .before .before .loop .inv .few, c .before .before .before .before .loop .inv .sum .bound))  -- add-prior
+    (λ c. omega (arith, c .before .before .before .before .loop .inv .few))  -- add-t
+    (λ c. omega arith)  -- loop-less
+    (λ c. search types-next)  -- loop-again
+    (λ c. search types-end))  -- returns-2
