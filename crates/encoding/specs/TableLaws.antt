@@ -1,6 +1,7 @@
 -- What a row's tree is, by the row's kind, in terms of the trees of the rows below it; and a row's chain, by its base.
 --
 --   length-tys                     the first n rows have n trees
+--   tys-at                         the tree of a row among the trees below any higher row
 --   ty-row, ty-past                the tree of a row that has one is made from the trees below it; any other row is broken
 --   below-ty, below-none           among the trees below row t stand those of the rows below t and no other
 --   row-enum .. row-dict           the tree of a row of that kind, made from the trees below it
@@ -33,7 +34,7 @@ module _ (T : List ℕ) where
   length-tys (suc n) = length-append (tys T n) _ ∙ omega (arith, length-tys n)
 
   -- the tree of row i is the same however many rows above it have theirs
-  tys-at : (n i : ℕ) → i < n → getD (tys T n) i broken ≡ rowTy T (tys T i) i
+  pub tys-at : (n i : ℕ) → i < n → getD (tys T n) i broken ≡ rowTy T (tys T i) i
   unfolding tys grow
   tys-at zero i h = absurd (omega arith)
   tys-at (suc n) i h = ⊎-elim

@@ -1,6 +1,7 @@
 -- The laws of values, proxies included: the frame; what they take and where they refuse lies within the input.
 --
 --   framed-value, held-value     of a value of any type; framed-values, held-values of values one after another
+--   held-text .. held-proxy      of the parts of a proxy
 --   eats-value                   a value that is not fixed-size takes at least one byte
 --   exact-ok, exact-step         what it is to be exactly one value of a type
 --   value-more, value-part       a value among more bytes; a value in just its bytes
@@ -26,7 +27,7 @@ framed-text : Framed text
 unfolding text
 framed-text = framed-mapc _ framed-string (λ _ _. tt)
 
-held-text : Held text
+pub held-text : Held text
 unfolding text
 held-text = held-mapc _ held-string (λ _ _. tt)
 
@@ -38,7 +39,7 @@ framed-identity : Framed identity
 unfolding identity
 framed-identity = framed-must _ (framed-bind _ _ framed-string (λ n. framed-mapc _ framed-string (λ c _. (length n, length c)))) identityForm
 
-held-identity : Held identity
+pub held-identity : Held identity
 unfolding identity
 held-identity = held-must _ (held-bind _ _ held-string (λ n. held-mapc _ held-string (λ c _. (length n, length c)))) identityForm
 
@@ -46,7 +47,7 @@ framed-endpoint : Framed endpoint
 unfolding endpoint
 framed-endpoint = framed-bind _ _ (framed-skip 2) (λ _. framed-mapc _ (framed-declared 6 4) (λ _ _. tt))
 
-held-endpoint : Held endpoint
+pub held-endpoint : Held endpoint
 unfolding endpoint
 held-endpoint = held-bind _ _ (held-skip 2) (λ _. held-mapc _ (held-declared 6 4) (λ _ _. tt))
 
@@ -59,7 +60,7 @@ framed-reference =
     framed-bind _ _ (framed-times 4 (skip 1) (framed-skip 1)) λ _.
     framed-bind _ _ framed-size (λ n. framed-pick (eqb n 0) _ _ framed-text (framed-times n endpoint framed-endpoint))
 
-held-reference : Held reference
+pub held-reference : Held reference
 unfolding reference facets versions endpoints
 held-reference =
     held-bind _ _ (held-bind _ _ (held-must _ held-size facetForm) (λ n. held-times n text held-text)) λ _.

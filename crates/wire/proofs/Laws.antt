@@ -14,7 +14,7 @@ use lib.ListN.{length, drop, getD, length-drop}
 use lib.Seq.{take-all}
 use lib.Dec.{leb}
 use borrow.Author.Tests.{le-leb, lt-leb, lt-ltb, le-ltb}
-use Rattle.encoding.specs.Result.{Res, ok, bad, shift, after, _>>=_, pure, chunk, atFirst, item, judged, must, firstOf}
+use Rattle.encoding.specs.Result.{shift, after, _>>=_, pure, chunk, atFirst, item, judged, must, firstOf}
 use Rattle.encoding.specs.ResultLaws.{held-took}
 use Rattle.encoding.specs.Table.{at}
 use Rattle.encoding.specs.Number.{val, negative, number, byte, sizeForm, sizeTail, size, lengthForm, declared, Content, string}
@@ -23,6 +23,7 @@ use Rattle.wire.specs.declared.Step.the-variants.{Took, Fault}
 use Rattle.wire.specs.declared.Sized.{Sized}
 use Rattle.wire.specs.declared.Sized.the-variants.{Is, Isnt}
 use Rattle.wire.specs.Steps.{stepOf, sizedOf}
+use Rattle.wire.specs.StepLaws.{sized-is, sized-isnt}
 use Rattle.wire.proofs.Room.{fits-no}
 use Rattle.wire.specs.At.{at-more}
 
@@ -132,16 +133,6 @@ module _ (s : List ℕ) (least own : ℕ) where
       declared-whole g = rw (le-leb 4 (length s) h, ← e, le-ltb n least l, lt-leb (2 ^ 31) n m, ← f, le-leb k (length (drop 4 s)) (omega (arith, length-drop 4 s)))
 
 -- ---- a string, by its size
-
-sized-is : (r : Res ℕ) (n k : ℕ) → Is n k ≡ sizedOf r → r ≡ ok n k
-unfolding sizedOf
-sized-is (ok a m) n k h = cc
-sized-is (bad c p) n k h = let z : _≡_ {A = ℕ} 0 1 = cc in absurd (omega arith)
-
-sized-isnt : (r : Res ℕ) (f p : ℕ) → Isnt f p ≡ sizedOf r → r ≡ bad f p
-unfolding sizedOf
-sized-isnt (ok a m) f p h = let z : _≡_ {A = ℕ} 0 1 = cc in absurd (omega arith)
-sized-isnt (bad c q) f p h = cc
 
 module _ (s : List ℕ) (r : Sized) (e : r ≡ sizedOf (size s)) where
   pub size-within : (n k : ℕ) → r ≡ Is n k → k ≤ length s

@@ -1,0 +1,69 @@
+-- The cases of values without parts, by the bytes at the head. Assumes nothing.
+--
+--   skip-cut, -whole           k bytes of any content
+--   bool-none, -high, -whole   a bool
+--   text-step                  a string, of which nothing is kept
+--   enum-fits, -past, -none    an enum
+use mathlib.Core.Path.{_≡_, refl, sym, _∙_}
+use mathlib.Core.List.{List}
+use Prim.Native.Nat.{ℕ, _≤_, _<_}
+use lib.ListN.{length}
+use borrow.Author.Tests.{le-leb, lt-leb, lt-ltb, le-ltb}
+use Rattle.encoding.specs.Result.{Res, ok, bad, chunk, skip, judged, must, made, mapc}
+use Rattle.encoding.specs.Number.{number, byte, boolForm, bool, size, string}
+use Rattle.encoding.specs.Table.{at}
+use Rattle.encoding.specs.Types.{allows, upto, enum}
+use Rattle.encoding.specs.Proxy.{text}
+use Rattle.encoding.specs.Value.{enumForm, value}
+use Rattle.wire.specs.declared.Step.{Step}
+use Rattle.wire.specs.declared.Step.the-variants.{Took, Fault}
+use Rattle.wire.specs.declared.Sized.{Sized}
+use Rattle.wire.specs.declared.Sized.the-variants.{Is, Isnt}
+use Rattle.wire.specs.Steps.{stepOf, sizedOf}
+use Rattle.wire.specs.StepLaws.{sized-is, sized-isnt}
+
+module _ (s : List ℕ) (k : ℕ) where
+  pub skip-cut : length s < k → Fault 4 0 ≡ stepOf (skip k s)
+  unfolding skip chunk stepOf
+  skip-cut h = rw (lt-leb k (length s) h)
+
+  pub skip-whole : k ≤ length s → Took k ≡ stepOf (skip k s)
+  unfolding skip chunk stepOf
+  skip-whole h = rw (le-leb k (length s) h)
+
+module _ (s : List ℕ) where
+  pub bool-none : length s < 1 → Fault 4 0 ≡ stepOf (bool s)
+  unfolding bool mapc made must judged byte number chunk stepOf
+  bool-none h = rw (lt-leb 1 (length s) h)
+
+  module _ (b : ℕ) (e : b ≡ at s 1 0) (h : 1 ≤ length s) where
+    pub bool-high : 2 ≤ b → Fault 8 0 ≡ stepOf (bool s)
+    unfolding bool mapc made must judged byte number chunk boolForm stepOf at
+    bool-high l = rw (le-leb 1 (length s) h, ← e, le-ltb b 2 l)
+
+    pub bool-whole : b < 2 → Took 1 ≡ stepOf (bool s)
+    unfolding bool mapc made must judged byte number chunk boolForm stepOf at
+    bool-whole l = rw (le-leb 1 (length s) h, ← e, lt-ltb b 2 l)
+
+made-step : {A B : Type 0} (f : A → ℕ → B) (r : Res A) → stepOf r ≡ stepOf (made f r)
+unfolding made stepOf
+made-step f (ok a n) = refl
+made-step f (bad c p) = refl
+
+pub text-step : (s : List ℕ) (r : Step) → r ≡ stepOf (string s) → r ≡ stepOf (text s)
+unfolding text mapc
+text-step s r e = e ∙ made-step (λ _ _. tt) (string s)
+
+module _ (s : List ℕ) (greatest : ℕ) (r : Sized) (e : r ≡ sizedOf (size s)) where
+  pub enum-none : (f p : ℕ) → r ≡ Isnt f p → Fault f p ≡ stepOf (value (enum (upto greatest)) s)
+  unfolding value mapc made must judged stepOf
+  enum-none f p q = rw (sized-isnt (size s) f p (sym q ∙ e))
+
+  module _ (n k : ℕ) (q : r ≡ Is n k) where
+    pub enum-fits : n ≤ greatest → Took k ≡ stepOf (value (enum (upto greatest)) s)
+    unfolding value mapc made must judged enumForm allows stepOf
+    enum-fits l = rw (sized-is (size s) n k (sym q ∙ e), le-leb n greatest l)
+
+    pub enum-past : greatest < n → Fault 9 0 ≡ stepOf (value (enum (upto greatest)) s)
+    unfolding value mapc made must judged enumForm allows stepOf
+    enum-past l = rw (sized-is (size s) n k (sym q ∙ e), lt-leb n greatest l)

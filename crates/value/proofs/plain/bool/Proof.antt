@@ -1,0 +1,17 @@
+-- A bool: one case of `bool` for each way out, told by the first byte.
+use borrow.Author.Needs.{needs}
+use Rattle.value.proofs.PlainLaws.{bool-none, bool-high, bool-whole}
+use Rattle.value.proofs.plain.bool.Statement.{statement}
+use Rattle.value.proofs.plain.bool.Tie as tie
+use Rattle.value.proofs.plain.bool.Reads as reads
+use Rattle.value.proofs.plain.bool.Lts as lts
+use Rattle.wire.proofs.byte_at.Reads as byte-at-reads
+
+pub bool-spec : {M : Type 1} → statement M
+bool-spec =
+    tie.close
+    (tie.spec
+    (λ c. search bool-none)  -- returns
+    (λ c κs. search needs)  -- byte-at-requires
+    (λ c. search bool-high)  -- returns-2
+    (λ c. search bool-whole))  -- returns-3

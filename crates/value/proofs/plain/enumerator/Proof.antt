@@ -1,0 +1,19 @@
+-- An enum: its size, judged, or the size's refusal.
+use borrow.Author.Needs.{needs}
+use Rattle.value.proofs.PlainLaws.{enum-fits, enum-past, enum-none}
+use Rattle.value.proofs.plain.enumerator.Statement.{statement}
+use Rattle.value.proofs.plain.enumerator.Tie as tie
+use Rattle.value.proofs.plain.enumerator.Reads as reads
+use Rattle.value.proofs.plain.enumerator.Lts as lts
+use Rattle.wire.proofs.read_size.Reads as read-size-reads
+
+pub enumerator-spec : {M : Type 1} → statement M
+enumerator-spec =
+    tie.close
+    (tie.spec
+    (λ c κs. search needs)  -- read-size-requires
+    (λ c. search needs)  -- enum-known-z
+    (λ c. search needs)  -- enum-known-z-2
+    (λ c. search enum-fits)  -- returns
+    (λ c. search enum-past)  -- returns-2
+    (λ c. search enum-none))  -- returns-3

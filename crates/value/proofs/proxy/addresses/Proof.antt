@@ -1,0 +1,18 @@
+-- An adapter where there is no endpoint, else the endpoints.
+use borrow.Author.Needs.{needs}
+use Rattle.value.proofs.ProxyLaws.{addresses-text, addresses-list}
+use Rattle.value.proofs.proxy.addresses.Statement.{statement}
+use Rattle.value.proofs.proxy.addresses.Tie as tie
+use Rattle.value.proofs.proxy.addresses.Reads as reads
+use Rattle.value.proofs.proxy.addresses.Lts as lts
+use Rattle.value.proofs.plain.text.Reads as text-reads
+use Rattle.value.proofs.proxy.endpoint_list.Reads as endpoint-list-reads
+
+pub addresses-spec : {M : Type 1} → statement M
+addresses-spec =
+    tie.close
+    (tie.spec
+    (λ c κs. search needs)  -- text-requires
+    (λ c. search addresses-text)  -- returns
+    (λ c κs. search needs)  -- endpoint-list-requires
+    (λ c. search addresses-list))  -- returns-2

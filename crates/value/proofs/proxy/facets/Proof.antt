@@ -1,0 +1,33 @@
+-- Facets: their count, judged, and the one string if there is one.
+use borrow.Author.Needs.{needs}
+use Rattle.encoding.specs.Proxy.{text}
+use Rattle.encoding.specs.ValueLaws.{held-text}
+use Rattle.value.proofs.Room.{took-fits, bad-fits}
+use Rattle.value.proofs.ProxyLaws.{size-end, facets-many, facets-end, facets-took, facets-bad, facets-none}
+use Rattle.value.proofs.proxy.facets.Statement.{statement}
+use Rattle.value.proofs.proxy.facets.Tie as tie
+use Rattle.value.proofs.proxy.facets.Reads as reads
+use Rattle.value.proofs.proxy.facets.Lts as lts
+use Rattle.wire.proofs.read_size.Reads as read-size-reads
+use Rattle.value.proofs.plain.text.Reads as text-reads
+
+pub facets-spec : {M : Type 1} → statement M
+facets-spec =
+    tie.close
+    (tie.spec
+    (λ c κs. search needs)  -- read-size-requires
+    (λ c. search needs)  -- enum-known-z
+    (λ c. search facets-many)  -- returns
+    (λ c. search facets-end)  -- returns-2
+    (λ c. search size-end)  -- sub-text
+    (λ c. search size-end)  -- part-text-start
+    (λ c. search needs)  -- part-text-end
+    (λ c κs. search needs)  -- text-requires
+    (λ c. search needs)  -- enum-known-step
+    (λ c. search (took-fits text held-text, size-end))  -- add-t18
+    (λ c. search needs)  -- enum-known-step-2
+    (λ c. search (bad-fits text held-text, size-end))  -- add-t19
+    (λ c. search needs)  -- enum-known-z-2
+    (λ c. search facets-took)  -- returns-3
+    (λ c. search facets-bad)  -- returns-4
+    (λ c. search facets-none))  -- returns-5

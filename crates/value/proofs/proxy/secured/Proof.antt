@@ -1,0 +1,30 @@
+-- Secure, versions: one case for each way out, told by the bytes; then the endpoints.
+use borrow.Author.Needs.{needs}
+use Rattle.value.proofs.Room.{took-fits, bad-fits}
+use Rattle.encoding.specs.Proxy.{endpoints as endpoints-of}
+use Rattle.value.proofs.ProxyLaws.{held-endpoints, secured-none, secured-high, secured-short, secured-took, secured-bad}
+use Rattle.value.proofs.proxy.secured.Statement.{statement}
+use Rattle.value.proofs.proxy.secured.Tie as tie
+use Rattle.value.proofs.proxy.secured.Reads as reads
+use Rattle.value.proofs.proxy.secured.Lts as lts
+use Rattle.wire.proofs.byte_at.Reads as byte-at-reads
+use Rattle.value.proofs.proxy.endpoints.Reads as endpoints-reads
+
+pub secured-spec : {M : Type 1} → statement M
+secured-spec =
+    tie.close
+    (tie.spec
+    (λ c. search secured-none)  -- returns
+    (λ c κs. search needs)  -- byte-at-requires
+    (λ c. search secured-high)  -- returns-2
+    (λ c. search secured-short)  -- returns-3
+    (λ c. search needs)  -- sub-endpoints
+    (λ c. search needs)  -- part-endpoints-start
+    (λ c. search needs)  -- part-endpoints-end
+    (λ c κs. search needs)  -- endpoints-requires
+    (λ c. search needs)  -- enum-known-step
+    (λ c. search (took-fits endpoints-of held-endpoints))  -- add-t13
+    (λ c. search needs)  -- enum-known-step-2
+    (λ c. search (bad-fits endpoints-of held-endpoints))  -- add-t14
+    (λ c. search secured-took)  -- returns-4
+    (λ c. search secured-bad))  -- returns-5

@@ -1,0 +1,43 @@
+-- Parts of the definitions of values and proxies that are functions of their own in the code.
+--
+--   partTy T t e   the type of row e as a part of row t: broken unless e is below t
+--   entry k v      one entry of a dictionary
+--   name           a string, and how many bytes it holds
+--   named          an identity, of which the length of the name is kept
+--   addresses n    n endpoints, or an adapter where n is 0
+--   secured        a proxy's secure, protocol, encoding and endpoints
+--   settings       a proxy's mode, and those: what follows the facets
+use mathlib.Core.List.{List}
+use Prim.Native.Nat.{ℕ}
+use lib.ListN.{length, getD}
+use lib.Dec.{eqb}
+use Rattle.encoding.specs.Result.{Parser, pick, _>>=_, must, mapc, times}
+use Rattle.encoding.specs.Number.{byte, bool, string}
+use Rattle.encoding.specs.Types.{Ty, broken}
+use Rattle.encoding.specs.Table.{tys}
+use Rattle.encoding.specs.Value.{value}
+use Rattle.encoding.specs.Proxy.{identity, text, modeForm, versions, endpoint, endpoints}
+
+unfoldable pub partTy : List ℕ → ℕ → ℕ → Ty
+partTy T t e = getD (tys T t) e broken
+
+unfoldable pub entry : Ty → Ty → Parser (Unit {0})
+entry k v = value k >>= λ _. value v
+
+unfoldable pub name : Parser ℕ
+name = mapc (λ b _. length b) string
+
+unfoldable pub named : Parser ℕ
+named = mapc (λ (l : ℕ × ℕ) _. l .0) identity
+
+unfoldable pub addresses : ℕ → Parser (Unit {0})
+addresses n = pick (eqb n 0) text (times n endpoint)
+
+unfoldable pub secured : Parser (Unit {0})
+secured = do
+  _ ← bool
+  _ ← versions
+  endpoints
+
+unfoldable pub settings : Parser (Unit {0})
+settings = must modeForm byte >>= λ _. secured
