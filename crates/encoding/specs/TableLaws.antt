@@ -6,7 +6,7 @@
 --   below-ty, below-none           among the trees below row t stand those of the rows below t and no other
 --   row-enum .. row-dict           the tree of a row of that kind, made from the trees below it
 --   ty-seq, ty-dict                the same where the parts are rows below
---   row-bool .. row-double         the rows without parts; row-other a row of kind 13 and above
+--   row-bool .. row-double         the rows without parts; row-other, row-broken a row of kind 13 and above
 --   member-below, member-none      the type of a member row among the trees below row t; member-whole among all trees
 --   member-in, member-past         a member row that is there; one that is not
 --   members-more, members-none     the members' types one after another
@@ -96,6 +96,18 @@ module _ (T : List ℕ) (l : List Ty) (i left : ℕ) where
 
 -- ---- a row by its kind
 
+-- an exception, a class, a parameter list or an unknown kind is no value's type
+pub row-broken : (T : List ℕ) (l : List Ty) (t : ℕ) → 12 < kind T t → rowTy T l t ≡ broken
+unfolding rowTy
+row-broken T l t k = simp (
+  ne-eqb (kind T t) 8 (λ e. omega arith),
+  ne-eqb (kind T t) 9 (λ e. omega arith),
+  ne-eqb (kind T t) 10 (λ e. omega arith),
+  ne-eqb (kind T t) 11 (λ e. omega arith),
+  ne-eqb (kind T t) 12 (λ e. omega arith),
+)
+    (List·getD-eq-default (bool ∷ byte ∷ num short ∷ num int ∷ num long ∷ num float ∷ num double ∷ string ∷ []) broken {n = kind T t} (omega arith))
+
 module _ (T : List ℕ) (t : ℕ) (h : t < typeRows T) where
   pub row-enum : kind T t ≡ 8 → tyOf T t ≡ enum (upto (field T t 0 + 65536 * field T t 1))
   unfolding rowTy
@@ -155,17 +167,8 @@ module _ (T : List ℕ) (t : ℕ) (h : t < typeRows T) where
   unfolding rowTy
   row-string k = ty-row T t h ∙ rw k
 
-  -- an exception, a class, a parameter list or an unknown kind is no value's type
   pub row-other : 12 < kind T t → tyOf T t ≡ broken
-  unfolding rowTy
-  row-other k = ty-row T t h ∙ simp (
-    ne-eqb (kind T t) 8 (λ e. omega arith),
-    ne-eqb (kind T t) 9 (λ e. omega arith),
-    ne-eqb (kind T t) 10 (λ e. omega arith),
-    ne-eqb (kind T t) 11 (λ e. omega arith),
-    ne-eqb (kind T t) 12 (λ e. omega arith),
-  )
-      (List·getD-eq-default (bool ∷ byte ∷ num short ∷ num int ∷ num long ∷ num float ∷ num double ∷ string ∷ []) broken {n = kind T t} (omega arith))
+  row-other k = ty-row T t h ∙ row-broken T (tys T t) t k
 
 -- ---- bases
 

@@ -2,3 +2,4 @@
 pub mod PlainLaws
 pub mod ProxyLaws
 pub mod Room
+pub mod CycleLaws

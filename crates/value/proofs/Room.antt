@@ -1,4 +1,8 @@
 -- Sums of places do not wrap: what a reader takes, and where it refuses, lies within what is left of the bytes in front. Assumes nothing.
+--
+--   TookFits p, took-fits   what p takes, behind the n bytes before it
+--   BadFits p, bad-fits     where p refuses
+--   any-took-fits, any-bad-fits   the same of a family of readers
 use mathlib.Core.Path.{_≡_}
 use mathlib.Core.List.{List}
 use Prim.Native.Nat.{ℕ, _+_, _-_, _^_, _≤_, _<_}
@@ -13,18 +17,26 @@ use Rattle.wire.specs.declared.Step.the-variants.{Took, Fault}
 use Rattle.wire.specs.Steps.{stepOf}
 use Rattle.wire.specs.StepLaws.{took-within, bad-within}
 
-module _ {A : Type 0} (p : Parser A) (P : Held p) (s : List ℕ) (n : ℕ) (r : Step) (e : r ≡ stepOf (p (take (length s - n) (drop n s)))) where
-  pub took-fits : (m : ℕ) → r ≡ Took m → n ≤ length s → length s < 2 ^ 64 → Fits w64 (n + m)
-  took-fits m q h b = record { fits = omega (arith, took-within p P s n r e m q) }
+-- what p takes of the rest, and the place where it refuses, behind the n bytes before it
+abbrev pub TookFits : {A : Type 0} → Parser A → Type 0
+TookFits p = (s : List ℕ) (n : ℕ) (r : Step) → r ≡ stepOf (p (take (length s - n) (drop n s)))
+    → (m : ℕ) → r ≡ Took m → n ≤ length s → length s < 2 ^ 64 → Fits w64 (n + m)
 
-  pub bad-fits : (f k : ℕ) → r ≡ Fault f k → n ≤ length s → length s < 2 ^ 64 → Fits w64 (n + k)
-  bad-fits f k q h b = record { fits = omega (arith, bad-within p P s n r e f k q) }
+abbrev pub BadFits : {A : Type 0} → Parser A → Type 0
+BadFits p = (s : List ℕ) (n : ℕ) (r : Step) → r ≡ stepOf (p (take (length s - n) (drop n s)))
+    → (f k : ℕ) → r ≡ Fault f k → n ≤ length s → length s < 2 ^ 64 → Fits w64 (n + k)
+
+module _ {A : Type 0} (p : Parser A) (P : Held p) where
+  pub took-fits : TookFits p
+  took-fits s n r e m q h b = record { fits = omega (arith, took-within p P s n r e m q) }
+
+  pub bad-fits : BadFits p
+  bad-fits s n r e f k q h b = record { fits = omega (arith, bad-within p P s n r e f k q) }
 
 -- the same of a family of readers
-module _ {I A : Type 0} (p : I → Parser A) (P : (i : I) → Held (p i)) (i : I) (s : List ℕ) (n : ℕ) (r : Step)
-    (e : r ≡ stepOf (p i (take (length s - n) (drop n s)))) where
-  pub any-took-fits : (m : ℕ) → r ≡ Took m → n ≤ length s → length s < 2 ^ 64 → Fits w64 (n + m)
-  any-took-fits = took-fits (p i) (P i) s n r e
+module _ {I A : Type 0} (p : I → Parser A) (P : (i : I) → Held (p i)) (i : I) where
+  pub any-took-fits : TookFits (p i)
+  any-took-fits = took-fits (p i) (P i)
 
-  pub any-bad-fits : (f k : ℕ) → r ≡ Fault f k → n ≤ length s → length s < 2 ^ 64 → Fits w64 (n + k)
-  any-bad-fits = bad-fits (p i) (P i) s n r e
+  pub any-bad-fits : BadFits (p i)
+  any-bad-fits = bad-fits (p i) (P i)

@@ -1,3 +1,186 @@
-// What values take of the bytes in front, on any bytes: plain.rt has the values without parts, proxy.rt the proxies.
-pub mod plain;
-pub mod proxy;
+// What a value of a table's type takes: on any bytes and any table. plain.rt has the values without parts, proxy.rt the proxies.
+//
+// The readers of values, structs, sequences and dictionaries are one cycle of calls. Each has a bound: a type is one of the rows
+// below it, any other row is broken. The bound falls with each part.
+mod plain;
+mod proxy;
+
+ghost use mathlib.Core.Path.{_≡_};
+ghost use Prim.Native.Nat.{_+_, _*_};
+ghost use Rattle.encoding.specs.Result.{times};
+ghost use Rattle.encoding.specs.Types.{struct, seq, dict};
+ghost use Rattle.encoding.specs.Table.{kind, field, tys, tyOf, memberTys, ownRows};
+ghost use Rattle.encoding.specs.Value.{value, exact};
+ghost use Rattle.wire.specs.Steps.{stepOf};
+ghost use Rattle.value.specs.Parts.{partTy, entry};
+use wire::Sized;
+use wire::Step;
+
+// A value of row e, where e is below t.
+fn value(table: &[u8], t: usize, e: usize, s: &[u8]) -> Step
+    ensures { λ r. ⌜ r ≡ stepOf (value (partTy (now (table .entry)) t e) (now (s .entry))) ⌝ }
+{
+    if t <= e {
+        return Step::Fault(1, 0);
+    }
+    let kind = table::kind(table, e);
+    match kind {
+        0 => plain::bool(s),
+        1 => plain::skip(s, 1),
+        2 => plain::skip(s, 2),
+        3 => plain::skip(s, 4),
+        4 => plain::skip(s, 8),
+        5 => plain::skip(s, 4),
+        6 => plain::skip(s, 8),
+        7 => plain::text(s),
+        8 => plain::enumerator(
+            s,
+            table::field(table, e, 0) + 65536 * table::field(table, e, 1),
+        ),
+        9 => struct_value(table, e, s),
+        10 => sequence(table, e, s),
+        11 => dictionary(table, e, s),
+        12 => proxy::proxy(s),
+        _ => Step::Fault(1, 0),
+    }
+}
+
+// The members of struct row t, one after another.
+fn struct_value(table: &[u8], t: usize, s: &[u8]) -> Step
+    ensures { λ r. ⌜ r ≡ stepOf (value (struct (memberTys (now (table .entry)) (tys (now (table .entry)) t) (ownRows (now (table .entry)) t))) (now (s .entry))) ⌝ }
+{
+    let all = table::members(table);
+    let mut m = table::field(table, t, 0);
+    let mut left = table::field(table, t, 1);
+    let mut at: usize = 0;
+    while left > 0 {
+        if all <= m {
+            return Step::Fault(1, at);
+        }
+        let step = value(table, t, table::member_type(table, m), &s[at..]);
+        match step {
+            Step::Took(n) => {
+                at += n;
+            }
+            Step::Fault(f, p) => {
+                return Step::Fault(f, at + p);
+            }
+        }
+        m += 1;
+        left -= 1;
+    }
+    Step::Took(at)
+}
+
+// The sequence of row t: a size, and as many elements.
+fn sequence(table: &[u8], t: usize, s: &[u8]) -> Step
+    ensures { λ r. ⌜ r ≡ stepOf (value (seq (partTy (now (table .entry)) t (field (now (table .entry)) t 0))) (now (s .entry))) ⌝ }
+{
+    let z = wire::read_size(s);
+    match z {
+        Sized::Is(n, k) => {
+            let step = elements(table, t, table::field(table, t, 0), n, &s[k..]);
+            match step {
+                Step::Took(m) => Step::Took(k + m),
+                Step::Fault(f, p) => Step::Fault(f, k + p),
+            }
+        }
+        Sized::Isnt(f, p) => Step::Fault(f, p),
+    }
+}
+
+// n values of row e, where e is below t.
+fn elements(table: &[u8], t: usize, e: usize, n: usize, s: &[u8]) -> Step
+    ensures { λ r. ⌜ r ≡ stepOf (times n (value (partTy (now (table .entry)) t e)) (now (s .entry))) ⌝ }
+{
+    let mut left = n;
+    let mut at: usize = 0;
+    while left > 0 {
+        let step = value(table, t, e, &s[at..]);
+        match step {
+            Step::Took(m) => {
+                at += m;
+            }
+            Step::Fault(f, p) => {
+                return Step::Fault(f, at + p);
+            }
+        }
+        left -= 1;
+    }
+    Step::Took(at)
+}
+
+// The dictionary of row t: a size, and as many entries.
+fn dictionary(table: &[u8], t: usize, s: &[u8]) -> Step
+    ensures { λ r. ⌜ r ≡ stepOf (value (dict (partTy (now (table .entry)) t (field (now (table .entry)) t 0)) (partTy (now (table .entry)) t (field (now (table .entry)) t 1))) (now (s .entry))) ⌝ }
+{
+    let z = wire::read_size(s);
+    match z {
+        Sized::Is(n, k) => {
+            let step = entries(table, t, n, &s[k..]);
+            match step {
+                Step::Took(m) => Step::Took(k + m),
+                Step::Fault(f, p) => Step::Fault(f, k + p),
+            }
+        }
+        Sized::Isnt(f, p) => Step::Fault(f, p),
+    }
+}
+
+// n entries of dictionary row t.
+fn entries(table: &[u8], t: usize, n: usize, s: &[u8]) -> Step
+    ensures { λ r. ⌜ r ≡ stepOf (times n (entry (partTy (now (table .entry)) t (field (now (table .entry)) t 0)) (partTy (now (table .entry)) t (field (now (table .entry)) t 1))) (now (s .entry))) ⌝ }
+{
+    let key = table::field(table, t, 0);
+    let val = table::field(table, t, 1);
+    let mut left = n;
+    let mut at: usize = 0;
+    while left > 0 {
+        let step = pair(table, t, key, val, &s[at..]);
+        match step {
+            Step::Took(m) => {
+                at += m;
+            }
+            Step::Fault(f, p) => {
+                return Step::Fault(f, at + p);
+            }
+        }
+        left -= 1;
+    }
+    Step::Took(at)
+}
+
+// A key of row k, and then a value of row v, both below t.
+fn pair(table: &[u8], t: usize, k: usize, v: usize, s: &[u8]) -> Step
+    ensures { λ r. ⌜ r ≡ stepOf (entry (partTy (now (table .entry)) t k) (partTy (now (table .entry)) t v) (now (s .entry))) ⌝ }
+{
+    let first = value(table, t, k, s);
+    match first {
+        Step::Took(n) => {
+            let step = value(table, t, v, &s[n..]);
+            match step {
+                Step::Took(m) => Step::Took(n + m),
+                Step::Fault(f, p) => Step::Fault(f, n + p),
+            }
+        }
+        Step::Fault(f, p) => Step::Fault(f, p),
+    }
+}
+
+// A value of row t of the table; a row that has no tree is refused by 1 here.
+pub fn read_value(table: &[u8], t: usize, s: &[u8]) -> Step
+    ensures { λ r. ⌜ r ≡ stepOf (value (tyOf (now (table .entry)) t) (now (s .entry))) ⌝ }
+{
+    value(table, table::rows(table), t, s)
+}
+
+// The bytes are exactly one value of row t.
+pub fn exact_value(table: &[u8], t: usize, s: &[u8]) -> bool
+    ensures { λ r. ⌜ r ≡ exact (tyOf (now (table .entry)) t) (now (s .entry)) ⌝ }
+{
+    let step = read_value(table, t, s);
+    match step {
+        Step::Took(n) => n == s.len(),
+        Step::Fault(f, p) => false,
+    }
+}

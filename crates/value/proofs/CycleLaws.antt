@@ -1,0 +1,284 @@
+-- What the readers of values, structs, sequences and dictionaries make of the answers of those that they call. Assumes nothing.
+--
+--   row-not, as-bool .. as-other                   a value by its row's kind
+--   struct-begin, member-gone, -read, -next, -fault, -done   the loop over members
+--   seq-none, -took, -bad                          a sequence: its size, then its elements
+--   element-begin, -next, -fault, -done            the loop over elements
+--   dict-none, -took, -bad                         a dictionary: its size, then its entries
+--   entry-begin, -next, -fault, -done              the loop over entries
+--   pair-none, -took, -bad                         an entry: its key, then its value
+--   value-row                                      a row of the table
+--   exact-took, exact-bad                          exactly one value
+--   ..-fits, ..-end                                what they take, and where they refuse, lies within the input
+use mathlib.Core.Path.{_≡_, refl, sym, ap, _∙_}
+use mathlib.Core.Bool.{false}
+use mathlib.Core.List.{List}
+use Prim.Native.Nat.{ℕ, suc, _+_, _-_, _*_, _≤_, _<_, zero-le}
+use native.Mathlib.Omega.{arith}
+use native.Mathlib.Nat.{add-zero}
+use lib.ListN.{length, take, drop}
+use lib.Dec.{eqb}
+use Rattle.encoding.specs.Result.{Res, ok, bad, _>>=_, fail, skip, times}
+use Rattle.encoding.specs.ResultLaws.{Held, held-bind, held-times}
+use Rattle.encoding.specs.Number.{size}
+use Rattle.encoding.specs.Number
+use Rattle.encoding.specs.Proxy
+use Rattle.encoding.specs.Types.{upto, short, int, long, float, double, Ty, broken, bool, byte, string, proxy, num, enum, struct, seq, dict}
+use Rattle.encoding.specs.Table.{kind, field, members, memberType, range, memberTy, memberTys, ownRows, rowTy, tys, typeRows, trees, tyOf}
+use Rattle.encoding.specs.TableLaws.{tys-at, below-none, row-broken, member-in, member-past, members-more, members-none}
+use Rattle.encoding.specs.Value.{value, values, whole, exact}
+use Rattle.encoding.specs.ValueLaws.{held-value}
+use Rattle.wire.specs.declared.Step.{Step}
+use Rattle.wire.specs.declared.Step.the-variants.{Took, Fault}
+use Rattle.wire.specs.declared.Sized.{Sized}
+use Rattle.wire.specs.declared.Sized.the-variants.{Is, Isnt}
+use Rattle.wire.specs.Steps.{stepOf, sizedOf}
+use Rattle.wire.specs.StepLaws.{step-fault, took-held, then-none, then-took, then-bad, with-none, with-took, with-bad, Left, left-begin, left-next, left-fault, left-done, turns-begin, turns-next, turns-fault, turns-done}
+use Rattle.value.specs.Parts.{partTy, entry}
+use Rattle.value.proofs.Room.{TookFits, took-fits, BadFits, bad-fits}
+
+-- ---- a value by its row's kind
+
+-- a number that is at least i, and not i
+past : {k i : ℕ} → i ≤ k → (k ≡ i → ⊥) → suc i ≤ k
+past h n = omega (arith, n)
+
+module _ (T : List ℕ) (t e : ℕ) (s : List ℕ) where
+  pub row-not : t ≤ e → Fault 1 0 ≡ stepOf (value (partTy T t e) s)
+  unfolding partTy value fail stepOf
+  row-not h = rw (below-none T t e h)
+
+  module _ (l : e < t) (k : ℕ) (q : k ≡ kind T e) (r : Step) where
+    -- by the tree that the kind makes of the rows below
+    by-row : (X : Ty) → rowTy T (tys T e) e ≡ X → r ≡ stepOf (value X s) → r ≡ stepOf (value (partTy T t e) s)
+    unfolding partTy
+    by-row X h g = g ∙ ap (λ (y : Ty). stepOf (value y s)) (sym (tys-at T t e l ∙ h))
+
+    pub as-bool : k ≡ 0 → r ≡ stepOf (Number.bool s) → r ≡ stepOf (value (partTy T t e) s)
+    unfolding rowTy value
+    as-bool z g = by-row bool (rw (sym q ∙ z)) g
+
+    pub as-byte : k ≡ 1 → r ≡ stepOf (skip 1 s) → r ≡ stepOf (value (partTy T t e) s)
+    unfolding rowTy value
+    as-byte z g = by-row byte (rw (sym q ∙ z)) g
+
+    pub as-short : k ≡ 2 → r ≡ stepOf (skip 2 s) → r ≡ stepOf (value (partTy T t e) s)
+    unfolding rowTy value
+    as-short z g = by-row (num short) (rw (sym q ∙ z)) g
+
+    pub as-int : k ≡ 3 → r ≡ stepOf (skip 4 s) → r ≡ stepOf (value (partTy T t e) s)
+    unfolding rowTy value
+    as-int z g = by-row (num int) (rw (sym q ∙ z)) g
+
+    pub as-long : k ≡ 4 → r ≡ stepOf (skip 8 s) → r ≡ stepOf (value (partTy T t e) s)
+    unfolding rowTy value
+    as-long z g = by-row (num long) (rw (sym q ∙ z)) g
+
+    pub as-float : k ≡ 5 → r ≡ stepOf (skip 4 s) → r ≡ stepOf (value (partTy T t e) s)
+    unfolding rowTy value
+    as-float z g = by-row (num float) (rw (sym q ∙ z)) g
+
+    pub as-double : k ≡ 6 → r ≡ stepOf (skip 8 s) → r ≡ stepOf (value (partTy T t e) s)
+    unfolding rowTy value
+    as-double z g = by-row (num double) (rw (sym q ∙ z)) g
+
+    pub as-string : k ≡ 7 → r ≡ stepOf (Proxy.text s) → r ≡ stepOf (value (partTy T t e) s)
+    unfolding rowTy value
+    as-string z g = by-row string (rw (sym q ∙ z)) g
+
+    pub as-enum : (a b : ℕ) → a ≡ field T e 0 → b ≡ field T e 1 → k ≡ 8 → r ≡ stepOf (value (enum (upto (a + 65536 * b))) s) → r ≡ stepOf (value (partTy T t e) s)
+    unfolding rowTy
+    as-enum a b f h z g = by-row (enum (upto (a + 65536 * b))) (rw (sym q ∙ z, f, h)) g
+
+    pub as-struct : k ≡ 9 → r ≡ stepOf (value (struct (memberTys T (tys T e) (ownRows T e))) s) → r ≡ stepOf (value (partTy T t e) s)
+    unfolding rowTy
+    as-struct z g = by-row (struct (memberTys T (tys T e) (ownRows T e))) (rw (sym q ∙ z)) g
+
+    pub as-seq : k ≡ 10 → r ≡ stepOf (value (seq (partTy T e (field T e 0))) s) → r ≡ stepOf (value (partTy T t e) s)
+    unfolding rowTy partTy
+    as-seq z g = by-row (seq (partTy T e (field T e 0))) (rw (sym q ∙ z)) g
+
+    pub as-dict : k ≡ 11 → r ≡ stepOf (value (dict (partTy T e (field T e 0)) (partTy T e (field T e 1))) s) → r ≡ stepOf (value (partTy T t e) s)
+    unfolding rowTy partTy
+    as-dict z g = by-row (dict (partTy T e (field T e 0)) (partTy T e (field T e 1))) (rw (sym q ∙ z)) g
+
+    pub as-proxy : k ≡ 12 → r ≡ stepOf (Proxy.proxy s) → r ≡ stepOf (value (partTy T t e) s)
+    unfolding rowTy value
+    as-proxy z g = by-row proxy (rw (sym q ∙ z)) g
+
+    -- a kind past the last that a value may have
+    pub as-other : (k ≡ 0 → ⊥) → (k ≡ 1 → ⊥) → (k ≡ 2 → ⊥) → (k ≡ 3 → ⊥) → (k ≡ 4 → ⊥) → (k ≡ 5 → ⊥) → (k ≡ 6 → ⊥) → (k ≡ 7 → ⊥) → (k ≡ 8 → ⊥)
+        → (k ≡ 9 → ⊥) → (k ≡ 10 → ⊥) → (k ≡ 11 → ⊥) → (k ≡ 12 → ⊥) → r ≡ Fault 1 0 → r ≡ stepOf (value (partTy T t e) s)
+    unfolding value fail stepOf
+    as-other n₀ n₁ n₂ n₃ n₄ n₅ n₆ n₇ n₈ n₉ n₁₀ n₁₁ n₁₂ g =
+        by-row broken (row-broken T (tys T e) e (rw q at (past (past (past (past (past (past (past (past (past (past (past (past (past zero-le n₀) n₁) n₂) n₃) n₄) n₅) n₆) n₇) n₈) n₉) n₁₀) n₁₁) n₁₂))) g
+
+-- ---- members
+
+module _ (T : List ℕ) (t : ℕ) (s : List ℕ) where
+  pub struct-begin : (a b : ℕ) → a ≡ field T t 0 → b ≡ field T t 1
+      → Left s (stepOf (value (struct (memberTys T (tys T t) (ownRows T t))) s)) (values (memberTys T (tys T t) (range a b))) 0
+  unfolding value ownRows
+  struct-begin a b f g = rw (f, g) (left-begin s (values (memberTys T (tys T t) (range (field T t 0) (field T t 1)))))
+
+  module _ (all : Step) (m left at : ℕ) (inv : Left s all (values (memberTys T (tys T t) (range m left))) at) where
+    pub member-done : left ≤ 0 → Took at ≡ all
+    unfolding values
+    member-done h = left-done s all tt at (rw (members-none T (tys T t) m left h) at inv)
+
+    module _ (h : 0 < left) where
+      -- a member, then those behind it
+      more : Left s all (value (memberTy T (tys T t) m) >>= λ _. values (memberTys T (tys T t) (range (m + 1) (left - 1)))) at
+      unfolding values
+      more = rw (members-more T (tys T t) m left h) at inv
+
+      pub member-gone : (n : ℕ) → n ≡ members T → n ≤ m → Fault 1 at ≡ all
+      unfolding value fail stepOf
+      member-gone n f l =
+          ap (Fault 1) (sym (add-zero at))
+          ∙ left-fault s all (value (memberTy T (tys T t) m)) (values (memberTys T (tys T t) (range (m + 1) (left - 1)))) at more (Fault 1 0)
+          (rw (member-past T m (tys T t) (omega arith))) 1 0 refl
+
+      module _ (r : Step) (d : r ≡ stepOf (value (memberTy T (tys T t) m) (take (length s - at) (drop at s)))) where
+        pub member-next : (i : ℕ) → r ≡ Took i → Left s all (values (memberTys T (tys T t) (range (m + 1) (left - 1)))) (at + i)
+        member-next i q = left-next s all (value (memberTy T (tys T t) m)) _ at more r d (held-value _) i q
+
+        pub member-fault : (c p : ℕ) → r ≡ Fault c p → Fault c (at + p) ≡ all
+        member-fault c p q = left-fault s all (value (memberTy T (tys T t) m)) _ at more r d c p q
+
+-- a member that is there
+pub member-read : (T : List ℕ) (t m n e : ℕ) (s : List ℕ) (r : Step) → n ≡ members T → m < n → e ≡ memberType T m
+    → r ≡ stepOf (value (partTy T t e) s) → r ≡ stepOf (value (memberTy T (tys T t) m) s)
+unfolding partTy
+member-read T t m n e s r f l g d = rw (member-in T m (tys T t) (omega arith), ← g) d
+
+-- ---- sequences
+
+module _ (s : List ℕ) (r : Sized) (e : r ≡ sizedOf (size s)) where
+  pub seq-none : (X : Ty) (f p : ℕ) → r ≡ Isnt f p → Fault f p ≡ stepOf (value (seq X) s)
+  unfolding value
+  seq-none X f p q = with-none size (λ n. times n (value X)) s r e f p q
+
+  pub dict-none : (K W : Ty) (f p : ℕ) → r ≡ Isnt f p → Fault f p ≡ stepOf (value (dict K W) s)
+  unfolding value entry
+  dict-none K W f p q = with-none size (λ n. times n (entry K W)) s r e f p q
+
+  module _ (n k : ℕ) (q : r ≡ Is n k) (a : Step) where
+    module _ (T : List ℕ) (t i : ℕ) (g : i ≡ field T t 0) (d : a ≡ stepOf (times n (value (partTy T t i)) (take (length s - k) (drop k s)))) where
+      pub seq-took : (m : ℕ) → a ≡ Took m → Took (k + m) ≡ stepOf (value (seq (partTy T t (field T t 0))) s)
+      unfolding value
+      seq-took m h = rw (← g) (with-took size (λ n. times n (value (partTy T t i))) s r e n k q a d m h)
+
+      pub seq-bad : (f p : ℕ) → a ≡ Fault f p → Fault f (k + p) ≡ stepOf (value (seq (partTy T t (field T t 0))) s)
+      unfolding value
+      seq-bad f p h = rw (← g) (with-bad size (λ n. times n (value (partTy T t i))) s r e n k q a d f p h)
+
+    module _ (K W : Ty) (d : a ≡ stepOf (times n (entry K W) (take (length s - k) (drop k s)))) where
+      pub dict-took : (m : ℕ) → a ≡ Took m → Took (k + m) ≡ stepOf (value (dict K W) s)
+      unfolding value entry
+      dict-took m h = with-took size (λ n. times n (entry K W)) s r e n k q a d m h
+
+      pub dict-bad : (f p : ℕ) → a ≡ Fault f p → Fault f (k + p) ≡ stepOf (value (dict K W) s)
+      unfolding value entry
+      dict-bad f p h = with-bad size (λ n. times n (entry K W)) s r e n k q a d f p h
+
+-- ---- the loops over elements and entries, and what they take
+
+pub held-entry : (K W : Ty) → Held (entry K W)
+unfolding entry
+held-entry K W = held-bind (value K) (λ _. value W) (held-value K) (λ _. held-value W)
+
+module _ (K : Ty) where
+  pub element-begin : (s : List ℕ) (n : ℕ) → Left s (stepOf (times n (value K) s)) (times n (value K)) 0
+  element-begin = turns-begin (value K) (held-value K)
+
+  module _ (s : List ℕ) (all : Step) (left at : ℕ) (inv : Left s all (times left (value K)) at) where
+    pub element-done : left ≤ 0 → Took at ≡ all
+    element-done = turns-done (value K) (held-value K) s all left at inv
+
+    module _ (h : 0 < left) (r : Step) (e : r ≡ stepOf (value K (take (length s - at) (drop at s)))) where
+      pub element-next : (m : ℕ) → r ≡ Took m → Left s all (times (left - 1) (value K)) (at + m)
+      element-next = turns-next (value K) (held-value K) s all left at inv h r e
+
+      pub element-fault : (f k : ℕ) → r ≡ Fault f k → Fault f (at + k) ≡ all
+      element-fault = turns-fault (value K) (held-value K) s all left at inv h r e
+
+pub entry-begin : (T : List ℕ) (t k v : ℕ) → k ≡ field T t 0 → v ≡ field T t 1 → (s : List ℕ) (n : ℕ)
+    → Left s (stepOf (times n (entry (partTy T t (field T t 0)) (partTy T t (field T t 1))) s)) (times n (entry (partTy T t k) (partTy T t v))) 0
+entry-begin T t k v e f s n = rw (← e, ← f) (turns-begin (entry (partTy T t k) (partTy T t v)) (held-entry _ _) s n)
+
+module _ (K W : Ty) where
+  module _ (s : List ℕ) (all : Step) (left at : ℕ) (inv : Left s all (times left (entry K W)) at) where
+    pub entry-done : left ≤ 0 → Took at ≡ all
+    entry-done = turns-done (entry K W) (held-entry K W) s all left at inv
+
+    module _ (h : 0 < left) (r : Step) (e : r ≡ stepOf (entry K W (take (length s - at) (drop at s)))) where
+      pub entry-next : (m : ℕ) → r ≡ Took m → Left s all (times (left - 1) (entry K W)) (at + m)
+      entry-next = turns-next (entry K W) (held-entry K W) s all left at inv h r e
+
+      pub entry-fault : (f k : ℕ) → r ≡ Fault f k → Fault f (at + k) ≡ all
+      entry-fault = turns-fault (entry K W) (held-entry K W) s all left at inv h r e
+
+-- ---- an entry
+
+pub key-end : (K : Ty) (s : List ℕ) (r : Step) → r ≡ stepOf (value K s) → (n : ℕ) → r ≡ Took n → n ≤ length s
+key-end K = took-held (value K) (held-value K)
+
+module _ (K W : Ty) (s : List ℕ) (r : Step) (e : r ≡ stepOf (value K s)) where
+  pub pair-none : (f p : ℕ) → r ≡ Fault f p → Fault f p ≡ stepOf (entry K W s)
+  unfolding entry
+  pair-none f p q = then-none (value K) (value W) s r e f p q
+
+  module _ (n : ℕ) (q : r ≡ Took n) (a : Step) (d : a ≡ stepOf (value W (take (length s - n) (drop n s)))) where
+    pub pair-took : (m : ℕ) → a ≡ Took m → Took (n + m) ≡ stepOf (entry K W s)
+    unfolding entry
+    pair-took m h = then-took (value K) (value W) s r e n q a d m h
+
+    pub pair-bad : (f p : ℕ) → a ≡ Fault f p → Fault f (n + p) ≡ stepOf (entry K W s)
+    unfolding entry
+    pair-bad f p h = then-bad (value K) (value W) s r e n q a d f p h
+
+-- ---- sums of places
+
+pub value-took-fits : (K : Ty) → TookFits (value K)
+value-took-fits K = took-fits (value K) (held-value K)
+
+pub value-bad-fits : (K : Ty) → BadFits (value K)
+value-bad-fits K = bad-fits (value K) (held-value K)
+
+pub elements-took-fits : (i : ℕ) (K : Ty) → TookFits (times i (value K))
+elements-took-fits i K = took-fits (times i (value K)) (held-times i (value K) (held-value K))
+
+pub elements-bad-fits : (i : ℕ) (K : Ty) → BadFits (times i (value K))
+elements-bad-fits i K = bad-fits (times i (value K)) (held-times i (value K) (held-value K))
+
+pub entry-took-fits : (K W : Ty) → TookFits (entry K W)
+entry-took-fits K W = took-fits (entry K W) (held-entry K W)
+
+pub entry-bad-fits : (K W : Ty) → BadFits (entry K W)
+entry-bad-fits K W = bad-fits (entry K W) (held-entry K W)
+
+pub entries-took-fits : (i : ℕ) (K W : Ty) → TookFits (times i (entry K W))
+entries-took-fits i K W = took-fits (times i (entry K W)) (held-times i (entry K W) (held-entry K W))
+
+pub entries-bad-fits : (i : ℕ) (K W : Ty) → BadFits (times i (entry K W))
+entries-bad-fits i K W = bad-fits (times i (entry K W)) (held-times i (entry K W) (held-entry K W))
+
+-- ---- a row of the table, and exactly one value
+
+pub value-row : (T : List ℕ) (n t : ℕ) (s : List ℕ) (r : Step) → n ≡ typeRows T → r ≡ stepOf (value (partTy T n t) s) → r ≡ stepOf (value (tyOf T t) s)
+unfolding tyOf trees partTy
+value-row T n t s r e d = rw (← e) d
+
+module _ (X : Ty) (s : List ℕ) (r : Step) (e : r ≡ stepOf (value X s)) where
+  pub exact-took : (n : ℕ) → r ≡ Took n → eqb n (length s) ≡ exact X s
+  unfolding exact whole stepOf
+  exact-took n q = go (value X s) (sym q ∙ e)
+    where
+      go : (x : Res (Unit {0})) → Took n ≡ stepOf x → eqb n (length s) ≡ whole (length s) x
+      go (ok u m) h = let i : n ≡ m = cc in rw i
+      go (bad c p) h = let z : _≡_ {A = ℕ} 0 1 = cc in absurd (omega arith)
+
+  pub exact-bad : (f p : ℕ) → r ≡ Fault f p → false ≡ exact X s
+  unfolding exact whole
+  exact-bad f p q = rw (step-fault (value X s) f p (sym q ∙ e))
