@@ -2,6 +2,7 @@
 --
 --   type-test, member-test         each test of a row's rules is false
 --   any-none                       no number of a range passes a test
+--   members-most, types-most       at most 1,024 members and 256 types
 --   kind-known                     a kind is at most 15
 --   record-kind, owns-record       a record is an exception or a class, and takes member rows
 --   base-right                     a base is a smaller row of the same kind
@@ -10,6 +11,7 @@
 --   names-differ                   records of one name are one
 --   climb-enough, chain-node       a chain is the row, then the chain of its base
 --   Own, required-own, optional-own  where a member stands among the rows of its owner
+--   taken-rises, taken-next        the member rows that the rows before one take
 --   taken-at, taken-whole          an owner's member rows begin where those of the rows before it end; all are taken
 --   rows-apart                     a member row has one owner
 --   rows-there                     an owner's member rows are there
@@ -29,7 +31,7 @@ use borrow.Author.Tests.{eqb-true, eqb-false, leb-true, leb-false, ltb-true, ltb
 use Rattle.encoding.specs.Result.{pick, firstOf, sameBytes}
 use Rattle.encoding.specs.ResultLaws.{both-true, both-false, either-false, sameBytes-ok, sameBytes-same}
 use Rattle.encoding.specs.Types.{Ty}
-use Rattle.encoding.specs.Table.{types, members, kind, field, mark, tag, isRecord, owns, takes, range, namesAt, nameOf, Fault, fine, fault, orElse, faultAt, any, headerRules, taken, noBase, alike, typeRules, sumRules, ownerOf, tagAlike, memberRules, rowAt, memberAt, pass, passes, faults, search, named, base, upward, climb, chain, Member, memberTy, lookup, requiredOf, optionalOf, required, optional, ownRows, trees}
+use Rattle.encoding.specs.Table.{types, members, kind, field, mark, tag, isRecord, owns, takes, range, namesAt, nameOf, Fault, fine, fault, orElse, faultAt, any, headerTests, headerRules, taken, noBase, alike, typeRules, sumRules, ownerOf, tagAlike, memberRules, rowAt, memberAt, pass, passes, faults, search, named, base, upward, climb, chain, Member, memberTy, lookup, requiredOf, optionalOf, required, optional, ownRows, trees}
 
 -- ---- passes
 
@@ -160,13 +162,13 @@ chain-node T t = ap (λ (l : List ℕ). t ∷ l) (upward-same _ (chain T) t (bas
 
 -- ---- member rows, in turn
 
-taken-rises : (T : List ℕ) (t r : ℕ) → t ≤ r → taken T t ≤ taken T r
+pub taken-rises : (T : List ℕ) (t r : ℕ) → t ≤ r → taken T t ≤ taken T r
 unfolding taken
 taken-rises T t zero h = let e : t ≡ 0 = omega arith in rw e (omega arith)
 taken-rises T t (suc r) h = elim (ℕ-discrete t (suc r)) [ yes e ↦ rw e (omega arith) | no e ↦ omega (arith, taken-rises T t r (omega (arith, e))) ]
 
 -- an owner takes its rows
-taken-next : (T : List ℕ) (t : ℕ) → owns (kind T t) ≡ true → taken T (suc t) ≡ taken T t + field T t 1
+pub taken-next : (T : List ℕ) (t : ℕ) → owns (kind T t) ≡ true → taken T (suc t) ≡ taken T t + field T t 1
 unfolding taken
 taken-next T t o = rw o
 
@@ -237,6 +239,19 @@ module _ (T : List ℕ) (t k : ℕ) (m : Member) where
 -- ---- what no broken rule gives
 
 module _ (T : List ℕ) (right : faults T ≡ fine) where
+  -- each test of the header's rules is false
+  header-test : (i : ℕ) → getD (headerTests T) i (0, false) .1 ≡ false
+  unfolding faults passes headerRules headerTests
+  header-test i = test-at (headerTests T) tt (faultAt-fine 0 (firstOf (headerTests T)) (orElse-fine (headerRules T) _ right .0)) i
+
+  pub members-most : members T ≤ 1024
+  unfolding headerTests
+  members-most = ltb-false 1024 (members T) (header-test 3)
+
+  pub types-most : types T ≤ 256
+  unfolding headerTests
+  types-most = ltb-false 256 (types T) (either-false (eqb (types T) 0) (ltb 256 (types T)) (header-test 2) .1)
+
   pub type-test : (t : ℕ) → t < types T → (i : ℕ) → getD (typeRules T t) i (0, false) .1 ≡ false
   unfolding faults passes typeRules
   type-test t l i =

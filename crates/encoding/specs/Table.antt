@@ -137,9 +137,8 @@ abbrev pub great : ℕ → Bool
 great n = negative 4 n
 
 -- mark FGT, version 1, T 1..256, M 0..1,024, N 0..8,192, a zero byte, and nothing more behind the names; all at 0
-unfoldable pub headerRules : List ℕ → Fault
-headerRules T =
-    faultAt 0 (firstOf (
+unfoldable pub headerTests : List ℕ → List (ℕ × Bool)
+headerTests T =
     (31, not (sameBytes (take 5 T) (70 ∷ 71 ∷ 84 ∷ 1 ∷ 0 ∷ [])))
     ∷ (31, ltb (length T) (typesAt T))
     ∷ (31, eqb (types T) 0 || ltb 256 (types T))
@@ -147,7 +146,11 @@ headerRules T =
     ∷ (31, ltb 8192 (names T))
     ∷ (31, not (eqb (at T 1 11) 0))
     ∷ (31, not (eqb (length T) (namesAt T + names T)))
-    ∷ []))
+    ∷ []
+
+-- the first pass
+unfoldable pub headerRules : List ℕ → Fault
+headerRules T = faultAt 0 (firstOf (headerTests T))
 
 -- how many fields a kind uses, from a on
 unfoldable pub used : ℕ → ℕ

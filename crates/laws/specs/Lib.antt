@@ -6,6 +6,7 @@ pub mod Demands
 pub mod ValueExact
 pub mod RowsExact
 pub mod CountsExact
+pub mod RowsMost
 pub mod OptionalExact
 pub mod SliceExact
 pub mod MessageExact

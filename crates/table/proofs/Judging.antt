@@ -23,7 +23,7 @@ use lib.Dec.{eqb, leb, ltb}
 use borrow.Author.Tests.{eqb-true, eqb-false, lt-ltb, le-ltb, le-leb, lt-leb, eq-eqb, ne-eqb, not-false}
 use Rattle.encoding.specs.Result.{pick, firstOf, sameBytes}
 use Rattle.encoding.specs.Number.{negative}
-use Rattle.encoding.specs.Table.{at, types, members, names, typesAt, rowAt, membersAt, memberAt, namesAt, kind, field, memberType, mark, tag, isRecord, owns, nameOf, range, any, used, taken, noPart, noBase, alike, tagAlike, typeRules, headerRules, sumRules, faultAt, Fault, fine, fault, orElse, pass, passes, faults}
+use Rattle.encoding.specs.Table.{at, types, members, names, typesAt, rowAt, membersAt, memberAt, namesAt, kind, field, memberType, mark, tag, isRecord, owns, nameOf, range, any, used, taken, noPart, noBase, alike, tagAlike, typeRules, headerTests, headerRules, sumRules, faultAt, Fault, fine, fault, orElse, pass, passes, faults}
 use Rattle.table.specs.Names.{nameStart, isNamed}
 use Rattle.table.specs.NamesLaws.{name-part}
 use Rattle.table.specs.Checks.{verdictOf, isUnusedSet, enumRules, structRules, seqRules, dictRules, recordRules, listRules, kindRules, rowRules, share, typePass, memberPass, isOptionalOf, requiredRules, optionalRules, memberRulesOf, ownerPass, ownersPass}
@@ -36,7 +36,7 @@ use Rattle.table.proofs.Shapes.{getD-within}
 -- ---- header
 
 pub header-short : (T : List ℕ) → length T < 12 → faultAt 0 31 ≡ headerRules T
-unfolding headerRules firstOf typesAt
+unfolding headerRules headerTests firstOf typesAt
 header-short T h = rw (lt-ltb _ _ h) (go (not (sameBytes (take 5 T) (70 ∷ 71 ∷ 84 ∷ 1 ∷ 0 ∷ []))))
   where
     go : (b : Bool) → faultAt 0 31 ≡ faultAt 0 (pick b 31 31)
@@ -45,41 +45,41 @@ header-short T h = rw (lt-ltb _ _ h) (go (not (sameBytes (take 5 T) (70 ∷ 71 �
 
 module _ (T : List ℕ) (long : 12 ≤ length T) (s : Bool) (es : s ≡ sameBytes (take 5 T) (70 ∷ 71 ∷ 84 ∷ 1 ∷ 0 ∷ [])) where
   pub header-mark : not s ≡ true → faultAt 0 31 ≡ headerRules T
-  unfolding headerRules firstOf
+  unfolding headerRules headerTests firstOf
   header-mark q = rw (← es, q)
 
   module _ (marked : not s ≡ false) (t : ℕ) (et : t ≡ types T) where
     pub header-none : t ≡ 0 → faultAt 0 31 ≡ headerRules T
-    unfolding headerRules firstOf typesAt
+    unfolding headerRules headerTests firstOf typesAt
     header-none z = rw (← es, marked, le-ltb _ _ long, ← et, eq-eqb t 0 z)
 
     module _ (some : t ≡ 0 → ⊥) where
       pub header-types : 256 < t → faultAt 0 31 ≡ headerRules T
-      unfolding headerRules firstOf typesAt
+      unfolding headerRules headerTests firstOf typesAt
       header-types h = rw (← es, marked, le-ltb _ _ long, ← et, ne-eqb t 0 some, lt-ltb _ _ h)
 
       module _ (few : t ≤ 256) (m : ℕ) (em : m ≡ members T) where
         pub header-members : 1024 < m → faultAt 0 31 ≡ headerRules T
-        unfolding headerRules firstOf typesAt
+        unfolding headerRules headerTests firstOf typesAt
         header-members h = rw (← es, marked, le-ltb _ _ long, ← et, ne-eqb t 0 some, le-ltb _ _ few, ← em, lt-ltb _ _ h)
 
         module _ (small : m ≤ 1024) (n : ℕ) (en : n ≡ names T) where
           pub header-names : 8192 < n → faultAt 0 31 ≡ headerRules T
-          unfolding headerRules firstOf typesAt
+          unfolding headerRules headerTests firstOf typesAt
           header-names h = rw (← es, marked, le-ltb _ _ long, ← et, ne-eqb t 0 some, le-ltb _ _ few, ← em, le-ltb _ _ small, ← en, lt-ltb _ _ h)
 
           module _ (short : n ≤ 8192) (b : ℕ) (eb : b ≡ at T 1 11) where
             pub header-spare : (b ≡ 0 → ⊥) → faultAt 0 31 ≡ headerRules T
-            unfolding headerRules firstOf typesAt
+            unfolding headerRules headerTests firstOf typesAt
             header-spare h = rw (← es, marked, le-ltb _ _ long, ← et, ne-eqb t 0 some, le-ltb _ _ few, ← em, le-ltb _ _ small, ← en, le-ltb _ _ short, ← eb, ne-eqb b 0 h)
 
             module _ (spare : b ≡ 0) where
               pub header-length : (length T ≡ 12 + 12 * t + 8 * m + n → ⊥) → faultAt 0 31 ≡ headerRules T
-              unfolding headerRules firstOf typesAt namesAt memberAt membersAt rowAt
+              unfolding headerRules headerTests firstOf typesAt namesAt memberAt membersAt rowAt
               header-length h = rw (← es, marked, le-ltb _ _ long, ← et, ne-eqb t 0 some, le-ltb _ _ few, ← em, le-ltb _ _ small, ← en, le-ltb _ _ short, ← eb, eq-eqb b 0 spare, ne-eqb _ _ h)
 
               pub header-fine : length T ≡ 12 + 12 * t + 8 * m + n → faultAt 0 0 ≡ headerRules T
-              unfolding headerRules firstOf typesAt namesAt memberAt membersAt rowAt
+              unfolding headerRules headerTests firstOf typesAt namesAt memberAt membersAt rowAt
               header-fine h = rw (← es, marked, le-ltb _ _ long, ← et, ne-eqb t 0 some, le-ltb _ _ few, ← em, le-ltb _ _ small, ← en, le-ltb _ _ short, ← eb, eq-eqb b 0 spare, eq-eqb _ _ h)
 
 -- ---- fields that a kind does not use

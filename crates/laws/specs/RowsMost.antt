@@ -1,0 +1,175 @@
+-- An accepted message has at most as many rows as its table has members, which are at most 1,024.
+-- An owner lists each of its members at most once: required ones as declared, optionals by rising tag. The owners of a chain take member rows of their own.
+--
+--   pieceRows-most      the rows of one owner are at most the member rows that it takes
+--   rows-most           the rows of pieces that conform are at most 1,024
+use mathlib.Core.Path.{_≡_, refl, ap, _∙_, subst}
+use mathlib.Core.Bool.{Bool, true, false}
+use mathlib.Core.Option.{Option, none, some}
+use mathlib.Core.List.{List, [], _∷_}
+use Prim.Native.Nat.{ℕ, zero, suc, _+_, _≤_, _<_}
+use native.Mathlib.Omega.{arith}
+use lib.ListN.{length, length-append}
+use lib.Dec.{eqb, leb}
+use borrow.Author.Tests.{eqb-true, leb-true, le-leb, lt-leb}
+use Rattle.encoding.specs.Result.{pick}
+use Rattle.encoding.specs.ResultLaws.{some≢none}
+use Rattle.encoding.specs.Types.{Ty}
+use Rattle.encoding.specs.Table.{types, members, kind, field, mark, isRecord, owns, range, ownRows, fine, faults, taken, Member, memberTy, trees, requiredOf, optionalOf, lookup, base, upward, chain}
+use Rattle.encoding.specs.Table
+use Rattle.encoding.specs.RuleLaws.{owns-record, named-ok, chain-node, base-right, taken-rises, taken-next, taken-whole, members-most}
+use Rattle.encoding.specs.Optional.{Piece, required, optional, skipped, frontBytes, contentBytes, pieceBytes}
+use Rattle.encoding.specs.Slice.{Format, Slice, known, passed, Stand, first, later, isLast, sliceFront, dataBytes}
+use Rattle.encoding.specs.Message.{Pieces, list, exception, class, Row, listRow, pieceMember, pieceRows, sliceRows, orZero, firstIn, rows}
+use Rattle.encoding.specs.Conform.{Level, Owned, Follow, Slices, Conform}
+
+-- ---- one owner
+
+-- how many members have at least this tag
+unfoldable above : ℕ → List Member → ℕ
+above least [] = 0
+above least (m ∷ ms) = pick (leb least (m .key)) 1 0 + above least ms
+
+above-most : (least : ℕ) (ms : List Member) → above least ms ≤ length ms
+unfolding above
+above-most least [] = omega arith
+above-most least (m ∷ ms) = go (leb least (m .key)) (above-most least ms)
+  where
+    go : (b : Bool) → above least ms ≤ length ms → pick b 1 0 + above least ms ≤ suc (length ms)
+    go true h = omega arith
+    go false h = omega arith
+
+-- a greater least tag leaves no more
+above-less : (least k : ℕ) → least ≤ k → (ms : List Member) → above k ms ≤ above least ms
+unfolding above
+above-less least k h [] = omega arith
+above-less least k h (m ∷ ms) = go (leb k (m .key)) refl (above-less least k h ms)
+  where
+    go : (b : Bool) → leb k (m .key) ≡ b → above k ms ≤ above least ms → pick b 1 0 + above k ms ≤ pick (leb least (m .key)) 1 0 + above least ms
+    go true e ih = rw (le-leb least (m .key) (omega (arith, leb-true k (m .key) e))) (omega arith)
+    go false e ih = omega arith
+
+-- a member that is found is one less behind its tag
+above-found : (least k : ℕ) → least ≤ k → (ms : List Member) {x : Member} → lookup k ms ≡ some x → suc (above (suc k) ms) ≤ above least ms
+unfolding above lookup
+above-found least k h [] e = absurd (some≢none e refl)
+above-found least k h (m ∷ ms) {x} e = go (eqb k (m .key)) refl e (λ q. above-found least k h ms {x = x} q)
+  where
+    go : (b : Bool) → eqb k (m .key) ≡ b → pick b (some m) (lookup k ms) ≡ some x → (lookup k ms ≡ some x → suc (above (suc k) ms) ≤ above least ms)
+        → suc (pick (leb (suc k) (m .key)) 1 0 + above (suc k) ms) ≤ pick (leb least (m .key)) 1 0 + above least ms
+    go true q e ih =
+        let z = eqb-true k (m .key) q in
+        rw (lt-leb (suc k) (m .key) (omega arith), le-leb least (m .key) (omega arith)) (omega (arith, above-less least (suc k) (omega arith) ms))
+    go false q e ih = more (leb (suc k) (m .key)) refl (ih e)
+      where
+        more : (b : Bool) → leb (suc k) (m .key) ≡ b → suc (above (suc k) ms) ≤ above least ms → suc (pick b 1 0 + above (suc k) ms) ≤ pick (leb least (m .key)) 1 0 + above least ms
+        more true r i = rw (le-leb least (m .key) (omega (arith, leb-true (suc k) (m .key) r))) (omega arith)
+        more false r i = omega arith
+
+listRow-most : (o : Option Member) (at : ℕ) (b : List ℕ) (rs : List Row) → length (listRow o at b rs) ≤ suc (length rs)
+unfolding listRow
+listRow-most none at b rs = omega arith
+listRow-most (some m) at b rs = omega arith
+
+module _ (T : List ℕ) where
+  level-most : (t : ℕ) (ms : List Member) (least : ℕ) (ps : List Piece) → Level ms (Table.optional T t) least ps → (at : ℕ)
+      → length (pieceRows T t at ps) ≤ length ms + above least (Table.optional T t)
+  unfolding pieceRows pieceMember listRow contentBytes
+  level-most t [] least [] L at = omega arith
+  level-most t [] least (required i b ∷ ps) L at = absurd L
+  level-most t [] least (optional k f b ∷ ps) (K, L) at =
+      let one : length (pieceRows T t at (optional k f b ∷ ps)) ≤ suc (length (pieceRows T t (at + length (pieceBytes (optional k f b))) ps)) =
+      listRow-most (lookup k (Table.optional T t)) (at + length (frontBytes (optional k f b))) b (pieceRows T t (at + length (pieceBytes (optional k f b))) ps) in
+      omega (arith, above-found least k (K .rises) (Table.optional T t) (K .found), level-most t [] (suc k) ps L (at + length (pieceBytes (optional k f b))))
+  level-most t [] least (skipped k f b ∷ ps) (U, L) at =
+      let none : length (pieceRows T t at (skipped k f b ∷ ps)) ≡ length (pieceRows T t (at + length (pieceBytes (skipped k f b))) ps) = refl in
+      omega (arith, above-less least (suc k) (omega (arith, U .rises)) (Table.optional T t), level-most t [] (suc k) ps L (at + length (pieceBytes (skipped k f b))))
+  level-most t (x ∷ ms) least [] L at = absurd L
+  level-most t (x ∷ ms) least (required i b ∷ ps) (e, h, L) at =
+      let one : length (pieceRows T t at (required i b ∷ ps)) ≤ suc (length (pieceRows T t (at + length (pieceBytes (required i b))) ps)) =
+      listRow-most (lookup i (Table.required T t)) (at + length (frontBytes (required i b))) b (pieceRows T t (at + length (pieceBytes (required i b))) ps) in
+      omega (arith, level-most t ms least ps L (at + length (pieceBytes (required i b))))
+  level-most t (x ∷ ms) least (optional k f b ∷ ps) L at = absurd L
+  level-most t (x ∷ ms) least (skipped k f b ∷ ps) L at = absurd L
+
+  -- each member row is required or optional
+  marked-sum : (l : List Ty) (i : ℕ) (rs : List ℕ) → length (requiredOf T l i rs) + length (optionalOf T l rs) ≡ length rs
+  unfolding requiredOf optionalOf
+  marked-sum l i [] = omega arith
+  marked-sum l i (m ∷ rs) = go (eqb (mark T m) 0) (marked-sum l (suc i) rs) (marked-sum l i rs)
+    where
+      go : (b : Bool) → length (requiredOf T l (suc i) rs) + length (optionalOf T l rs) ≡ length rs → length (requiredOf T l i rs) + length (optionalOf T l rs) ≡ length rs
+          → length (pick b (record { row = m; key = i; ty = memberTy T l m } ∷ requiredOf T l (suc i) rs) (requiredOf T l i rs))
+          + length (pick b (optionalOf T l rs) (record { row = m; key = Table.tag T m; ty = memberTy T l m } ∷ optionalOf T l rs)) ≡ suc (length rs)
+      go true h k = omega arith
+      go false h k = omega arith
+
+  length-range : (i k : ℕ) → length (range i k) ≡ k
+  unfolding range
+  length-range i zero = refl
+  length-range i (suc k) = ap suc (length-range (suc i) k)
+
+  pub pieceRows-most : (t : ℕ) (ps : List Piece) → Owned T t ps → (at : ℕ) → length (pieceRows T t at ps) ≤ field T t 1
+  unfolding Table.required Table.optional ownRows
+  pieceRows-most t ps L at =
+      omega (arith, level-most t (Table.required T t) 0 ps L at, above-most 0 (Table.optional T t), marked-sum (trees T) 0 (ownRows T t), length-range (field T t 0) (field T t 1))
+
+-- ---- a chain, and a message
+
+module _ (T : List ℕ) (right : faults T ≡ fine) where
+  -- a base row + 1 is that of a record
+  abbrev Record : ℕ → Type 0
+  Record zero = Unit {0}
+  Record (suc r) = (r < types T) × (isRecord (kind T r) ≡ true)
+
+  base-record : (r : ℕ) → Record (suc r) → (b : ℕ) → base T r ≡ b → (b ≤ r) × Record b
+  base-record r R zero e = (omega arith, tt)
+  base-record r R (suc q) e =
+      let B = base-right T right r (R .0) (R .1) q e in
+      (omega (arith, B .0), (omega (arith, B .0, R .0), ap (λ (k : ℕ). isRecord k) (B .1) ∙ R .1))
+
+  -- the slices of a record and its bases, one after another: the first number is fuel, since a base is smaller
+  upward-most : (f b : ℕ) → b ≤ f → Record b → (g : Format) (ss : List Slice) → Follow T (upward (chain T) b) ss → (s : Stand) (at : ℕ)
+      → length (sliceRows T g s at (upward (chain T) b) ss) ≤ taken T b
+  unfolding upward sliceRows
+  upward-most zero zero h R g [] F s at = omega arith
+  upward-most zero zero h R g (sl ∷ ss) F s at = absurd F
+  upward-most zero (suc r) h R g ss F s at = absurd (omega arith)
+  upward-most (suc f) zero h R g [] F s at = omega arith
+  upward-most (suc f) zero h R g (sl ∷ ss) F s at = absurd F
+  upward-most (suc f) (suc r) h R g ss F s at =
+      let B = base-record r R (base T r) refl in
+      rw (chain-node T r) (go ss (subst (λ (ts : List ℕ). Follow T ts ss) (chain-node T r) F)
+      (λ ss F s at. omega (arith, upward-most f (base T r) (omega (arith, B .0)) (B .1) g ss F s at, taken-rises T (base T r) r (B .0))))
+    where
+      go : (ss : List Slice) → Follow T (r ∷ upward (chain T) (base T r)) ss
+          → ((ss : List Slice) → Follow T (upward (chain T) (base T r)) ss → (s : Stand) (at : ℕ) → length (sliceRows T g s at (upward (chain T) (base T r)) ss) ≤ taken T r)
+          → length (sliceRows T g s at (r ∷ upward (chain T) (base T r)) ss) ≤ taken T (suc r)
+      go [] F ih = absurd F
+      go (known o ps ∷ ss) (e, L, F) ih =
+          let d = at + length (sliceFront g s (isLast ss) (known o ps)) in
+          let rest = sliceRows T g (later g) (d + length (dataBytes (known o ps))) (upward (chain T) (base T r)) ss in
+          let sum : length (sliceRows T g s at (r ∷ upward (chain T) (base T r)) (known o ps ∷ ss)) ≡ length (pieceRows T r d ps) + length rest = length-append (pieceRows T r d ps) rest in
+          omega (arith, pieceRows-most T r ps L d, ih ss F (later g) (d + length (dataBytes (known o ps))), taken-next T r (owns-record (kind T r) (R .1)))
+      go (passed b nm d ∷ ss) F ih = absurd F
+
+  slices-most : (top : ℕ) (g : Format) (ss : List Slice) → Slices T top g ss → (s : Stand) (at : ℕ) → length (sliceRows T g s at (chain T (firstIn T ss)) ss) ≤ members T
+  unfolding sliceRows firstIn orZero upward
+  slices-most top g [] C s at = absurd C
+  slices-most top g (known o ps ∷ ss) C s at =
+      let N = named-ok T o (C .row) (C .known) in
+      rw (C .known) (omega (
+        arith,
+        upward-most (suc (C .row)) (suc (C .row)) (omega arith) (N .0, N .1) g (known o ps ∷ ss) (C .follow) s at,
+        taken-rises T (suc (C .row)) (types T) (N .0),
+        taken-whole T right,
+      ))
+  slices-most top g (passed b nm d ∷ ss) (P, C) s at = slices-most top g ss C (later g) _
+
+  pub rows-most : (top : ℕ) (f : Format) (p : Pieces) → top < types T → Conform T top f p → length (rows T top f p) ≤ 1024
+  unfolding rows
+  rows-most top f (list ps) l (k, g, L) =
+      let o : owns (kind T top) ≡ true = ap (λ (i : ℕ). owns i) k in
+      omega (arith, pieceRows-most T top ps L 6, taken-next T top o, taken-rises T (suc top) (types T) l, taken-whole T right, members-most T right)
+  rows-most top f (exception ss) l (k, C) = omega (arith, slices-most top f ss C first 6, members-most T right)
+  rows-most top f (class ss) l (k, C) = omega (arith, slices-most top f ss C first 7, members-most T right)
