@@ -17,6 +17,7 @@
 --   rows-there                     an owner's member rows are there
 --   owner-at                       the owner of a member row
 --   mark-known, tags-differ        a mark is 0 or 1; optionals of one owner and one tag are one
+--   fault-place                    where a broken rule stands is at most so far into the table, whatever the table
 use mathlib.Core.Path.{_≡_, refl, sym, ap, _∙_, subst}
 use mathlib.Core.Bool.{Bool, true, false, _&&_, _||_, not, true≢false, false≢true}
 use mathlib.Core.Logic.{_⊎_, inl, inr}
@@ -31,7 +32,7 @@ use borrow.Author.Tests.{eqb-true, eqb-false, leb-true, leb-false, ltb-true, ltb
 use Rattle.encoding.specs.Result.{pick, firstOf, sameBytes}
 use Rattle.encoding.specs.ResultLaws.{both-true, both-false, either-false, sameBytes-ok, sameBytes-same}
 use Rattle.encoding.specs.Types.{Ty}
-use Rattle.encoding.specs.Table.{types, members, kind, field, mark, tag, isRecord, owns, takes, range, namesAt, nameOf, Fault, fine, fault, orElse, faultAt, any, headerTests, headerRules, taken, noBase, alike, typeRules, sumRules, ownerOf, tagAlike, memberRules, rowAt, memberAt, pass, passes, faults, search, named, base, upward, climb, chain, Member, memberTy, lookup, requiredOf, optionalOf, required, optional, ownRows, trees}
+use Rattle.encoding.specs.Table.{types, members, kind, field, mark, tag, isRecord, owns, takes, range, namesAt, nameOf, Fault, fine, fault, orElse, faultAt, any, headerTests, headerRules, taken, noBase, alike, typeRules, sumRules, ownerOf, tagAlike, memberRules, typesAt, membersAt, rowAt, memberAt, pass, passes, faults, search, named, base, upward, climb, chain, Member, memberTy, lookup, requiredOf, optionalOf, required, optional, ownRows, trees}
 
 -- ---- passes
 
@@ -236,21 +237,33 @@ module _ (T : List ℕ) (t k : ℕ) (m : Member) where
   unfolding optional ownRows
   optional-own h = optional-among T (trees T) k (field T t 0) (field T t 1) m h
 
+-- ---- a header that breaks no rule
+
+module _ (T : List ℕ) (right : headerRules T ≡ fine) where
+  header-test : (i : ℕ) → getD (headerTests T) i (0, false) .1 ≡ false
+  unfolding headerRules headerTests
+  header-test i = test-at (headerTests T) tt (faultAt-fine 0 (firstOf (headerTests T)) right) i
+
+  types-few : types T ≤ 256
+  unfolding headerTests
+  types-few = ltb-false 256 (types T) (either-false (eqb (types T) 0) (ltb 256 (types T)) (header-test 2) .1)
+
+  members-few : members T ≤ 1024
+  unfolding headerTests
+  members-few = ltb-false 1024 (members T) (header-test 3)
+
 -- ---- what no broken rule gives
 
 module _ (T : List ℕ) (right : faults T ≡ fine) where
-  -- each test of the header's rules is false
-  header-test : (i : ℕ) → getD (headerTests T) i (0, false) .1 ≡ false
-  unfolding faults passes headerRules headerTests
-  header-test i = test-at (headerTests T) tt (faultAt-fine 0 (firstOf (headerTests T)) (orElse-fine (headerRules T) _ right .0)) i
-
-  pub members-most : members T ≤ 1024
-  unfolding headerTests
-  members-most = ltb-false 1024 (members T) (header-test 3)
+  header-right : headerRules T ≡ fine
+  unfolding faults passes
+  header-right = orElse-fine (headerRules T) _ right .0
 
   pub types-most : types T ≤ 256
-  unfolding headerTests
-  types-most = ltb-false 256 (types T) (either-false (eqb (types T) 0) (ltb 256 (types T)) (header-test 2) .1)
+  types-most = types-few T header-right
+
+  pub members-most : members T ≤ 1024
+  members-most = members-few T header-right
 
   pub type-test : (t : ℕ) → t < types T → (i : ℕ) → getD (typeRules T t) i (0, false) .1 ≡ false
   unfolding faults passes typeRules
@@ -405,3 +418,53 @@ module _ (T : List ℕ) (right : faults T ≡ fine) where
       go : (r : Bool) → ltb m i ≡ r → (m ≡ i → ⊥) → m ≡ i
       go true r s = absurd (tags-earlier t i l o c d m a (ltb-true m i r) p q e)
       go false r s = let h : i ≤ m = ltb-false m i r in absurd (tags-earlier t m l o a b i c (omega (arith, s)) q p (sym e))
+
+-- ---- where a broken rule stands
+
+orElse-fault : (f g : Fault) (c p : ℕ) → orElse f g ≡ fault c p → (f ≡ fault c p) ⊎ ((f ≡ fine) × (g ≡ fault c p))
+unfolding orElse
+orElse-fault fine g c p h = inr (refl, h)
+orElse-fault (fault d q) g c p h = inl h
+
+faultAt-place : (place n c p : ℕ) → faultAt place n ≡ fault c p → p ≡ place
+unfolding faultAt
+faultAt-place place zero c p h = let z : _≡_ {A = ℕ} 0 1 = cc in absurd (omega arith)
+faultAt-place place (suc n) c p h = cc
+
+pass-place : (place : ℕ → ℕ) (rules : ℕ → List (ℕ × Bool)) (most i k : ℕ) → ((r : ℕ) → r < i + k → place r ≤ most) → (c p : ℕ) → pass place rules (range i k) ≡ fault c p → p ≤ most
+unfolding pass range
+pass-place place rules most i zero all c p h = let z : _≡_ {A = ℕ} 0 1 = cc in absurd (omega arith)
+pass-place place rules most i (suc k) all c p h = go (orElse-fault (faultAt (place i) (firstOf (rules i))) _ c p h) (λ e. pass-place place rules most (suc i) k (λ r l. all r (omega arith)) c p e)
+  where
+    go : (faultAt (place i) (firstOf (rules i)) ≡ fault c p) ⊎ ((faultAt (place i) (firstOf (rules i)) ≡ fine) × (pass place rules (range (suc i) k) ≡ fault c p))
+        → (pass place rules (range (suc i) k) ≡ fault c p → p ≤ most) → p ≤ most
+    go (inl e) rest = omega (arith, faultAt-place (place i) (firstOf (rules i)) c p e, all i (omega arith))
+    go (inr e) rest = rest (e .1)
+
+-- a broken rule stands at 0 or at the first byte of a row: 12 of the header, 256 type rows, 1,024 member rows
+pub fault-place : (T : List ℕ) (c p : ℕ) → faults T ≡ fault c p → p ≤ 11276
+unfolding faults passes headerRules sumRules rowAt memberAt membersAt typesAt
+fault-place T c p h = go (orElse-fault (headerRules T) _ c p h)
+  where
+    rest : headerRules T ≡ fine → passes (pass (rowAt T) (typeRules T) (range 0 (types T)) ∷ sumRules T ∷ pass (memberAt T) (memberRules T) (range 0 (members T)) ∷ []) ≡ fault c p → p ≤ 11276
+    rest e k = types-then (orElse-fault (pass (rowAt T) (typeRules T) (range 0 (types T))) _ c p k)
+      where
+        last : passes (pass (memberAt T) (memberRules T) (range 0 (members T)) ∷ []) ≡ fault c p → p ≤ 11276
+        last q = one (orElse-fault (pass (memberAt T) (memberRules T) (range 0 (members T))) fine c p q)
+          where
+            one : (pass (memberAt T) (memberRules T) (range 0 (members T)) ≡ fault c p) ⊎ ((pass (memberAt T) (memberRules T) (range 0 (members T)) ≡ fine) × (fine ≡ fault c p)) → p ≤ 11276
+            one (inl z) = pass-place (memberAt T) (memberRules T) 11276 0 (members T) (λ r l. omega (arith, types-few T e, members-few T e)) c p z
+            one (inr z) = let u : _≡_ {A = ℕ} 0 1 = cc in absurd (omega arith)
+
+        sum-then : (sumRules T ≡ fault c p) ⊎ ((sumRules T ≡ fine) × (passes (pass (memberAt T) (memberRules T) (range 0 (members T)) ∷ []) ≡ fault c p)) → p ≤ 11276
+        sum-then (inl z) = omega (arith, faultAt-place 0 _ c p z)
+        sum-then (inr z) = last (z .1)
+
+        types-then : (pass (rowAt T) (typeRules T) (range 0 (types T)) ≡ fault c p)
+            ⊎ ((pass (rowAt T) (typeRules T) (range 0 (types T)) ≡ fine) × (passes (sumRules T ∷ pass (memberAt T) (memberRules T) (range 0 (members T)) ∷ []) ≡ fault c p)) → p ≤ 11276
+        types-then (inl z) = pass-place (rowAt T) (typeRules T) 11276 0 (types T) (λ r l. omega (arith, types-few T e)) c p z
+        types-then (inr z) = sum-then (orElse-fault (sumRules T) _ c p (z .1))
+
+    go : (headerRules T ≡ fault c p) ⊎ ((headerRules T ≡ fine) × (passes (pass (rowAt T) (typeRules T) (range 0 (types T)) ∷ sumRules T ∷ pass (memberAt T) (memberRules T) (range 0 (members T)) ∷ []) ≡ fault c p)) → p ≤ 11276
+    go (inl e) = omega (arith, faultAt-place 0 (firstOf (headerTests T)) c p e)
+    go (inr e) = rest (e .0) (e .1)
