@@ -1,0 +1,53 @@
+// Prints, for each recorded table, the form of an optional of each of its rows as a letter, `a` for number 0.
+// Standard input has the tables one after another, each a length of two bytes, little-endian, and that many bytes.
+// One of them has 250 struct rows, each with four members of the row before: their trees are never walked.
+use libc::STDIN_FILENO;
+use libc::STDOUT_FILENO;
+
+fn letter(form: u8) {
+    if form < 11 {
+        io::write_all(STDOUT_FILENO, &[97 + form]);
+    }
+}
+
+fn show(table: &[u8]) {
+    let forms = table::forms::all(table);
+    let n = table::rows(table);
+    let mut t = 0;
+    while t < n {
+        letter(forms[t]);
+        t += 1;
+    }
+    io::write_all(STDOUT_FILENO, b"\n");
+}
+
+// Reads one table of n bytes and shows its forms.
+fn one(buf: &mut [u8], n: usize) {
+    if n <= buf.len() {
+        let count = io::read_full(STDIN_FILENO, &mut buf[0..n]);
+        if count <= buf.len() {
+            show(&buf[0..count]);
+        }
+    }
+}
+
+// Reads the next length and its table; false at the end of the input.
+fn next() -> bool {
+    let mut head = [0u8; 2];
+    let got = io::read_full(STDIN_FILENO, &mut head);
+    if got < 2 {
+        return false;
+    }
+    let n = wire::short_at(&head, 0);
+    let mut buf = io::large_buffer();
+    one(&mut buf, n);
+    true
+}
+
+// The input is taken for at most a million tables, so that the loop ends.
+fn main() {
+    let mut turns: u64 = 1000000;
+    while turns > 0 && next() {
+        turns -= 1;
+    }
+}
