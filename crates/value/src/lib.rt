@@ -101,8 +101,9 @@ fn elements(table: &[u8], t: usize, e: usize, n: usize, s: &[u8]) -> Step
             Step::Took(m) => {
                 at += m;
             }
-            Step::Fault(f, p) => {
-                return Step::Fault(f, at + p);
+            Step::Fault(number, p) => {
+                let place = at + p;
+                return Step::Fault(number, place);
             }
         }
         left -= 1;

@@ -177,7 +177,7 @@ pub +dictionary+elements+entries+pair+sequence+struct-value+value-spec : {M : Ty
     (λ c. search needs)  -- enum-known-step
     (λ c. search value-took-fits)  -- add-at
     (λ c. search needs)  -- enum-known-step-2
-    (λ c. search value-bad-fits)  -- add-t17
+    (λ c. search value-bad-fits)  -- add-place
     (λ c. search element-fault)  -- returns
     (λ c. omega arith)  -- sub-left
     (λ c. omega arith)  -- loop-less
