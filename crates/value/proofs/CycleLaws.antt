@@ -1,15 +1,15 @@
 -- What the readers of values, structs, sequences and dictionaries make of the answers of those that they call. Assumes nothing.
 --
---   row-not, as-bool .. as-other                   a value by its row's kind
+--   row-not, as-bool .. as-other                             a value by its row's kind
 --   struct-begin, member-gone, -read, -next, -fault, -done   the loop over members
---   seq-none, -took, -bad                          a sequence: its size, then its elements
---   element-begin, -next, -fault, -done            the loop over elements
---   dict-none, -took, -bad                         a dictionary: its size, then its entries
---   entry-begin, -next, -fault, -done              the loop over entries
---   pair-none, -took, -bad                         an entry: its key, then its value
---   value-row                                      a row of the table
---   exact-took, exact-bad                          exactly one value
---   ..-fits, ..-end                                what they take, and where they refuse, lies within the input
+--   seq-none, -took, -bad                                    a sequence: its size, then its elements
+--   dict-none, -took, -bad                                   a dictionary: its size, then its entries
+--   element-begin, -next, -fault, -done                      the loop over elements
+--   entry-begin, -next, -fault, -done                        the loop over entries
+--   key-end, pair-none, -took, -bad                          an entry: its key, then its value
+--   value-took-fits .. entries-bad-fits                      what they take, and where they refuse, does not wrap behind the bytes before
+--   value-row                                                a row of the table
+--   exact-took, -bad                                         exactly one value
 use mathlib.Core.Path.{_≡_, refl, sym, ap, _∙_}
 use mathlib.Core.Bool.{false}
 use mathlib.Core.List.{List}

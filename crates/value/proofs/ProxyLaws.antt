@@ -1,15 +1,15 @@
 -- The cases of a proxy's parts, by the answers of the readers that they call. Assumes nothing.
 --
---   name-whole, -cut, -bad                  a string of an identity, by its size
---   identity-is, -less, -none, -bad         an identity, by its two strings
---   facets-many, -end, -took, -bad, -none   facets, by their count
+--   name-whole, -cut, -bad, -end            a string of an identity, by its size
+--   identity-is, -less, -nil, -none, -bad   an identity, by its two strings; category-took, -bad the second within the input
+--   facets-many, -end, -took, -bad, -none   facets, by their count; size-end the count within the input
 --   endpoint-cut, -took, -bad               an endpoint
 --   addresses-text, -list                   an adapter; endpoints
 --   endpoints-took, -bad, -none             the count, and what it counts
 --   secured-.., settings-..                 secure, versions, and the endpoints; the mode before them
 --   reference-took, -bad, -none             facets, then the settings
---   proxy-nil, -took, -bad, -none           the identity, then the reference
---   .._place, .._end                        what they take, and where they refuse, lies within the input
+--   proxy-nil, -took, -bad, -none           the identity, then the reference; identity-end the identity within the input
+--   held-facets .. held-settings            what these take, and where they refuse, lies within the input
 use mathlib.Core.Path.{_≡_, refl, sym, ap, _∙_}
 use mathlib.Core.List.{List, [], _∷_}
 use Prim.Native.Nat.{ℕ, zero, suc, _+_, _-_, _^_, _≤_, _<_}

@@ -1,7 +1,7 @@
 -- Sums of places do not wrap: what a reader takes, and where it refuses, lies within what is left of the bytes in front. Assumes nothing.
 --
---   TookFits p, took-fits   what p takes, behind the n bytes before it
---   BadFits p, bad-fits     where p refuses
+--   TookFits p, took-fits         what p takes, behind the n bytes before it
+--   BadFits p, bad-fits           where p refuses
 --   any-took-fits, any-bad-fits   the same of a family of readers
 use mathlib.Core.Path.{_≡_}
 use mathlib.Core.List.{List}

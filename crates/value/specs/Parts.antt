@@ -18,26 +18,33 @@ use Rattle.encoding.specs.Table.{tys}
 use Rattle.encoding.specs.Value.{value}
 use Rattle.encoding.specs.Proxy.{identity, text, modeForm, versions, endpoint, endpoints}
 
+-- the tree of row e among the trees of the rows below t
 unfoldable pub partTy : List ℕ → ℕ → ℕ → Ty
 partTy T t e = getD (tys T t) e broken
 
+-- a key, then a value
 unfoldable pub entry : Ty → Ty → Parser (Unit {0})
 entry k v = value k >>= λ _. value v
 
+-- a string of an identity
 unfoldable pub name : Parser ℕ
 name = mapc (λ b _. length b) string
 
+-- nil where the name is empty
 unfoldable pub named : Parser ℕ
 named = mapc (λ (l : ℕ × ℕ) _. l .0) identity
 
+-- no endpoint: an adapter
 unfoldable pub addresses : ℕ → Parser (Unit {0})
 addresses n = pick (eqb n 0) text (times n endpoint)
 
+-- secure, protocol and encoding, then the endpoints
 unfoldable pub secured : Parser (Unit {0})
 secured = do
   _ ← bool
   _ ← versions
   endpoints
 
+-- the mode stands before them
 unfoldable pub settings : Parser (Unit {0})
 settings = must modeForm byte >>= λ _. secured

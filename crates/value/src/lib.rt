@@ -6,10 +6,9 @@ mod plain;
 mod proxy;
 
 ghost use mathlib.Core.Path.{_≡_};
-ghost use Prim.Native.Nat.{_+_, _*_};
 ghost use Rattle.encoding.specs.Result.{times};
 ghost use Rattle.encoding.specs.Types.{struct, seq, dict};
-ghost use Rattle.encoding.specs.Table.{kind, field, tys, tyOf, memberTys, ownRows};
+ghost use Rattle.encoding.specs.Table.{field, tys, tyOf, memberTys, ownRows};
 ghost use Rattle.encoding.specs.Value.{value, exact};
 ghost use Rattle.wire.specs.Steps.{stepOf};
 ghost use Rattle.value.specs.Parts.{partTy, entry};

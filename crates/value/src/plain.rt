@@ -1,6 +1,5 @@
 // Values without parts: bytes of any content, bools, strings, enums.
 ghost use mathlib.Core.Path.{_≡_};
-ghost use Prim.Native.Nat.{_<_};
 ghost use Rattle.encoding.specs.Result.{skip};
 ghost use Rattle.encoding.specs.Number.{bool};
 ghost use Rattle.encoding.specs.Proxy.{text};

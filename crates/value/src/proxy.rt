@@ -1,8 +1,7 @@
 // Proxies, read from the bytes in front.
 ghost use mathlib.Core.Path.{_≡_};
-ghost use Prim.Native.Nat.{_+_, _-_, _<_};
 ghost use Rattle.encoding.specs.Result.{times};
-ghost use Rattle.encoding.specs.Proxy.{identity, facets, endpoint, endpoints, reference, proxy};
+ghost use Rattle.encoding.specs.Proxy.{facets, endpoint, endpoints, reference, proxy};
 ghost use Rattle.wire.specs.Steps.{stepOf, sizedOf};
 ghost use Rattle.value.specs.Parts.{name, named, addresses, secured, settings};
 use crate::plain;

@@ -253,7 +253,7 @@ pub +dictionary+elements+entries+pair+sequence+struct-value+value-spec : {M : Ty
     (λ c. search (member-next _ _ _ _ _ _ _ (c .before .before .before .before .before .before .before .before .loop .inv), member-read))  -- loop-again
     (λ c. search member-done))  -- returns-3
     (λ t. value-lts.spec (value-calls t) (value-at t) value.Post
-    (λ c. search row-not)  -- returns
+    (λ c. row-not _ _ _ _ (omega arith))  -- returns
     (λ c κs. search needs)  -- kind-requires
     (λ c κs. search needs)  -- bool-requires
     (λ c κs. search needs)  -- skip-requires
