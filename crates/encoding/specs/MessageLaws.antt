@@ -1,12 +1,13 @@
 -- The laws of a whole message: what its readers take and where they refuse lies within the input, and what acceptance tells.
 --
---   held-parameters, held-contents, held-body   of a parameter list, of what an encapsulation holds, of a message
+--   closed-parameters, closed-contents, closed-message   what each way of joining readers keeps; held-contents, held-body the extent
 --   ended-ok               nothing is behind the record
 --   length-encapsulate, body-encapsulated   an encapsulation is six bytes longer than what it holds, and read as that
 --   top-there              a top is a row of a kind from 13 on
 --   rules-ok, rules-step   what the rules accept: table, top, limit and body; rules-body where only the body is left
 use mathlib.Core.Path.{_≡_, refl, sym, ap, _∙_}
-use mathlib.Core.Bool.{false}
+use mathlib.Core.Bool.{false, _||_, not}
+use mathlib.Core.Option.{Option}
 use mathlib.Core.List.{List, [], _∷_, _++_}
 use Prim.Native.Nat.{ℕ, zero, suc, _+_, _^_, _≤_, _<_}
 use native.Mathlib.Omega.{arith}
@@ -14,40 +15,51 @@ use lib.ListN.{length, length-append}
 use lib.Seq.{drop-at}
 use lib.Dec.{eqb, leb, ltb}
 use borrow.Author.Tests.{leb-false, ltb-false, le-ltb, eq-eqb}
-use Rattle.encoding.specs.Result.{Res, ok, bad, Parser, shift, _>>=_, must, atEnd, firstOf}
-use Rattle.encoding.specs.ResultLaws.{ok≢bad, either-false, firstOf-ok, bind-next, must-step, Held, held-bind, held-pick, held-must, held-mapc, atEnd-fits}
+use Rattle.encoding.specs.Result.{Res, ok, bad, Parser, shift, _>>=_, must, atEnd, atMark, firstOf}
+use Rattle.encoding.specs.ResultLaws.{Closed, Lies, by-pick, held, pick-most, atMark-looks, ok≢bad, either-false, firstOf-ok, bind-next, must-step, Held, atEnd-fits}
 use Rattle.encoding.specs.Number.{byte, number, leBytes}
-use Rattle.encoding.specs.NumberLaws.{length-leBytes, number-written, held-byte, held-number}
+use Rattle.encoding.specs.NumberLaws.{closed-byte, closed-number, length-leBytes, number-written}
 use Rattle.encoding.specs.Table.{types, kind, Fault, fine, fault, faults, required, optional}
-use Rattle.encoding.specs.OptionalLaws.{held-optionals, held-requireds}
+use Rattle.encoding.specs.Optional.{Piece}
+use Rattle.encoding.specs.OptionalLaws.{closed-optionals, closed-requireds}
 use Rattle.encoding.specs.Slice.{sliced, Chain}
-use Rattle.encoding.specs.SliceLaws.{held-slices}
+use Rattle.encoding.specs.SliceLaws.{closed-slices}
 use Rattle.encoding.specs.Message.{list, exception, class, Read, encapsulate, parameters, markerForm, contents, sizeForm, versionForm, ended, body, noTop, limit, afterRules, unless, rules}
 
-pub held-parameters : (T : List ℕ) (t : ℕ) → Held (parameters T t)
-unfolding parameters
-held-parameters T t =
-    held-bind _ _ (held-requireds (required T t))
-    (λ a. held-mapc _ (held-optionals (optional T t) atEnd atEnd-fits) (λ ps _. a ++ ps))
+ended-in : {A : Type 0} (a : A) (xs : List ℕ) → Lies (length xs) (ended a xs)
+unfolding ended
+ended-in a [] = omega arith
+ended-in a (x ∷ xs) = omega arith
+
+-- what each way of joining readers keeps; a parameter list is read to the end
+module _ {P : (A : Type 0) → Parser A → Type 0} {Stops : (List ℕ → Option ℕ) → Type 0} (C : Closed P Stops) (marked : Stops atMark) (to-end : Stops atEnd) (T : List ℕ) (top : ℕ) where
+  pub closed-parameters : P (List Piece) (parameters T top)
+  unfolding parameters
+  closed-parameters = C .by-bind _ _ (closed-requireds C (required T top)) (λ a. C .by-mapc _ (closed-optionals C atEnd to-end (optional T top)) (λ ps _. a ++ ps))
+
+  pub closed-contents : P Read (contents T top)
+  unfolding contents markerForm
+  closed-contents =
+      by-pick C (eqb (kind T top) 15) _ _ (C .by-mapc _ closed-parameters (λ ps _. record { format = sliced; pieces = list ps }))
+      (by-pick C (eqb (kind T top) 14) _ _
+      (C .by-bind _ _ (C .by-must byte (closed-byte C) markerForm (λ b. pick-most (eqb b 1) 0 13 (omega arith) (omega arith)))
+      (λ _. C .by-mapc _ (closed-slices C marked T top) (λ (c : Chain) _. record { format = c .format; pieces = class (c .list) })))
+      (C .by-mapc _ (closed-slices C marked T top) (λ (c : Chain) _. record { format = c .format; pieces = exception (c .list) })))
+
+  -- the size is judged with the length l of the input; `last` is the end of the message
+  pub closed-message : ((r : Read) → P Read (ended r)) → (l : ℕ) → P Read (must (sizeForm l) (number 4) >>= λ _. must versionForm (number 2) >>= λ _. contents T top >>= ended)
+  unfolding sizeForm versionForm
+  closed-message last l =
+      C .by-bind _ _ (C .by-must _ (closed-number C 4) (sizeForm l) (λ n. pick-most (ltb n 6 || not (eqb n l)) 5 0 (omega arith) (omega arith)))
+      (λ _. C .by-bind _ _ (C .by-must _ (closed-number C 2) versionForm (λ v. pick-most (eqb v 257) 0 6 (omega arith) (omega arith)))
+      (λ _. C .by-bind _ ended closed-contents last))
 
 pub held-contents : (T : List ℕ) (top : ℕ) → Held (contents T top)
-unfolding contents
-held-contents T top =
-    held-pick (eqb (kind T top) 15) _ _ (held-mapc _ (held-parameters T top) (λ ps _. record { format = sliced; pieces = list ps }))
-    (held-pick (eqb (kind T top) 14) _ _
-    (held-bind _ _ (held-must byte held-byte markerForm) (λ _. held-mapc _ (held-slices T top) (λ (c : Chain) _. record { format = c .format; pieces = class (c .list) })))
-    (held-mapc _ (held-slices T top) (λ (c : Chain) _. record { format = c .format; pieces = exception (c .list) })))
-
-held-ended : (r : Read) → Held (ended r)
-unfolding ended
-held-ended r [] = omega arith
-held-ended r (x ∷ xs) = omega arith
+held-contents = closed-contents held (atMark-looks .fits) atEnd-fits
 
 pub held-body : (T : List ℕ) (top : ℕ) → Held (body T top)
 unfolding body
-held-body T top m =
-    held-bind _ _ (held-must _ (held-number 4) (sizeForm (length m)))
-    (λ _. held-bind _ _ (held-must _ (held-number 2) versionForm) (λ _. held-bind _ ended (held-contents T top) held-ended)) m
+held-body T top m = closed-message held (atMark-looks .fits) atEnd-fits T top ended-in (length m) m
 
 pub ended-ok : {A : Type 0} (a : A) (xs : List ℕ) {b : A} {n : ℕ} → ended a xs ≡ ok b n → (xs ≡ []) × (b ≡ a) × (n ≡ 0)
 unfolding ended

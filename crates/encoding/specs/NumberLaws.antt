@@ -4,7 +4,8 @@
 --   val-leBytes, leBytes-val      a number written is the number read, and the other way round, of any width
 --   size-short, size-long         what a size is written as
 --   -written, -canonical          what the encoder makes is read back; what was read is what the encoder makes
---   framed-, held-, eats-, starved-   of each reader, and ends- of those that deliver bytes
+--   closed-                       of each reader, what each way of joining readers keeps; framed- and held- are the frame and the extent
+--   eats-, starved-, ends-        of each reader, the last of those that deliver bytes
 use mathlib.Core.Path.{_≡_, refl, sym, ap, _∙_, subst}
 use mathlib.Core.Bool.{Bool, true, false}
 use mathlib.Core.List.{List, [], _∷_, _++_, append-assoc}
@@ -14,8 +15,9 @@ use lib.ListN.{length, take, drop}
 use lib.Seq.{drop-at, length-take-le}
 use lib.Dec.{ltb}
 use borrow.Author.Tests.{leb-false, ltb-true, ltb-false, lt-leb, lt-ltb, le-ltb}
-use Rattle.encoding.specs.Result.{ok, pick, _>>=_, pure, chunk, item, must, firstOf}
-use Rattle.encoding.specs.ResultLaws.{Bound, bind-ok, bind-step, bind-take, bind-written, pure-ok, chunk-ok, chunk-written, item-ok, item-step, must-ok, must-step, firstOf-ok, Framed, framed-bind, framed-pure, framed-pick, framed-chunk, framed-item, framed-must, framed-mapc, Held, held-bind, held-pure, held-pick, held-chunk, held-item, held-must, held-mapc, Ends, ends-chunk, ends-item, ends-bind, Eats, eats-chunk, eats-first, eats-item, eats-must, eats-mapc, Starved, starved-chunk, starved-bind, starved-item, starved-must}
+use mathlib.Core.Option.{Option}
+use Rattle.encoding.specs.Result.{Parser, ok, pick, _>>=_, pure, chunk, item, must, firstOf}
+use Rattle.encoding.specs.ResultLaws.{Closed, by-pick, framed, held, pick-most, firstOf-most, firstOf-none, Bound, bind-ok, bind-step, bind-take, bind-written, pure-ok, chunk-ok, chunk-written, item-ok, item-step, must-ok, must-step, firstOf-ok, Framed, Held, Ends, ends-chunk, ends-item, ends-bind, Eats, eats-chunk, eats-first, eats-item, eats-must, eats-mapc, Starved, starved-chunk, starved-bind, starved-item, starved-must}
 use Rattle.encoding.specs.Number.{val, leBytes, negative, number, byte, boolForm, bool, sizeForm, sizeTail, size, sizeBytes, lengthForm, declared, Content, string, stringBytes}
 
 -- ---- bytes
@@ -83,14 +85,6 @@ number-canonical k xs b {n} {m} h =
     let l : length (take k xs) ≡ k = length-take-le k xs (e .0) in
     rw (e .2, e .1) (sym (rw l at (leBytes-val (take k xs) (bytes-take k xs b))), rw l at (val-below (take k xs) (bytes-take k xs b)), refl)
 
-pub framed-number : (k : ℕ) → Framed (number k)
-unfolding number
-framed-number k = framed-chunk k val
-
-pub held-number : (k : ℕ) → Held (number k)
-unfolding number
-held-number k = held-chunk k val
-
 pub eats-number : (k : ℕ) → 1 ≤ k → Eats (number k)
 unfolding number
 eats-number k h = eats-chunk k val h
@@ -99,15 +93,58 @@ pub starved-number : (k : ℕ) → Starved (number (suc k))
 unfolding number
 starved-number k = starved-chunk k val
 
--- ---- one byte
+-- ---- what each way of joining readers keeps
 
-pub framed-byte : Framed byte
-unfolding byte
-framed-byte = framed-number 1
+module _ {P : (A : Type 0) → Parser A → Type 0} {Stops : (List ℕ → Option ℕ) → Type 0} (C : Closed P Stops) where
+  pub closed-number : (k : ℕ) → P ℕ (number k)
+  unfolding number
+  closed-number k = C .by-chunk k val
+
+  pub closed-byte : P ℕ byte
+  unfolding byte
+  closed-byte = closed-number 1
+
+  pub closed-bool : P (Unit {0}) bool
+  unfolding bool boolForm
+  closed-bool = C .by-mapc _ (C .by-must _ closed-byte boolForm (λ b. pick-most (ltb b 2) 0 8 (omega arith) (omega arith))) (λ _ _. tt)
+
+  pub closed-size : P ℕ size
+  unfolding size sizeTail sizeForm
+  closed-size =
+      C .by-item _ (C .by-bind byte sizeTail closed-byte λ b.
+      by-pick C (ltb b 255) _ _ (C .by-pure b)
+      (C .by-must _ (closed-number 4) sizeForm (λ n. firstOf-most 7 (ltb n 255) _ (omega arith) (firstOf-most 7 (negative 4 n) [] (omega arith) firstOf-none))))
+
+  pub closed-declared : (least own : ℕ) → P (List ℕ) (declared least own)
+  unfolding declared lengthForm
+  closed-declared least own =
+      C .by-item _ (C .by-bind _ _
+      (C .by-must _ (closed-number 4) (lengthForm least) (λ n. firstOf-most 11 (ltb n least) _ (omega arith) (firstOf-most 11 (negative 4 n) [] (omega arith) firstOf-none)))
+      (λ n. C .by-chunk (n - own) (λ b. b)))
+
+  pub closed-string : P (List ℕ) string
+  unfolding string Content
+  closed-string = C .by-must _ (C .by-item _ (C .by-bind size _ closed-size (λ n. C .by-chunk n (λ b. b)))) Content (λ b. omega arith)
+
+pub framed-size : Framed size
+framed-size = closed-size framed
 
 pub held-byte : Held byte
-unfolding byte
-held-byte = held-number 1
+held-byte = closed-byte held
+
+pub held-bool : Held bool
+held-bool = closed-bool held
+
+pub held-size : Held size
+held-size = closed-size held
+
+pub held-declared : (least own : ℕ) → Held (declared least own)
+held-declared = closed-declared held
+
+pub held-string : Held string
+held-string = closed-string held
+
+-- ---- one byte
 
 pub eats-byte : Eats byte
 unfolding byte
@@ -129,14 +166,6 @@ byte-canonical (x ∷ xs) h = let e = chunk-ok 1 val (x ∷ xs) h in let v : x +
 -- a byte that was read is one
 pub byte-below : (xs : List ℕ) → Bytes xs → {a n : ℕ} → byte xs ≡ ok a n → a < 256
 byte-below xs b {a} {n} h = subst Bytes (byte-canonical xs h .0) (bytes-take n xs b) .0
-
-pub framed-bool : Framed bool
-unfolding bool
-framed-bool = framed-mapc _ (framed-must _ framed-byte boolForm) (λ _ _. tt)
-
-pub held-bool : Held bool
-unfolding bool
-held-bool = held-mapc _ (held-must _ held-byte boolForm) (λ _ _. tt)
 
 pub eats-bool : Eats bool
 unfolding bool
@@ -170,22 +199,6 @@ sizeForm-ok n h =
 pub sizeForm-step : (n : ℕ) → 255 ≤ n → n < 2 ^ 31 → sizeForm n ≡ 0
 unfolding sizeForm firstOf
 sizeForm-step n h k = rw (le-ltb n 255 h, negative-step n k)
-
-framed-sizeTail : (b : ℕ) → Framed (sizeTail b)
-unfolding sizeTail
-framed-sizeTail b = framed-pick (ltb b 255) _ _ (framed-pure b) (framed-must _ (framed-number 4) sizeForm)
-
-held-sizeTail : (b : ℕ) → Held (sizeTail b)
-unfolding sizeTail
-held-sizeTail b = held-pick (ltb b 255) _ _ (held-pure b) (held-must _ (held-number 4) sizeForm)
-
-pub framed-size : Framed size
-unfolding size
-framed-size = framed-item _ (framed-bind byte sizeTail framed-byte framed-sizeTail)
-
-pub held-size : Held size
-unfolding size
-held-size = held-item _ (held-bind byte sizeTail held-byte held-sizeTail)
 
 pub eats-size : Eats size
 unfolding size
@@ -252,14 +265,6 @@ pub lengthForm-step : (least n : ℕ) → least ≤ n → n < 2 ^ 31 → lengthF
 unfolding lengthForm firstOf
 lengthForm-step least n h k = rw (le-ltb n least h, negative-step n k)
 
-pub framed-declared : (least own : ℕ) → Framed (declared least own)
-unfolding declared
-framed-declared least own = framed-item _ (framed-bind _ _ (framed-must _ (framed-number 4) (lengthForm least)) (λ n. framed-chunk (n - own) (λ b. b)))
-
-pub held-declared : (least own : ℕ) → Held (declared least own)
-unfolding declared
-held-declared least own = held-item _ (held-bind _ _ (held-must _ (held-number 4) (lengthForm least)) (λ n. held-chunk (n - own) (λ b. b)))
-
 pub ends-declared : (least own : ℕ) → Ends (declared least own)
 unfolding declared
 ends-declared least own = ends-item _ (ends-bind _ _ (λ n. ends-chunk (n - own)))
@@ -301,17 +306,6 @@ declared-canonical least own xs b o {d} {n} h = go (bind-ok (must (lengthForm le
         )
 
 -- ---- strings
-
-framed-text : Framed (size >>= λ n. chunk n (λ b. b))
-framed-text = framed-bind size _ framed-size (λ n. framed-chunk n (λ b. b))
-
-pub framed-string : Framed string
-unfolding string
-framed-string = framed-must _ (framed-item _ framed-text) Content
-
-pub held-string : Held string
-unfolding string
-held-string = held-must _ (held-item _ (held-bind size _ held-size (λ n. held-chunk n (λ b. b)))) Content
 
 pub eats-string : Eats string
 unfolding string

@@ -1,6 +1,7 @@
 -- The laws of the members of one owner: frame, extent and fuel of their readers, and the declared part of an optional.
 --
---   framed-, held-, ends-, eats-, starved-   of headers, extents, parts, optionals and required members
+--   closed-                      of headers, extents, parts, optionals and required members, what each way of joining readers keeps; held- the extent
+--   ends-, eats-, starved-       of these, where it holds
 --   optionals-enough             fuel is never used up in reading optionals
 --   Sound f, formOf-sound        the forms that types have
 --   part-extent                  a known value's part takes what its type in the header declares
@@ -14,40 +15,24 @@ use native.Mathlib.Nat.{zero-add}
 use native.Mathlib.Omega.{arith}
 use lib.ListN.{length, take, drop}
 use lib.Seq.{length-take-le}
-use lib.Dec.{eqb}
-use Rattle.encoding.specs.Result.{ok, pick, fail, chunk, many, atMark}
-use Rattle.encoding.specs.ResultLaws.{ok≢bad, Bound, bind-ok, bind-take, chunk-ok, item-ok, bytes-ok, Framed, framed-bind, framed-pure, framed-fail, framed-pick, framed-chunk, framed-item, framed-must, framed-mapc, framed-bytes, framed-inside, framed-many, Held, held-bind, held-pure, held-fail, held-pick, held-chunk, held-item, held-must, held-mapc, held-bytes, held-inside, held-many, Ends, ends-chunk, ends-bytes, ends-item, ends-bind, Eats, eats-must, eats-first, Starved, starved-must, starved-bind, many-enough, atMark-looks}
+use lib.Dec.{eqb, ltb}
+use Rattle.encoding.specs.Result.{Parser, ok, pick, fail, chunk, many}
+use Rattle.encoding.specs.ResultLaws.{Closed, by-pick, framed, held, many-fuel, pick-most, firstOf-most, firstOf-none, ok≢bad, Bound, bind-ok, bind-take, chunk-ok, item-ok, bytes-ok, Framed, Held, Ends, ends-chunk, ends-bytes, ends-item, ends-bind, Eats, eats-must, eats-first, Starved, starved-must, starved-bind, many-enough}
 use Rattle.encoding.specs.Number.{sizeBytes}
 use Rattle.encoding.specs.Number
-use Rattle.encoding.specs.NumberLaws.{Bytes, framed-byte, framed-size, framed-declared, held-byte, held-size, held-declared, ends-declared, eats-byte, starved-byte, size-canonical, declared-canonical}
+use Rattle.encoding.specs.NumberLaws.{closed-byte, closed-size, closed-declared, Bytes, held-size, ends-declared, eats-byte, starved-byte, size-canonical, declared-canonical}
 use Rattle.encoding.specs.Types.{Ty, short, int, long, float, double, broken, bool, byte, string, proxy, num, enum, struct, seq, dict, fixed, fixeds, single, Bits, f1, f2, f4, f8, size, vsize, fsize, class, bitsAt, Form, bare, own, counted, sized, bitsOf, formOf}
-use Rattle.encoding.specs.ValueLaws.{framed-value, held-value}
+use Rattle.encoding.specs.ValueLaws.{closed-value}
 use Rattle.encoding.specs.Table.{Member, lookup}
-use Rattle.encoding.specs.Optional.{Header, firstForm, headerTail, headerForm, header, extent, part, content, optionalOf, optionals, requireds, lengthBytes, required, optional, skipped}
+use Rattle.encoding.specs.Optional.{Piece, Header, firstForm, headerTail, headerForm, header, extent, part, content, optionalOf, optionals, requireds, lengthBytes, required, optional, skipped}
 
 -- ---- headers
 
-framed-headerTail : (h : ℕ) → Framed (headerTail h)
-unfolding headerTail
-framed-headerTail h =
-    framed-pick (eqb (h / 8) 30) _ _ (framed-mapc _ framed-size (λ n _. record { long = true; tag = n; type = bitsAt (h % 8) }))
-    (framed-pure (record { long = false; tag = h / 8; type = bitsAt (h % 8) }))
-
-held-headerTail : (h : ℕ) → Held (headerTail h)
-unfolding headerTail
-held-headerTail h =
-    held-pick (eqb (h / 8) 30) _ _ (held-mapc _ held-size (λ n _. record { long = true; tag = n; type = bitsAt (h % 8) }))
-    (held-pure (record { long = false; tag = h / 8; type = bitsAt (h % 8) }))
+headers-most : (ms : List Member) (least : ℕ) (h : Header) → headerForm ms least h ≤ 18
+unfolding headerForm
+headers-most ms least h = firstOf-most 12 _ _ (omega arith) (firstOf-most 12 _ _ (omega arith) (firstOf-most 13 _ _ (omega arith) (firstOf-most 12 _ [] (omega arith) firstOf-none)))
 
 module _ (ms : List Member) (least : ℕ) where
-  pub framed-header : Framed (header ms least)
-  unfolding header
-  framed-header = framed-must _ (framed-bind _ headerTail (framed-must _ framed-byte firstForm) framed-headerTail) (headerForm ms least)
-
-  pub held-header : Held (header ms least)
-  unfolding header
-  held-header = held-must _ (held-bind _ headerTail (held-must _ held-byte firstForm) held-headerTail) (headerForm ms least)
-
   pub eats-header : Eats (header ms least)
   unfolding header
   eats-header = eats-must (headerForm ms least) _ (eats-first _ headerTail (eats-must firstForm _ eats-byte))
@@ -56,29 +41,15 @@ module _ (ms : List Member) (least : ℕ) where
   unfolding header
   starved-header = starved-must (headerForm ms least) _ (starved-bind _ headerTail (starved-must firstForm _ starved-byte))
 
--- ---- extents
+  pub eats-optional : Eats (optionalOf ms least)
+  unfolding optionalOf
+  eats-optional = eats-first _ _ eats-header
 
-pub framed-extent : (k : Bits) → Framed (extent k)
-unfolding extent
-framed-extent f1 = framed-chunk 1 (λ b. b)
-framed-extent f2 = framed-chunk 2 (λ b. b)
-framed-extent f4 = framed-chunk 4 (λ b. b)
-framed-extent f8 = framed-chunk 8 (λ b. b)
-framed-extent size = framed-bytes _ framed-size
-framed-extent vsize = framed-item _ (framed-bind _ _ framed-size (λ n. framed-chunk n (λ b. b)))
-framed-extent fsize = framed-declared 1 0
-framed-extent class = framed-fail 13
+  pub starved-optional : Starved (optionalOf ms least)
+  unfolding optionalOf
+  starved-optional = starved-bind _ _ starved-header
 
-pub held-extent : (k : Bits) → Held (extent k)
-unfolding extent
-held-extent f1 = held-chunk 1 (λ b. b)
-held-extent f2 = held-chunk 2 (λ b. b)
-held-extent f4 = held-chunk 4 (λ b. b)
-held-extent f8 = held-chunk 8 (λ b. b)
-held-extent size = held-bytes _ held-size
-held-extent vsize = held-item _ (held-bind _ _ held-size (λ n. held-chunk n (λ b. b)))
-held-extent fsize = held-declared 1 0
-held-extent class = held-fail (List ℕ) 13
+-- ---- what extents and parts deliver ends what they take
 
 pub ends-extent : (k : Bits) → Ends (extent k)
 unfolding extent fail
@@ -91,19 +62,47 @@ ends-extent vsize xs d n h = ends-item _ (ends-bind _ _ (λ n. ends-chunk n)) xs
 ends-extent fsize xs d n h = ends-declared 1 0 xs d n h
 ends-extent class xs d n h = absurd (ok≢bad h refl)
 
-pub framed-part : (f : Form) → Framed (part f)
-unfolding part
-framed-part (bare k) = framed-extent k
-framed-part own = framed-bytes _ (framed-extent vsize)
-framed-part counted = framed-extent vsize
-framed-part sized = framed-extent fsize
+-- ---- what each way of joining readers keeps
+
+module _ {P : (A : Type 0) → Parser A → Type 0} {Stops : (List ℕ → Option ℕ) → Type 0} (C : Closed P Stops) where
+  pub closed-header : (ms : List Member) (least : ℕ) → P Header (header ms least)
+  unfolding header headerTail firstForm
+  closed-header ms least =
+      C .by-must _
+      (C .by-bind _ headerTail (C .by-must _ (closed-byte C) firstForm (λ h. pick-most (ltb (h / 8) 31) 0 12 (omega arith) (omega arith))) λ h.
+      by-pick C (eqb (h / 8) 30) _ _ (C .by-mapc _ (closed-size C) (λ n _. record { long = true; tag = n; type = bitsAt (h % 8) }))
+      (C .by-pure (record { long = false; tag = h / 8; type = bitsAt (h % 8) })))
+      (headerForm ms least) (headers-most ms least)
+
+  pub closed-extent : (k : Bits) → P (List ℕ) (extent k)
+  unfolding extent
+  closed-extent f1 = C .by-chunk 1 (λ b. b)
+  closed-extent f2 = C .by-chunk 2 (λ b. b)
+  closed-extent f4 = C .by-chunk 4 (λ b. b)
+  closed-extent f8 = C .by-chunk 8 (λ b. b)
+  closed-extent size = C .by-bytes _ (closed-size C)
+  closed-extent vsize = C .by-item _ (C .by-bind _ _ (closed-size C) (λ n. C .by-chunk n (λ b. b)))
+  closed-extent fsize = closed-declared C 1 0
+  closed-extent class = C .by-fail (List ℕ) 13 (omega arith, omega arith)
+
+  pub closed-part : (f : Form) → P (List ℕ) (part f)
+  unfolding part
+  closed-part (bare k) = closed-extent k
+  closed-part own = C .by-bytes _ (closed-extent vsize)
+  closed-part counted = closed-extent vsize
+  closed-part sized = closed-extent fsize
+
+pub held-header : (ms : List Member) (least : ℕ) → Held (header ms least)
+held-header = closed-header held
+
+pub framed-extent : (k : Bits) → Framed (extent k)
+framed-extent = closed-extent framed
+
+pub held-extent : (k : Bits) → Held (extent k)
+held-extent = closed-extent held
 
 pub held-part : (f : Form) → Held (part f)
-unfolding part
-held-part (bare k) = held-extent k
-held-part own = held-bytes _ (held-extent vsize)
-held-part counted = held-extent vsize
-held-part sized = held-extent fsize
+held-part = closed-part held
 
 pub ends-part : (f : Form) → Ends (part f)
 unfolding part
@@ -112,59 +111,39 @@ ends-part own xs d n h = ends-bytes _ (held-extent vsize) xs d n h
 ends-part counted xs d n h = ends-extent vsize xs d n h
 ends-part sized xs d n h = ends-extent fsize xs d n h
 
--- ---- optionals
+module _ {P : (A : Type 0) → Parser A → Type 0} {Stops : (List ℕ → Option ℕ) → Type 0} (C : Closed P Stops) where
+  pub closed-content : (o : Option Member) (h : Header) → P Piece (content o h)
+  unfolding content
+  closed-content none h = C .by-mapc _ (C .by-bytes _ (closed-extent C (h .type))) (λ b _. skipped (h .tag) (h .type) b)
+  closed-content (some m) h =
+      C .by-mapc _ (C .by-inside _ _ (closed-part C (formOf (m .ty))) (ends-part (formOf (m .ty))) (C .by-bytes _ (closed-value C (m .ty)))) (λ b _. optional (h .tag) (formOf (m .ty)) b)
 
-framed-content : (o : Option Member) (h : Header) → Framed (content o h)
-unfolding content
-framed-content none h = framed-mapc _ (framed-bytes _ (framed-extent (h .type))) (λ b _. skipped (h .tag) (h .type) b)
-framed-content (some m) h = framed-mapc _ (framed-inside _ _ (framed-part (formOf (m .ty)))) (λ b _. optional (h .tag) (formOf (m .ty)) b)
+  pub closed-optional : (ms : List Member) (least : ℕ) → P (Piece × ℕ) (optionalOf ms least)
+  unfolding optionalOf
+  closed-optional ms least = C .by-bind _ _ (closed-header C ms least) (λ h. C .by-mapc _ (closed-content (lookup (h .tag) ms) h) (λ p _. (p, suc (h .tag))))
+
+  pub closed-optionals : (stop : List ℕ → Option ℕ) → Stops stop → (ms : List Member) → P (List Piece) (optionals stop ms)
+  unfolding optionals
+  closed-optionals stop s ms = C .by-fuel (λ f. many stop (optionalOf ms) f 0) (λ f. C .by-many stop (optionalOf ms) s (closed-optional ms) (eats-optional ms) f 0) (many-fuel stop (optionalOf ms) (eats-optional ms) 0)
+
+  pub closed-requireds : (ms : List Member) → P (List Piece) (requireds ms)
+  unfolding requireds
+  closed-requireds [] = C .by-pure []
+  closed-requireds (m ∷ ms) = C .by-bind _ _ (C .by-bytes _ (closed-value C (m .ty))) (λ b. C .by-mapc _ (closed-requireds ms) (λ ps _. required (m .key) b ∷ ps))
 
 pub held-content : (o : Option Member) (h : Header) → Held (content o h)
-unfolding content
-held-content none h = held-mapc _ (held-bytes _ (held-extent (h .type))) (λ b _. skipped (h .tag) (h .type) b)
-held-content (some m) h =
-    held-mapc _ (held-inside _ _ (held-part (formOf (m .ty))) (ends-part (formOf (m .ty))) (held-bytes _ (held-value (m .ty)))) (λ b _. optional (h .tag) (formOf (m .ty)) b)
+held-content = closed-content held
 
-module _ (ms : List Member) (least : ℕ) where
-  pub framed-optional : Framed (optionalOf ms least)
-  unfolding optionalOf
-  framed-optional = framed-bind _ _ (framed-header ms least) (λ h. framed-mapc _ (framed-content (lookup (h .tag) ms) h) (λ p _. (p, suc (h .tag))))
-
-  pub held-optional : Held (optionalOf ms least)
-  unfolding optionalOf
-  held-optional = held-bind _ _ (held-header ms least) (λ h. held-mapc _ (held-content (lookup (h .tag) ms) h) (λ p _. (p, suc (h .tag))))
-
-  pub eats-optional : Eats (optionalOf ms least)
-  unfolding optionalOf
-  eats-optional = eats-first _ _ (eats-header ms least)
-
-  pub starved-optional : Starved (optionalOf ms least)
-  unfolding optionalOf
-  starved-optional = starved-bind _ _ (starved-header ms least)
-
-module _ (ms : List Member) where
-  pub framed-optionals : Framed (optionals atMark ms)
-  unfolding optionals
-  framed-optionals = framed-many atMark (optionalOf ms) atMark-looks (framed-optional ms) (eats-optional ms) 0
-
-  pub held-optionals : (stop : List ℕ → Option ℕ) → ((xs : List ℕ) (k : ℕ) → stop xs ≡ some k → k ≤ length xs) → Held (optionals stop ms)
-  unfolding optionals
-  held-optionals stop fits xs = held-many stop (optionalOf ms) fits (held-optional ms) (length xs) 0 xs
-
-  -- any fuel that is not below the bytes left gives the same
-  pub optionals-enough : (stop : List ℕ → Option ℕ) (f : ℕ) (xs : List ℕ) → length xs ≤ f → optionals stop ms xs ≡ many stop (optionalOf ms) f 0 xs
-  unfolding optionals
-  optionals-enough stop f xs h = many-enough stop (optionalOf ms) (eats-optional ms) (starved-optional ms) (length xs) f 0 xs (omega arith) h
-
-pub framed-requireds : (ms : List Member) → Framed (requireds ms)
-unfolding requireds
-framed-requireds [] = framed-pure []
-framed-requireds (m ∷ ms) = framed-bind _ _ (framed-bytes _ (framed-value (m .ty))) (λ b. framed-mapc _ (framed-requireds ms) (λ ps _. required (m .key) b ∷ ps))
+pub held-optional : (ms : List Member) (least : ℕ) → Held (optionalOf ms least)
+held-optional = closed-optional held
 
 pub held-requireds : (ms : List Member) → Held (requireds ms)
-unfolding requireds
-held-requireds [] = held-pure []
-held-requireds (m ∷ ms) = held-bind _ _ (held-bytes _ (held-value (m .ty))) (λ b. held-mapc _ (held-requireds ms) (λ ps _. required (m .key) b ∷ ps))
+held-requireds = closed-requireds held
+
+-- any fuel that is not below the bytes left gives the same
+pub optionals-enough : (ms : List Member) (stop : List ℕ → Option ℕ) (f : ℕ) (xs : List ℕ) → length xs ≤ f → optionals stop ms xs ≡ many stop (optionalOf ms) f 0 xs
+unfolding optionals
+optionals-enough ms stop f xs h = many-enough stop (optionalOf ms) (eats-optional ms) (starved-optional ms) (length xs) f 0 xs (omega arith) h
 
 -- ---- the part of a known value
 

@@ -9,6 +9,7 @@
 --   Starved p          on nothing, p is 4 here
 --   many-enough        fuel is never used up: as many turns as there are bytes give what any greater number gives
 --   Run                a loop that accepts, turn by turn
+--   Closed             a property that each way of joining readers keeps; framed and held are two; each reader has it by its closed- law
 use mathlib.Core.Path.{_≡_, refl, sym, ap, ap₂, _∙_, subst}
 use mathlib.Core.Bool.{Bool, true, false, _&&_, _||_, true≢false, false≢true}
 use mathlib.Core.Option.{Option, none, some}
@@ -516,6 +517,19 @@ held-inside {B} p q P E Q xs = go (p xs) refl (P xs)
 
 -- ---- loops
 
+-- an accepted reading needs no more fuel than it takes bytes
+abbrev pub Fuelled : {A : Type 0} → (ℕ → Parser A) → Type 0
+Fuelled {A} w = (f : ℕ) (xs : List ℕ) (a : A) (n : ℕ) → w f xs ≡ ok a n → (g : ℕ) → n ≤ g → w g xs ≡ ok a n
+
+-- with the bytes left as fuel
+pub framed-fuel : {A : Type 0} (w : ℕ → Parser A) → ((f : ℕ) → Framed (w f)) → Fuelled w → Framed (λ xs. w (length xs) xs)
+framed-fuel w F fuel xs a n h =
+    let K = F (length xs) xs a n h in
+    record {
+      fits = K .fits;
+      again = λ v. fuel (length xs) (take n xs ++ v) a n (K .again v) (length (take n xs ++ v)) (omega (arith, length-append (take n xs) v, length-take-le n xs (K .fits)));
+    }
+
 -- a loop that accepts, turn by turn
 pub data Run {S A : Type 0} (stop : List ℕ → Option ℕ) (p : S → Parser (A × S)) : ℕ → S → List ℕ → List A → ℕ → Type 0 where
   end : {f : ℕ} {s : S} {xs : List ℕ} {k : ℕ} → stop xs ≡ some k → Run stop p f s xs [] k
@@ -668,15 +682,12 @@ module _ {S A : Type 0} (stop : List ℕ → Option ℕ) (p : S → Parser (A ×
         λ w. rw (split w) (step (L .goes xs (take m (drop n xs) ++ w) n one (K .fits) e) (K .again (take m (drop n xs) ++ w)) (rest w)),
       )
 
-  -- with the bytes left as fuel
-  pub framed-many : Looks stop → ((s : S) → Framed (p s)) → ((s : S) → Eats (p s)) → (s : S) → Framed (λ xs. many stop p (length xs) s xs)
-  framed-many L P E s xs l n h =
-      let R = run-framed L P E (run-of stop p (length xs) s xs h) in
-      record {
-        fits = R .0;
-        again = λ w. of-run stop p (run-fuel stop p E (R .1 w) (length (take n xs ++ w))
-            (omega (arith, length-append (take n xs) w, length-take-le n xs (R .0))));
-      }
+  pub framed-many : Looks stop → ((s : S) → Framed (p s)) → ((s : S) → Eats (p s)) → (f : ℕ) (s : S) → Framed (many stop p f s)
+  framed-many L P E f s xs l n h = let R = run-framed L P E (run-of stop p f s xs h) in record { fits = R .0; again = λ w. of-run stop p (R .1 w) }
+
+  -- an accepted loop turns at most once for each byte taken
+  pub many-fuel : ((s : S) → Eats (p s)) → (s : S) → Fuelled (λ f. many stop p f s)
+  many-fuel E s f xs l n h g k = of-run stop p (run-fuel stop p E (run-of stop p f s xs h) g k)
 
   -- the stop takes bytes that are there
   pub held-many : ((xs : List ℕ) (k : ℕ) → stop xs ≡ some k → k ≤ length xs) → ((s : S) → Held (p s)) → (f : ℕ) (s : S) → Held (many stop p f s)
@@ -718,3 +729,90 @@ atMark-looks = record { fits = fits; ends = ends; goes = goes }
     goes [] w n h l e = absurd (omega arith)
     goes (x ∷ xs) w zero h l e = absurd (omega arith)
     goes (x ∷ xs) w (suc n) h l e = e
+
+-- ---- a property that each way of joining readers keeps
+
+-- the numbers of document 01's table that a reader gives
+abbrev pub InTable : ℕ → Type 0
+InTable c = (1 ≤ c) × (c ≤ 18)
+
+-- P is kept by each way of joining readers; Stops says which stops of a loop keep it
+pub record Closed (P : (A : Type 0) → Parser A → Type 0) (Stops : (List ℕ → Option ℕ) → Type 0) : Type 1 where
+  pub by-bind : {A B : Type 0} (p : Parser A) (f : A → Parser B) → P A p → ((a : A) → P B (f a)) → P B (p >>= f)
+  pub by-pure : {A : Type 0} (a : A) → P A (pure a)
+  pub by-fail : (A : Type 0) (c : ℕ) → InTable c → P A (fail c)
+  pub by-chunk : {A : Type 0} (k : ℕ) (f : List ℕ → A) → P A (chunk k f)
+  pub by-item : {A : Type 0} (p : Parser A) → P A p → P A (item p)
+  pub by-recall : {A : Type 0} (p : Parser A) → P A p → (k : ℕ) → P A (recall k p)
+  pub by-must : {A : Type 0} (p : Parser A) → P A p → (f : A → ℕ) → ((a : A) → f a ≤ 18) → P A (must f p)
+  pub by-mapc : {A B : Type 0} (p : Parser A) → P A p → (f : A → ℕ → B) → P B (mapc f p)
+  pub by-bytes : {A : Type 0} (p : Parser A) → P A p → P (List ℕ) (bytes p)
+  pub by-inside : {B : Type 0} (p : Parser (List ℕ)) (q : Parser B) → P (List ℕ) p → Ends p → P B q → P B (inside p q)
+  pub by-many : {S A : Type 0} (stop : List ℕ → Option ℕ) (p : S → Parser (A × S)) → Stops stop → ((s : S) → P (A × S) (p s)) → ((s : S) → Eats (p s))
+      → (f : ℕ) (s : S) → P (List A) (many stop p f s)
+  pub by-fuel : {A : Type 0} (w : ℕ → Parser A) → ((f : ℕ) → P A (w f)) → Fuelled w → P A (λ xs. w (length xs) xs)
+
+module _ {P : (A : Type 0) → Parser A → Type 0} {Stops : (List ℕ → Option ℕ) → Type 0} (C : Closed P Stops) where
+  pub by-pick : {A : Type 0} (b : Bool) (p q : Parser A) → P A p → P A q → P A (pick b p q)
+  by-pick true p q x y = x
+  by-pick false p q x y = y
+
+  pub by-skip : (k : ℕ) → P (Unit {0}) (skip k)
+  unfolding skip
+  by-skip k = C .by-chunk k (λ _. tt)
+
+  pub by-times : (n : ℕ) (p : Parser (Unit {0})) → P (Unit {0}) p → P (Unit {0}) (times n p)
+  unfolding times
+  by-times zero p x = C .by-pure tt
+  by-times (suc n) p x = C .by-bind p (λ _. times n p) x (λ _. by-times n p x)
+
+-- judgements give numbers of the table
+pub pick-most : (b : Bool) (x y : ℕ) → x ≤ 18 → y ≤ 18 → pick b x y ≤ 18
+pick-most true x y h k = h
+pick-most false x y h k = k
+
+pub firstOf-most : (n : ℕ) (b : Bool) (l : List (ℕ × Bool)) → n ≤ 18 → firstOf l ≤ 18 → firstOf ((n, b) ∷ l) ≤ 18
+unfolding firstOf
+firstOf-most n b l h k = pick-most b n (firstOf l) h k
+
+pub firstOf-none : firstOf [] ≤ 18
+unfolding firstOf
+firstOf-none = omega arith
+
+-- the frame
+pub framed : Closed (λ A p. Framed {A = A} p) Looks
+framed = record {
+  by-bind = framed-bind;
+  by-pure = framed-pure;
+  by-fail = λ A c h. framed-fail c;
+  by-chunk = framed-chunk;
+  by-item = framed-item;
+  by-recall = framed-recall;
+  by-must = λ p x f h. framed-must p x f;
+  by-mapc = λ p x f. framed-mapc p x f;
+  by-bytes = framed-bytes;
+  by-inside = λ p q x e y. framed-inside p q x;
+  by-many = framed-many;
+  by-fuel = framed-fuel;
+}
+
+-- where a stop takes bytes, they are there
+abbrev pub Fits : (List ℕ → Option ℕ) → Type 0
+Fits stop = (xs : List ℕ) (k : ℕ) → stop xs ≡ some k → k ≤ length xs
+
+-- bytes taken and places of refusals
+pub held : Closed (λ A p. Held {A = A} p) Fits
+held = record {
+  by-bind = held-bind;
+  by-pure = held-pure;
+  by-fail = λ A c h. held-fail A c;
+  by-chunk = held-chunk;
+  by-item = held-item;
+  by-recall = held-recall;
+  by-must = λ p x f h. held-must p x f;
+  by-mapc = λ p x f. held-mapc p x f;
+  by-bytes = held-bytes;
+  by-inside = held-inside;
+  by-many = λ stop p fits x e f s. held-many stop p fits x f s;
+  by-fuel = λ w x h xs. x (length xs) xs;
+}

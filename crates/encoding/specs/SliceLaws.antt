@@ -1,45 +1,30 @@
 -- The laws of the slices of a record: frame, extent and fuel of their readers.
 --
---   framed-, held-               of heads, fields, a known slice's data, slices, and the walk over them
+--   closed-                      of heads, fields, a known slice's data, slices, and the walk over them, what each way of joining readers keeps
 --   eats-, starved-              of heads and slices
 --   walk-ended, walk-on          the walk where the row without a base is read, and where it is not
 --   walk-fuel                    an accepted walk turns at most once for each byte taken
 --   walk-enough, slices-enough   fuel is never used up: any that is not below the bytes left gives the same
 use mathlib.Core.Path.{_≡_, refl, sym, ap, _∙_}
-use mathlib.Core.Bool.{Bool}
+use mathlib.Core.Bool.{Bool, true, false, _&&_, _||_, not}
 use mathlib.Core.Option.{Option, none, some}
 use mathlib.Core.List.{List, [], _∷_, _++_}
 use Prim.Native.Nat.{ℕ, zero, suc, _+_, _≤_}
 use native.Mathlib.Omega.{arith}
-use lib.ListN.{length, take, drop, length-append, length-drop}
-use lib.Seq.{length-take-le}
-use Rattle.encoding.specs.Result.{Res, ok, bad, Parser, shift, after, _>>=_, pure, fail, made, mapc, atMark}
-use Rattle.encoding.specs.ResultLaws.{ok≢bad, Bound, bind-ok, bind-step, mapc-ok, mapc-step, Framed, framed-bind, framed-pure, framed-fail, framed-pick, framed-must, framed-mapc, framed-recall, framed-inside, Held, held-bind, held-pure, held-fail, held-pick, held-must, held-mapc, held-recall, held-inside, Eats, eats-must, eats-first, eats-recall, Starved, starved-must, starved-bind, starved-recall, atMark-looks}
+use lib.ListN.{length, drop, length-drop}
+use lib.Dec.{eqb}
+use Rattle.encoding.specs.Result.{pick, sameBytes, Res, ok, bad, Parser, shift, after, _>>=_, pure, fail, made, mapc, atMark}
+use Rattle.encoding.specs.ResultLaws.{Closed, InTable, by-pick, held, pick-most, firstOf-most, firstOf-none, ok≢bad, Bound, bind-ok, bind-step, mapc-ok, mapc-step, Held, Eats, eats-must, eats-first, eats-recall, Starved, starved-must, starved-bind, starved-recall, atMark-looks}
 use Rattle.encoding.specs.Number.{byte}
-use Rattle.encoding.specs.NumberLaws.{framed-byte, framed-declared, framed-string, held-byte, held-declared, held-string, ends-declared, eats-byte, starved-byte}
-use Rattle.encoding.specs.Table.{required, optional, nameOf, base}
-use Rattle.encoding.specs.Optional.{optionals}
-use Rattle.encoding.specs.OptionalLaws.{framed-optionals, held-optionals, framed-requireds, held-requireds}
-use Rattle.encoding.specs.Slice.{Format, sliced, isSliced, Slice, known, passed, bit, formatOf, Stand, first, later, due, flagForm, Head, head, someForm, fields, knownData, Stage, seek, follow, standOf, finished, Meaning, skip, row, wrong, meaning, idForm, meaningForm, enterSlice, slice, Chain, ahead, unlessFinished, walk, slices}
+use Rattle.encoding.specs.NumberLaws.{closed-byte, closed-string, closed-declared, ends-declared, eats-byte, starved-byte}
+use Rattle.encoding.specs.Table.{any, chain, named, required, optional, nameOf, base}
+use Rattle.encoding.specs.Optional.{Piece, optionals}
+use Rattle.encoding.specs.OptionalLaws.{closed-optionals, closed-requireds}
+use Rattle.encoding.specs.Slice.{Format, sliced, isSliced, Slice, known, passed, bit, formatOf, Stand, first, later, due, flagForm, Head, head, someForm, fields, knownData, Stage, seek, follow, standOf, finished, Meaning, skip, row, wrong, wrongLast, knownMeaning, seekMeaning, isNone, meaning, idForm, meaningForm, enterSlice, slice, Chain, ahead, unlessFinished, walk, slices}
 
 -- ---- flags and type ID
 
 module _ (s : Stand) (judge : Format → List ℕ → ℕ) where
-  abbrev headOf : ℕ → List ℕ → ℕ → Head
-  headOf f nm n = record { format = formatOf f; optionals = bit f 4; last = bit f 32; id = nm }
-
-  pub framed-head : Framed (head s judge)
-  unfolding head
-  framed-head =
-      framed-bind _ _ (framed-must _ framed-byte (flagForm s))
-      (λ f. framed-mapc _ (framed-pick (due s (formatOf f)) _ _ (framed-must _ framed-string (judge (formatOf f))) (framed-pure [])) (headOf f))
-
-  pub held-head : Held (head s judge)
-  unfolding head
-  held-head =
-      held-bind _ _ (held-must _ held-byte (flagForm s))
-      (λ f. held-mapc _ (held-pick (due s (formatOf f)) _ _ (held-must _ held-string (judge (formatOf f))) (held-pure [])) (headOf f))
-
   pub eats-head : Eats (head s judge)
   unfolding head
   eats-head = eats-first _ _ (eats-must (flagForm s) byte eats-byte)
@@ -48,58 +33,54 @@ module _ (s : Stand) (judge : Format → List ℕ → ℕ) where
   unfolding head
   starved-head = starved-bind _ _ (starved-must (flagForm s) byte starved-byte)
 
--- ---- the members of a slice
+flags-most : (s : Stand) (f : ℕ) → flagForm s f ≤ 18
+unfolding flagForm
+flags-most s f =
+    firstOf-most 14 _ _ (omega arith) (firstOf-most 14 _ _ (omega arith) (firstOf-most 14 _ _ (omega arith)
+    (firstOf-most 13 _ _ (omega arith) (firstOf-most 13 _ [] (omega arith) firstOf-none))))
 
-module _ (T : List ℕ) (t : ℕ) where
-  pub framed-fields : (opt : Bool) → Framed (fields T t opt)
-  unfolding fields
-  framed-fields opt =
-      framed-bind _ _ (framed-requireds (required T t))
-      (λ a. framed-pick opt _ _ (framed-mapc _ (framed-must _ (framed-optionals (optional T t)) someForm) (λ ps _. a ++ ps)) (framed-pure a))
+some-most : (ps : List Piece) → someForm ps ≤ 18
+unfolding someForm
+some-most [] = omega arith
+some-most (p ∷ ps) = omega arith
 
-  pub held-fields : (opt : Bool) → Held (fields T t opt)
-  unfolding fields
-  held-fields opt =
-      held-bind _ _ (held-requireds (required T t))
-      (λ a. held-pick opt _ _ (held-mapc _ (held-must _ (held-optionals (optional T t) atMark (atMark-looks .fits)) someForm) (λ ps _. a ++ ps)) (held-pure a))
+-- a wrong meaning is 16 or 17
+abbrev Meant : Meaning → Type 0
+Meant skip = Unit {0}
+Meant (row t) = Unit {0}
+Meant (wrong n) = InTable n
 
-  pub framed-knownData : (h : Head) → Framed (knownData T t h)
-  unfolding knownData
-  framed-knownData h =
-      framed-mapc _ (framed-pick (isSliced (h .format)) _ _ (framed-inside _ _ (framed-declared 4 4)) (framed-fields (h .optionals))) (λ ps _. known (nameOf T t) ps)
+meant-pick : (b : Bool) (m n : Meaning) → Meant m → Meant n → Meant (pick b m n)
+meant-pick true m n h k = h
+meant-pick false m n h k = k
 
-  pub held-knownData : (h : Head) → Held (knownData T t h)
-  unfolding knownData
-  held-knownData h =
-      held-mapc _
-      (held-pick (isSliced (h .format)) _ _ (held-inside _ _ (held-declared 4 4) (ends-declared 4 4) (held-fields (h .optionals))) (held-fields (h .optionals)))
-      (λ ps _. known (nameOf T t) ps)
+meant-most : (m : Meaning) → Meant m → meaningForm m ≤ 18
+unfolding meaningForm
+meant-most skip h = omega arith
+meant-most (row t) h = omega arith
+meant-most (wrong n) h = h .1
 
--- ---- one slice
+module _ (T : List ℕ) where
+  meant-seek : (top : ℕ) (last : Bool) (o : Option ℕ) → Meant (seekMeaning T top last o)
+  unfolding seekMeaning knownMeaning
+  meant-seek top last none = meant-pick last (wrong 16) skip (omega arith, omega arith) tt
+  meant-seek top last (some t) = meant-pick (any (λ r. eqb r top) (chain T t) && not (wrongLast T t last)) (row t) (wrong 17) tt (omega arith, omega arith)
 
-framed-enter : (T : List ℕ) (h : Head) (m : Meaning) → Framed (enterSlice T h m)
-unfolding enterSlice
-framed-enter T h skip = framed-mapc _ (framed-declared 4 4) (λ d _. (passed (h .optionals) (h .id) d, seek (later sliced)))
-framed-enter T h (row t) = framed-mapc _ (framed-knownData T t h) (λ s _. (s, follow (h .format) (base T t)))
-framed-enter T h (wrong n) = framed-fail n
+  meant-head : (top : ℕ) (st : Stage) (h : Head) → Meant (meaning T top st h)
+  unfolding meaning
+  meant-head top (seek s) h = meant-seek top (h .last) (named T (h .id))
+  meant-head top (follow g zero) h = (omega arith, omega arith)
+  meant-head top (follow g (suc t)) h =
+      meant-pick (isSliced g && not (sameBytes (h .id) (nameOf T t)) || wrongLast T t (h .last)) (wrong 17) (row t) (omega arith, omega arith) tt
 
-held-enter : (T : List ℕ) (h : Head) (m : Meaning) → Held (enterSlice T h m)
-unfolding enterSlice
-held-enter T h skip = held-mapc _ (held-declared 4 4) (λ d _. (passed (h .optionals) (h .id) d, seek (later sliced)))
-held-enter T h (row t) = held-mapc _ (held-knownData T t h) (λ s _. (s, follow (h .format) (base T t)))
-held-enter T h (wrong n) = held-fail (Slice × Stage) n
+  id-most : (st : Stage) (g : Format) (nm : List ℕ) → idForm T st g nm ≤ 18
+  unfolding idForm
+  id-most (seek s) g nm = pick-most (not (isSliced g) && isNone (named T nm)) 15 0 (omega arith) (omega arith)
+  id-most (follow h b) g nm = omega arith
 
 module _ (T : List ℕ) (top : ℕ) (st : Stage) where
   judge : Head → ℕ
   judge h = meaningForm (meaning T top st h)
-
-  pub framed-slice : Framed (slice T top st)
-  unfolding slice judge
-  framed-slice = framed-recall _ (framed-bind _ _ (framed-must _ (framed-head (standOf st) (idForm T st)) judge) (λ h. framed-enter T h (meaning T top st h))) 14
-
-  pub held-slice : Held (slice T top st)
-  unfolding slice judge
-  held-slice = held-recall _ (held-bind _ _ (held-must _ (held-head (standOf st) (idForm T st)) judge) (λ h. held-enter T h (meaning T top st h))) 14
 
   pub eats-slice : Eats (slice T top st)
   unfolding slice judge
@@ -109,17 +90,65 @@ module _ (T : List ℕ) (top : ℕ) (st : Stage) where
   unfolding slice judge
   starved-slice = starved-recall _ (starved-bind _ _ (starved-must judge _ (starved-head (standOf st) (idForm T st))))
 
+-- ---- what each way of joining readers keeps
+
+module _ {P : (A : Type 0) → Parser A → Type 0} {Stops : (List ℕ → Option ℕ) → Type 0} (C : Closed P Stops) where
+  -- whatever is judged of the type ID
+  pub closed-head : (s : Stand) (judge : Format → List ℕ → ℕ) → ((g : Format) (nm : List ℕ) → judge g nm ≤ 18) → P Head (head s judge)
+  unfolding head
+  closed-head s judge most =
+      C .by-bind _ _ (C .by-must _ (closed-byte C) (flagForm s) (flags-most s))
+      (λ f. C .by-mapc _ (by-pick C (due s (formatOf f)) _ _ (C .by-must _ (closed-string C) (judge (formatOf f)) (most (formatOf f))) (C .by-pure []))
+      (λ nm _. record { format = formatOf f; optionals = bit f 4; last = bit f 32; id = nm }))
+
+  module _ (marked : Stops atMark) (T : List ℕ) where
+    pub closed-fields : (t : ℕ) (opt : Bool) → P (List Piece) (fields T t opt)
+    unfolding fields
+    closed-fields t opt =
+        C .by-bind _ _ (closed-requireds C (required T t))
+        (λ a. by-pick C opt _ _ (C .by-mapc _ (C .by-must _ (closed-optionals C atMark marked (optional T t)) someForm some-most) (λ ps _. a ++ ps)) (C .by-pure a))
+
+    pub closed-knownData : (t : ℕ) (h : Head) → P Slice (knownData T t h)
+    unfolding knownData
+    closed-knownData t h =
+        C .by-mapc _
+        (by-pick C (isSliced (h .format)) _ _ (C .by-inside _ _ (closed-declared C 4 4) (ends-declared 4 4) (closed-fields t (h .optionals))) (closed-fields t (h .optionals)))
+        (λ ps _. known (nameOf T t) ps)
+
+    closed-enter : (h : Head) (m : Meaning) → Meant m → P (Slice × Stage) (enterSlice T h m)
+    unfolding enterSlice
+    closed-enter h skip w = C .by-mapc _ (closed-declared C 4 4) (λ d _. (passed (h .optionals) (h .id) d, seek (later sliced)))
+    closed-enter h (row t) w = C .by-mapc _ (closed-knownData t h) (λ s _. (s, follow (h .format) (base T t)))
+    closed-enter h (wrong n) w = C .by-fail (Slice × Stage) n w
+
+    pub closed-slice : (top : ℕ) (st : Stage) → P (Slice × Stage) (slice T top st)
+    unfolding slice
+    closed-slice top st =
+        C .by-recall _
+        (C .by-bind _ _
+        (C .by-must _ (closed-head (standOf st) (idForm T st) (id-most T st)) (λ h. meaningForm (meaning T top st h)) (λ h. meant-most (meaning T top st h) (meant-head T top st h)))
+        (λ h. closed-enter h (meaning T top st h) (meant-head T top st h)))
+        14
+
+    closed-unless : (p : Parser Chain) (o : Option Format) → P Chain p → P Chain (unlessFinished p o)
+    unfolding unlessFinished
+    closed-unless p none x = x
+    closed-unless p (some g) x = C .by-pure (record { format = g; list = [] })
+
+    pub closed-walk : (top f : ℕ) (st : Stage) → P Chain (walk T top f st)
+    unfolding walk
+    closed-walk top zero st = closed-unless (fail 4) (finished st) (C .by-fail Chain 4 (omega arith, omega arith))
+    closed-walk top (suc f) st =
+        closed-unless _ (finished st)
+        (C .by-bind (slice T top st) _ (closed-slice top st) (λ (r : Slice × Stage). C .by-mapc _ (closed-walk top f (r .1)) (λ c _. ahead (r .0) c)))
+
+pub held-head : (T : List ℕ) (st : Stage) → Held (head (standOf st) (idForm T st))
+held-head T st = closed-head held (standOf st) (idForm T st) (id-most T st)
+
+pub held-slice : (T : List ℕ) (top : ℕ) (st : Stage) → Held (slice T top st)
+held-slice T top st = closed-slice held (atMark-looks .fits) T top st
+
 -- ---- the walk over slices
-
-framed-unless : (p : Parser Chain) (o : Option Format) → Framed p → Framed (unlessFinished p o)
-unfolding unlessFinished
-framed-unless p none P = P
-framed-unless p (some g) P = framed-pure (record { format = g; list = [] })
-
-held-unless : (p : Parser Chain) (o : Option Format) → Held p → Held (unlessFinished p o)
-unfolding unlessFinished
-held-unless p none P = P
-held-unless p (some g) P = held-pure (record { format = g; list = [] })
 
 unless-same : (p q : Parser Chain) (o : Option Format) (xs : List ℕ) → p xs ≡ q xs → unlessFinished p o xs ≡ unlessFinished q o xs
 unfolding unlessFinished
@@ -130,20 +159,6 @@ module _ (T : List ℕ) (top : ℕ) where
   -- a slice, and the walk from there
   abbrev pub onward : ℕ → Stage → Parser Chain
   onward f st = slice T top st >>= λ (r : Slice × Stage). mapc (λ c _. ahead (r .0) c) (walk T top f (r .1))
-
-  pub framed-walk : (f : ℕ) (st : Stage) → Framed (walk T top f st)
-  unfolding walk
-  framed-walk zero st = framed-unless (fail 4) (finished st) (framed-fail 4)
-  framed-walk (suc f) st =
-      framed-unless (onward f st) (finished st)
-      (framed-bind (slice T top st) _ (framed-slice T top st) (λ r. framed-mapc _ (framed-walk f (r .1)) (λ c _. ahead (r .0) c)))
-
-  pub held-walk : (f : ℕ) (st : Stage) → Held (walk T top f st)
-  unfolding walk
-  held-walk zero st = held-unless (fail 4) (finished st) (held-fail Chain 4)
-  held-walk (suc f) st =
-      held-unless (onward f st) (finished st)
-      (held-bind (slice T top st) _ (held-slice T top st) (λ r. held-mapc _ (held-walk f (r .1)) (λ c _. ahead (r .0) c)))
 
   pub walk-ended : (f : ℕ) (st : Stage) {g : Format} → finished st ≡ some g → walk T top f st ≡ pure (record { format = g; list = [] })
   unfolding walk unlessFinished
@@ -208,16 +223,8 @@ module _ (T : List ℕ) (top : ℕ) where
   unfolding slices
   slices-enough f xs h = walk-enough (length xs) f (seek first) xs (omega arith) h
 
-  pub framed-slices : Framed (slices T top)
-  unfolding slices
-  framed-slices xs c n h =
-      let K = framed-walk (length xs) (seek first) xs c n h in
-      record {
-        fits = K .fits;
-        again = λ w. walk-fuel (length xs) (seek first) (take n xs ++ w) c n (K .again w) (length (take n xs ++ w))
-            (omega (arith, length-append (take n xs) w, length-take-le n xs (K .fits)));
-      }
-
-  pub held-slices : Held (slices T top)
-  unfolding slices
-  held-slices xs = held-walk (length xs) (seek first) xs
+pub closed-slices : {P : (A : Type 0) → Parser A → Type 0} {Stops : (List ℕ → Option ℕ) → Type 0} (C : Closed P Stops) → Stops atMark → (T : List ℕ) (top : ℕ)
+    → P Chain (slices T top)
+unfolding slices
+closed-slices C marked T top =
+    C .by-fuel (λ f. walk T top f (seek first)) (λ f. closed-walk C marked T top f (seek first)) (λ f xs c n h g l. walk-fuel T top f (seek first) xs c n h g l)

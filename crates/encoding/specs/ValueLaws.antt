@@ -1,125 +1,108 @@
 -- The laws of values, proxies included: the frame; what they take and where they refuse lies within the input.
 --
---   framed-value, held-value     of a value of any type; framed-values, held-values of values one after another
+--   closed-value                 of a value of any type, what each way of joining readers keeps; closed-values of values one after another
+--   framed-value, held-value     the frame; bytes taken and places of refusals
 --   held-text .. held-proxy      of the parts of a proxy
 --   eats-value                   a value that is not fixed-size takes at least one byte
 --   exact-ok, exact-step         what it is to be exactly one value of a type
 --   value-more, value-part       a value among more bytes; a value in just its bytes
 use mathlib.Core.Path.{_≡_, refl, ap, _∙_}
 use mathlib.Core.Bool.{Bool, true, false, _&&_, true≢false, false≢true}
+use mathlib.Core.Option.{Option}
 use mathlib.Core.List.{List, _++_}
 use Prim.Native.Nat.{ℕ}
+use native.Mathlib.Omega.{arith}
 use lib.ListN.{length, take}
-use lib.Dec.{eqb}
+use lib.Dec.{eqb, ltb}
 use borrow.Author.Tests.{eqb-true, eq-eqb}
-use Rattle.encoding.specs.Result.{Res, ok, bad, _>>=_, skip}
-use Rattle.encoding.specs.ResultLaws.{Framed, framed-bind, framed-pure, framed-fail, framed-pick, framed-skip, framed-must, framed-mapc, framed-times, framed-more, framed-part, Held, held-bind, held-pure, held-fail, held-pick, held-skip, held-must, held-mapc, held-times, Eats, eats-fail, eats-first, eats-next, eats-mapc, eats-must}
+use Rattle.encoding.specs.Result.{Res, ok, bad, Parser, _>>=_, skip}
+use Rattle.encoding.specs.ResultLaws.{Closed, by-pick, by-skip, by-times, framed, held, pick-most, Framed, framed-more, framed-part, Held, Eats, eats-fail, eats-first, eats-next, eats-mapc, eats-must}
 use Rattle.encoding.specs.Number.{size}
-use Rattle.encoding.specs.NumberLaws.{framed-byte, framed-bool, framed-size, framed-declared, framed-string, held-byte, held-bool, held-size, held-declared, held-string, eats-size, eats-string, eats-bool}
+use Rattle.encoding.specs.NumberLaws.{closed-byte, closed-bool, closed-size, closed-declared, closed-string, eats-size, eats-string, eats-bool}
 use Rattle.encoding.specs.Proxy.{identityForm, identity, facetForm, text, facets, modeForm, endpoint, endpoints, versions, reference}
 use Rattle.encoding.specs.Proxy
-use Rattle.encoding.specs.Types.{width, Ty, Tys, nil, cons, broken, bool, byte, string, proxy, num, enum, struct, seq, dict, fixed, fixeds}
+use Rattle.encoding.specs.Types.{allows, width, Ty, Tys, nil, cons, broken, bool, byte, string, proxy, num, enum, struct, seq, dict, fixed, fixeds}
 use Rattle.encoding.specs.Value.{enumForm, value, values, whole, exact}
 
--- ---- proxies
+-- ---- what each way of joining readers keeps
 
-framed-text : Framed text
-unfolding text
-framed-text = framed-mapc _ framed-string (λ _ _. tt)
+module _ {P : (A : Type 0) → Parser A → Type 0} {Stops : (List ℕ → Option ℕ) → Type 0} (C : Closed P Stops) where
+  pub closed-text : P (Unit {0}) text
+  unfolding text
+  closed-text = C .by-mapc _ (closed-string C) (λ _ _. tt)
+
+  pub closed-identity : P (ℕ × ℕ) identity
+  unfolding identity identityForm
+  closed-identity =
+      C .by-must _ (C .by-bind _ _ (closed-string C) (λ n. C .by-mapc _ (closed-string C) (λ c _. (length n, length c)))) identityForm
+      (λ l. pick-most (eqb (l .0) 0 && ltb 0 (l .1)) 10 0 (omega arith) (omega arith))
+
+  pub closed-endpoint : P (Unit {0}) endpoint
+  unfolding endpoint
+  closed-endpoint = C .by-bind _ _ (by-skip C 2) (λ _. C .by-mapc _ (closed-declared C 6 4) (λ _ _. tt))
+
+  pub closed-reference : P (Unit {0}) reference
+  unfolding reference facets facetForm modeForm versions endpoints
+  closed-reference =
+      C .by-bind _ _ (C .by-bind _ _ (C .by-must _ (closed-size C) facetForm (λ n. pick-most (ltb n 2) 0 10 (omega arith) (omega arith))) (λ n. by-times C n text closed-text)) λ _.
+      C .by-bind _ _ (C .by-must _ (closed-byte C) modeForm (λ n. pick-most (ltb n 5) 0 10 (omega arith) (omega arith))) λ _.
+      C .by-bind _ _ (closed-bool C) λ _.
+      C .by-bind _ _ (by-times C 4 (skip 1) (by-skip C 1)) λ _.
+      C .by-bind _ _ (closed-size C) (λ n. by-pick C (eqb n 0) _ _ closed-text (by-times C n endpoint closed-endpoint))
+
+  pub closed-proxy : P (Unit {0}) Proxy.proxy
+  unfolding Proxy.proxy
+  closed-proxy = C .by-bind _ _ closed-identity (λ (l : ℕ × ℕ). by-pick C (eqb (l .0) 0) _ _ (C .by-pure tt) closed-reference)
+
+  mutual
+    unfolding value values enumForm
+
+    pub closed-value : (t : Ty) → P (Unit {0}) (value t)
+    closed-value broken = C .by-fail (Unit {0}) 1 (omega arith, omega arith)
+    closed-value bool = closed-bool C
+    closed-value byte = by-skip C 1
+    closed-value string = closed-text
+    closed-value proxy = closed-proxy
+    closed-value (num w) = by-skip C (width w)
+    closed-value (enum g) = C .by-mapc _ (C .by-must _ (closed-size C) (enumForm g) (λ n. pick-most (allows g n) 0 9 (omega arith) (omega arith))) (λ _ _. tt)
+    closed-value (struct ts) = closed-values ts
+    closed-value (seq t) = C .by-bind _ _ (closed-size C) (λ n. by-times C n (value t) (closed-value t))
+    closed-value (dict k v) = C .by-bind _ _ (closed-size C) (λ n. by-times C n _ (C .by-bind _ _ (closed-value k) (λ _. closed-value v)))
+
+    pub closed-values : (ts : Tys) → P (Unit {0}) (values ts)
+    closed-values nil = C .by-pure tt
+    closed-values (cons t ts) = C .by-bind _ _ (closed-value t) (λ _. closed-values ts)
+
+pub framed-value : (t : Ty) → Framed (value t)
+framed-value = closed-value framed
+
+pub held-value : (t : Ty) → Held (value t)
+held-value = closed-value held
 
 pub held-text : Held text
-unfolding text
-held-text = held-mapc _ held-string (λ _ _. tt)
+held-text = closed-text held
+
+pub held-identity : Held identity
+held-identity = closed-identity held
+
+pub held-endpoint : Held endpoint
+held-endpoint = closed-endpoint held
+
+pub held-reference : Held reference
+held-reference = closed-reference held
+
+pub held-proxy : Held Proxy.proxy
+held-proxy = closed-proxy held
+
+-- ---- a value that is not fixed-size takes a byte
 
 eats-text : Eats text
 unfolding text
 eats-text = eats-mapc (λ _ _. tt) _ eats-string
 
-framed-identity : Framed identity
-unfolding identity
-framed-identity = framed-must _ (framed-bind _ _ framed-string (λ n. framed-mapc _ framed-string (λ c _. (length n, length c)))) identityForm
-
-pub held-identity : Held identity
-unfolding identity
-held-identity = held-must _ (held-bind _ _ held-string (λ n. held-mapc _ held-string (λ c _. (length n, length c)))) identityForm
-
-framed-endpoint : Framed endpoint
-unfolding endpoint
-framed-endpoint = framed-bind _ _ (framed-skip 2) (λ _. framed-mapc _ (framed-declared 6 4) (λ _ _. tt))
-
-pub held-endpoint : Held endpoint
-unfolding endpoint
-held-endpoint = held-bind _ _ (held-skip 2) (λ _. held-mapc _ (held-declared 6 4) (λ _ _. tt))
-
-framed-reference : Framed reference
-unfolding reference facets versions endpoints
-framed-reference =
-    framed-bind _ _ (framed-bind _ _ (framed-must _ framed-size facetForm) (λ n. framed-times n text framed-text)) λ _.
-    framed-bind _ _ (framed-must _ framed-byte modeForm) λ _.
-    framed-bind _ _ framed-bool λ _.
-    framed-bind _ _ (framed-times 4 (skip 1) (framed-skip 1)) λ _.
-    framed-bind _ _ framed-size (λ n. framed-pick (eqb n 0) _ _ framed-text (framed-times n endpoint framed-endpoint))
-
-pub held-reference : Held reference
-unfolding reference facets versions endpoints
-held-reference =
-    held-bind _ _ (held-bind _ _ (held-must _ held-size facetForm) (λ n. held-times n text held-text)) λ _.
-    held-bind _ _ (held-must _ held-byte modeForm) λ _.
-    held-bind _ _ held-bool λ _.
-    held-bind _ _ (held-times 4 (skip 1) (held-skip 1)) λ _.
-    held-bind _ _ held-size (λ n. held-pick (eqb n 0) _ _ held-text (held-times n endpoint held-endpoint))
-
-pub framed-proxy : Framed Proxy.proxy
-unfolding Proxy.proxy
-framed-proxy = framed-bind _ _ framed-identity (λ (l : ℕ × ℕ). framed-pick (eqb (l .0) 0) _ _ (framed-pure tt) framed-reference)
-
-pub held-proxy : Held Proxy.proxy
-unfolding Proxy.proxy
-held-proxy = held-bind _ _ held-identity (λ (l : ℕ × ℕ). held-pick (eqb (l .0) 0) _ _ (held-pure tt) held-reference)
-
 pub eats-proxy : Eats Proxy.proxy
 unfolding Proxy.proxy identity
 eats-proxy = eats-first _ _ (eats-must identityForm _ (eats-first _ _ eats-string))
-
--- ---- values
-
-mutual
-  unfolding value values
-
-  pub framed-value : (t : Ty) → Framed (value t)
-  framed-value broken = framed-fail 1
-  framed-value bool = framed-bool
-  framed-value byte = framed-skip 1
-  framed-value string = framed-text
-  framed-value proxy = framed-proxy
-  framed-value (num w) = framed-skip (width w)
-  framed-value (enum g) = framed-mapc _ (framed-must _ framed-size (enumForm g)) (λ _ _. tt)
-  framed-value (struct ts) = framed-values ts
-  framed-value (seq t) = framed-bind _ _ framed-size (λ n. framed-times n (value t) (framed-value t))
-  framed-value (dict k v) = framed-bind _ _ framed-size (λ n. framed-times n _ (framed-bind _ _ (framed-value k) (λ _. framed-value v)))
-
-  pub framed-values : (ts : Tys) → Framed (values ts)
-  framed-values nil = framed-pure tt
-  framed-values (cons t ts) = framed-bind _ _ (framed-value t) (λ _. framed-values ts)
-
-mutual
-  unfolding value values
-
-  pub held-value : (t : Ty) → Held (value t)
-  held-value broken = held-fail (Unit {0}) 1
-  held-value bool = held-bool
-  held-value byte = held-skip 1
-  held-value string = held-text
-  held-value proxy = held-proxy
-  held-value (num w) = held-skip (width w)
-  held-value (enum g) = held-mapc _ (held-must _ held-size (enumForm g)) (λ _ _. tt)
-  held-value (struct ts) = held-values ts
-  held-value (seq t) = held-bind _ _ held-size (λ n. held-times n (value t) (held-value t))
-  held-value (dict k v) = held-bind _ _ held-size (λ n. held-times n _ (held-bind _ _ (held-value k) (λ _. held-value v)))
-
-  pub held-values : (ts : Tys) → Held (values ts)
-  held-values nil = held-pure tt
-  held-values (cons t ts) = held-bind _ _ (held-value t) (λ _. held-values ts)
 
 mutual
   unfolding value values fixed fixeds
