@@ -18,3 +18,5 @@ pub mod LoseLaws
 pub mod RowsNewer
 pub mod MessageNewer
 pub mod Promises
+pub mod PlanLaws
+pub mod PlanRules

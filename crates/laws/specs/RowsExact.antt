@@ -37,7 +37,7 @@ pub record Stands (m : List ℕ) (at : ℕ) (b : List ℕ) : Type 0 where
   pub place : length before ≡ at
 
 module _ {m : List ℕ} {at : ℕ} (a b : List ℕ) (S : Stands m at (a ++ b)) where
-  stands-first : Stands m at a
+  pub stands-first : Stands m at a
   stands-first = record {
     before = S .before;
     after = b ++ S .after;
@@ -45,7 +45,7 @@ module _ {m : List ℕ} {at : ℕ} (a b : List ℕ) (S : Stands m at (a ++ b)) w
     place = S .place;
   }
 
-  stands-next : (at′ : ℕ) → at′ ≡ at + length a → Stands m at′ b
+  pub stands-next : (at′ : ℕ) → at′ ≡ at + length a → Stands m at′ b
   stands-next at′ e = record {
     before = S .before ++ a;
     after = S .after;
@@ -53,16 +53,16 @@ module _ {m : List ℕ} {at : ℕ} (a b : List ℕ) (S : Stands m at (a ++ b)) w
     place = omega (arith, length-append (S .before) a, S .place);
   }
 
-stands-inside : {m : List ℕ} {at : ℕ} (b : List ℕ) → Stands m at b → at + length b ≤ length m
+pub stands-inside : {m : List ℕ} {at : ℕ} (b : List ℕ) → Stands m at b → at + length b ≤ length m
 stands-inside b S = omega (arith, S .place, ap length (S .spelt), length-append (S .before) (b ++ S .after), length-append b (S .after))
 
-stands-there : {m : List ℕ} {at : ℕ} (b : List ℕ) → Stands m at b → take (length b) (drop at m) ≡ b
+pub stands-there : {m : List ℕ} {at : ℕ} (b : List ℕ) → Stands m at b → take (length b) (drop at m) ≡ b
 stands-there {m} {at} b S =
     ap (λ (z : List ℕ). take (length b) (drop at z)) (S .spelt)
     ∙ ap (take (length b)) (drop-at (S .before) (b ++ S .after) at (S .place))
     ∙ take-at b (S .after) (length b) refl
 
-stands-encapsulated : (b : List ℕ) → Stands (encapsulate b) 6 b
+pub stands-encapsulated : (b : List ℕ) → Stands (encapsulate b) 6 b
 unfolding encapsulate
 stands-encapsulated b = record {
   before = leBytes 4 (6 + length b) ++ (1 ∷ 1 ∷ []);
@@ -73,15 +73,15 @@ stands-encapsulated b = record {
 
 -- ---- looking up members
 
-all-append : {A : Type 0} {P : A → Type 0} {l k : List A} → All P l → All P k → All P (l ++ k)
+pub all-append : {A : Type 0} {P : A → Type 0} {l k : List A} → All P l → All P k → All P (l ++ k)
 all-append end K = K
 all-append (more p L) K = more p (all-append L K)
 
-all-map : {A : Type 0} {P Q : A → Type 0} {l : List A} → ((a : A) → P a → Q a) → All P l → All Q l
+pub all-map : {A : Type 0} {P Q : A → Type 0} {l : List A} → ((a : A) → P a → Q a) → All P l → All Q l
 all-map f end = end
 all-map f (more {a} p L) = more (f a p) (all-map f L)
 
-lookup-all : {P : Member → Type 0} (k : ℕ) {ms : List Member} {m : Member} → All P ms → lookup k ms ≡ some m → P m
+pub lookup-all : {P : Member → Type 0} (k : ℕ) {ms : List Member} {m : Member} → All P ms → lookup k ms ≡ some m → P m
 unfolding lookup
 lookup-all k end h = absurd (some≢none h refl)
 lookup-all {P} k {m = m} (more {a} {l} p L) h = go (eqb k (a .key)) h (λ e. lookup-all k L e)
@@ -91,10 +91,10 @@ lookup-all {P} k {m = m} (more {a} {l} p L) h = go (eqb k (a .key)) h (λ e. loo
     go false e ih = ih e
 
 module _ (T : List ℕ) (l : List Ty) where
-  abbrev Typed : Member → Type 0
+  abbrev pub Typed : Member → Type 0
   Typed m = m .ty ≡ memberTy T l (m .row)
 
-  required-typed : (i : ℕ) (ms : List ℕ) → All Typed (requiredOf T l i ms)
+  pub required-typed : (i : ℕ) (ms : List ℕ) → All Typed (requiredOf T l i ms)
   unfolding requiredOf
   required-typed i [] = end
   required-typed i (m ∷ ms) = go (eqb (mark T m) 0) (required-typed (suc i) ms) (required-typed i ms)
@@ -104,7 +104,7 @@ module _ (T : List ℕ) (l : List Ty) where
       go true K L = more refl K
       go false K L = L
 
-  optional-typed : (ms : List ℕ) → All Typed (optionalOf T l ms)
+  pub optional-typed : (ms : List ℕ) → All Typed (optionalOf T l ms)
   unfolding optionalOf
   optional-typed [] = end
   optional-typed (m ∷ ms) = go (eqb (mark T m) 0) (optional-typed ms)
@@ -170,11 +170,11 @@ module _ (T m : List ℕ) where
       row = record { inside = stands-inside b S; one = rw (stands-there b S) (subst (λ (u : Ty). exact u b ≡ true) e h) }
 
   module _ (p : Piece) (ps : List Piece) (at : ℕ) (S : Stands m at (concat pieceBytes (p ∷ ps))) where
-    content-stands : Stands m (at + length (frontBytes p)) (contentBytes p)
+    pub content-stands : Stands m (at + length (frontBytes p)) (contentBytes p)
     unfolding concat pieceBytes
     content-stands = stands-next (frontBytes p) (contentBytes p) (stands-first (frontBytes p ++ contentBytes p) (concat pieceBytes ps) S) _ refl
 
-    others-stand : Stands m (at + length (pieceBytes p)) (concat pieceBytes ps)
+    pub others-stand : Stands m (at + length (pieceBytes p)) (concat pieceBytes ps)
     unfolding concat
     others-stand = stands-next (pieceBytes p) (concat pieceBytes ps) S _ refl
 
@@ -201,13 +201,13 @@ module _ (T m : List ℕ) where
   -- ---- the rows of slices
 
   module _ (g : Format) (s : Stand) (sl : Slice) (ss : List Slice) (at : ℕ) (S : Stands m at (slicesBytes g s (sl ∷ ss))) where
-    data-stand : Stands m (at + length (sliceFront g s (isLast ss) sl)) (dataBytes sl)
+    pub data-stand : Stands m (at + length (sliceFront g s (isLast ss) sl)) (dataBytes sl)
     unfolding slicesBytes
     data-stand =
         let f : List ℕ = sliceFront g s (isLast ss) sl in
         stands-next f (dataBytes sl) (stands-first (f ++ dataBytes sl) (slicesBytes g (later g) ss) S) _ refl
 
-    slices-stand : Stands m (at + length (sliceFront g s (isLast ss) sl) + length (dataBytes sl)) (slicesBytes g (later g) ss)
+    pub slices-stand : Stands m (at + length (sliceFront g s (isLast ss) sl) + length (dataBytes sl)) (slicesBytes g (later g) ss)
     unfolding slicesBytes
     slices-stand =
         let f : List ℕ = sliceFront g s (isLast ss) sl in

@@ -1,0 +1,491 @@
+-- The plan of a type, and rows that choose from it: judging rows is a walk over the slots that are still to come.
+--
+--   Pairs R l            R holds of every two of a list, the earlier first
+--   from least l         of members by rising tag, those whose tag is at least `least`
+--   find m ss            the slot of member row m with no due slot before it, and the slots behind it
+--   future T s           the slots that are still to come where the rows stand at s
+--   judgeSlots           the judgement of rows by the slots to come; judge-slots: it is the state's
+--   Judged               rows that are judged right, with what they give; judged-ok, judged-step: those that judgeSlots lets pass
+use mathlib.Core.Path.{_≡_, refl, sym, ap, ap₂, _∙_, subst}
+use mathlib.Core.Bool.{Bool, true, false, _&&_, _||_}
+use mathlib.Core.Option.{Option, none, some}
+use mathlib.Core.List.{List, [], _∷_, _++_, map}
+use Prim.Native.Nat.{ℕ, suc, _+_, _≤_, _<_}
+use native.Mathlib.Omega.{arith}
+use lib.ListN.{length}
+use lib.Dec.{eqb, leb}
+use borrow.Author.Tests.{leb-true, leb-false, eqb-true, le-leb, lt-leb, eq-eqb, ne-eqb}
+use Rattle.encoding.specs.Result.{pick}
+use Rattle.encoding.specs.ResultLaws.{some≢none, both-true, either-false}
+use Rattle.encoding.specs.Types.{formOf}
+use Rattle.encoding.specs.Value.{exact}
+use Rattle.encoding.specs.Table.{Member, required, optional, any}
+use Rattle.encoding.specs.Optional
+use Rattle.encoding.specs.Message.{Row}
+use Rattle.encoding.specs.Write.{Slot, insert, rising, slot, slots, planOf, Out, out, stop, next, State, Reached, reachDue, optionalRow, orAbove, entered, reachMay, reach, anyOf, stillDue, Given, given, partOf, judge, prepend, judgeAll}
+use Rattle.laws.specs.Demands.{All, end, more}
+use Rattle.laws.specs.RowsExact.{all-append, all-map}
+
+-- ---- every two of a list
+
+pub data Pairs {A : Type 0} (R : A → A → Type 0) : List A → Type 0 where
+  alone : Pairs R []
+  before : {a : A} {l : List A} → All (R a) l → Pairs R l → Pairs R (a ∷ l)
+
+pub all-mapped : {A B : Type 0} {P : B → Type 0} (f : A → B) {l : List A} → All (λ (a : A). P (f a)) l → All P (map f l)
+all-mapped f end = end
+all-mapped f (more p L) = more p (all-mapped f L)
+
+pub pairs-mapped : {A B : Type 0} {R : B → B → Type 0} (f : A → B) {l : List A} → Pairs (λ (a b : A). R (f a) (f b)) l → Pairs R (map f l)
+pairs-mapped f alone = alone
+pairs-mapped f (before p L) = before (all-mapped f p) (pairs-mapped f L)
+
+pub pairs-append : {A : Type 0} {R : A → A → Type 0} {l k : List A} → Pairs R l → Pairs R k → All (λ (a : A). All (R a) k) l → Pairs R (l ++ k)
+pairs-append alone K C = K
+pairs-append (before p L) K (more c C) = before (all-append p c) (pairs-append L K C)
+
+-- what two elements with a property each have
+pub pairs-with : {A : Type 0} {P : A → Type 0} {R S : A → A → Type 0} {l : List A} → ((a b : A) → P a → P b → R a b → S a b) → All P l → Pairs R l → Pairs S l
+pairs-with f end alone = alone
+pairs-with {A} {P} {R} {S} f (more {a} p L) (before r K) = before (go L r) (pairs-with f L K)
+  where
+    go : {l : List A} → All P l → All (R a) l → All (S a) l
+    go end end = end
+    go (more {a = b} q L) (more s K) = more (f a b p q s) (go L K)
+
+-- ---- members by rising tag
+
+abbrev pub RowsDiffer : Member → Member → Type 0
+RowsDiffer a b = a .row ≡ b .row → ⊥
+
+abbrev pub KeysDiffer : Member → Member → Type 0
+KeysDiffer a b = a .key ≡ b .key → ⊥
+
+abbrev pub KeysRise : Member → Member → Type 0
+KeysRise a b = a .key < b .key
+
+all-insert : {P : Member → Type 0} (m : Member) {ms : List Member} → P m → All P ms → All P (insert m ms)
+unfolding insert
+all-insert m p end = more p end
+all-insert {P} m p (more {a} {l} q L) = go (leb (m .key) (a .key)) (all-insert m p L)
+  where
+    go : (b : Bool) → All P (insert m l) → All P (pick b (m ∷ a ∷ l) (a ∷ insert m l))
+    go true K = more p (more q L)
+    go false K = more q K
+
+pub all-rising : {P : Member → Type 0} {ms : List Member} → All P ms → All P (rising ms)
+unfolding rising
+all-rising end = end
+all-rising (more {a} p L) = all-insert a p (all-rising L)
+
+rises-insert : (m : Member) {ms : List Member} → All (KeysDiffer m) ms → Pairs KeysRise ms → Pairs KeysRise (insert m ms)
+unfolding insert
+rises-insert m end alone = before end alone
+rises-insert m (more {a} {l} d D) (before r R) = go (leb (m .key) (a .key)) refl (rises-insert m D R)
+  where
+    go : (b : Bool) → leb (m .key) (a .key) ≡ b → Pairs KeysRise (insert m l) → Pairs KeysRise (pick b (m ∷ a ∷ l) (a ∷ insert m l))
+    go true e K =
+        let h : m .key ≤ a .key = leb-true (m .key) (a .key) e in
+        let g : m .key < a .key = omega (arith, d) in
+        before {a = m} (more g (all-map (λ (x : Member) (y : KeysRise a x). omega arith) r)) (before r R)
+    go false e K = before (all-insert m (leb-false (m .key) (a .key) e) r) K
+
+pub rises-rising : {ms : List Member} → Pairs KeysDiffer ms → Pairs KeysRise (rising ms)
+unfolding rising
+rises-rising alone = alone
+rises-rising (before {a} d D) = rises-insert a (all-rising d) (rises-rising D)
+
+differ-insert : (m : Member) {ms : List Member} → All (RowsDiffer m) ms → Pairs RowsDiffer ms → Pairs RowsDiffer (insert m ms)
+unfolding insert
+differ-insert m end alone = before end alone
+differ-insert m (more {a} {l} d D) (before r R) = go (leb (m .key) (a .key)) (differ-insert m D R)
+  where
+    go : (b : Bool) → Pairs RowsDiffer (insert m l) → Pairs RowsDiffer (pick b (m ∷ a ∷ l) (a ∷ insert m l))
+    go true K = before (more d D) (before r R)
+    go false K = before (all-insert m (λ e. d (sym e)) r) K
+
+pub differ-rising : {ms : List Member} → Pairs RowsDiffer ms → Pairs RowsDiffer (rising ms)
+unfolding rising
+differ-rising alone = alone
+differ-rising (before {a} d D) = differ-insert a (all-rising d) (differ-rising D)
+
+-- ---- an optional by its row
+
+pub optionalRow-all : {P : Member → Type 0} (m least : ℕ) {ms : List Member} {d : Member} → All P ms → optionalRow m least ms ≡ some d → P d
+unfolding optionalRow
+optionalRow-all m least end h = absurd (some≢none h refl)
+optionalRow-all {P} m least {d = d} (more {a} {l} p L) h = go (eqb m (a .row) && leb least (a .key)) h (λ h. optionalRow-all m least L h)
+  where
+    go : (b : Bool) → pick b (some a) (optionalRow m least l) ≡ some d → (optionalRow m least l ≡ some d → P d) → P d
+    go true h ih = let e : a ≡ d = cc in subst P e p
+    go false h ih = ih h
+
+-- rows differ, so the order in which they are looked at does not matter
+module _ (m least : ℕ) where
+  abbrev test : Member → Bool
+  test d = eqb m (d .row) && leb least (d .key)
+
+  row-swap : (a b : Member) (o : Option Member) → RowsDiffer a b → pick (test b) (some b) (pick (test a) (some a) o) ≡ pick (test a) (some a) (pick (test b) (some b) o)
+  row-swap a b o d = go (test a) refl (test b) refl
+    where
+      go : (p : Bool) → test a ≡ p → (q : Bool) → test b ≡ q → pick q (some b) (pick p (some a) o) ≡ pick p (some a) (pick q (some b) o)
+      go true e true f =
+          absurd (d (sym (eqb-true m (a .row) (both-true (eqb m (a .row)) (leb least (a .key)) e .0)) ∙ eqb-true m (b .row) (both-true (eqb m (b .row)) (leb least (b .key)) f .0)))
+      go true e false f = refl
+      go false e q f = refl
+
+  row-insert : (a : Member) {ms : List Member} → All (RowsDiffer a) ms → optionalRow m least (insert a ms) ≡ optionalRow m least (a ∷ ms)
+  unfolding optionalRow insert
+  row-insert a end = refl
+  row-insert a (more {a = b} {l} d D) = go (leb (a .key) (b .key)) (row-insert a D)
+    where
+      go : (q : Bool) → optionalRow m least (insert a l) ≡ optionalRow m least (a ∷ l) → optionalRow m least (pick q (a ∷ b ∷ l) (b ∷ insert a l)) ≡ optionalRow m least (a ∷ b ∷ l)
+      go true ih = refl
+      go false ih = ap (λ (o : Option Member). pick (test b) (some b) o) ih ∙ row-swap a b (optionalRow m least l) d
+
+  pub row-rising : {ms : List Member} → Pairs RowsDiffer ms → optionalRow m least (rising ms) ≡ optionalRow m least ms
+  unfolding optionalRow rising
+  row-rising alone = refl
+  row-rising (before {a} {l} d D) = row-insert a (all-rising d) ∙ ap (λ (o : Option Member). pick (test a) (some a) o) (row-rising D)
+
+-- those whose tag is at least `least`
+unfoldable pub from : ℕ → List Member → List Member
+from least [] = []
+from least (d ∷ ds) = pick (leb least (d .key)) (d ∷ ds) (from least ds)
+
+pub from-all : {least : ℕ} {ds : List Member} → All (λ (e : Member). least ≤ e .key) ds → from least ds ≡ ds
+unfolding from
+from-all end = refl
+from-all {least} (more {a} p L) = rw (le-leb least (a .key) p)
+
+pub from-zero : (ds : List Member) → from 0 ds ≡ ds
+unfolding from
+from-zero [] = refl
+from-zero (d ∷ ds) = rw (le-leb 0 (d .key) (omega arith))
+
+-- ---- the next slot
+
+-- a slot, and those behind it
+pub record Spot : Type 0 where
+  pub slot : Slot
+  pub rest : List Slot
+
+-- the slot of member row m with no due slot before it
+unfoldable pub find : ℕ → List Slot → Option Spot
+find m [] = none
+find m (s ∷ ss) = pick (eqb m (s .member .row)) (some (record { slot = s; rest = ss })) (pick (s .due) none (find m ss))
+
+-- an optional of the owner, or what is found behind its slots
+unfoldable orRest : ℕ → List Member → List Slot → Option Spot → Option Member → Option Spot
+orRest o l rest f none = f
+orRest o l rest f (some d) = some (record { slot = slot o false d; rest = map (slot o false) (from (suc (d .key)) l) ++ rest })
+
+optional-find : (o m least : ℕ) (l : List Member) (rest : List Slot) → Pairs KeysRise l
+    → find m (map (slot o false) (from least l) ++ rest) ≡ orRest o l rest (find m rest) (optionalRow m least l)
+unfolding find from optionalRow orRest slot
+optional-find o m least [] rest R = refl
+optional-find o m least (d ∷ ds) rest (before r R) =
+    go (leb least (d .key)) refl (optional-find o m least ds rest R)
+  where
+    later : (e : Option Member) → optionalRow m least ds ≡ e → orRest o ds rest (find m rest) e ≡ orRest o (d ∷ ds) rest (find m rest) e
+    later none q = refl
+    later (some x) q =
+        let h : d .key < x .key = optionalRow-all m least r q in
+        rw (lt-leb (suc (x .key)) (d .key) (omega arith)) refl
+
+    behind : from (suc (d .key)) (d ∷ ds) ≡ ds
+    behind = rw (lt-leb (suc (d .key)) (d .key) (omega arith)) (from-all r)
+
+    reach : leb least (d .key) ≡ true → {x : ℕ} → d .key < x → least ≤ x
+    reach e y = omega (arith, leb-true least (d .key) e)
+
+    Rest : Type 0
+    Rest = find m (map (slot o false) (from least ds) ++ rest) ≡ orRest o ds rest (find m rest) (optionalRow m least ds)
+
+    found : leb least (d .key) ≡ true → Rest → (b : Bool)
+        → pick b (some (record { slot = slot o false d; rest = map (slot o false) ds ++ rest })) (find m (map (slot o false) ds ++ rest))
+        ≡ orRest o (d ∷ ds) rest (find m rest) (pick (b && true) (some d) (optionalRow m least ds))
+    found e ih true = ap (λ (l : List Member). some (record { slot = slot o false d; rest = map (slot o false) l ++ rest })) (sym behind)
+    found e ih false =
+        ap (λ (l : List Member). find m (map (slot o false) l ++ rest)) (sym (from-all (all-map (λ (x : Member) (y : KeysRise d x). reach e y) r)))
+        ∙ ih ∙ later (optionalRow m least ds) refl
+
+    passed : Rest → (b : Bool) → find m (map (slot o false) (from least ds) ++ rest) ≡ orRest o (d ∷ ds) rest (find m rest) (pick (b && false) (some d) (optionalRow m least ds))
+    passed ih true = ih ∙ later (optionalRow m least ds) refl
+    passed ih false = ih ∙ later (optionalRow m least ds) refl
+
+    go : (a : Bool) → leb least (d .key) ≡ a → Rest
+        → find m (map (slot o false) (pick a (d ∷ ds) (from least ds)) ++ rest) ≡ orRest o (d ∷ ds) rest (find m rest) (pick (eqb m (d .row) && a) (some d) (optionalRow m least ds))
+    go true e ih = found e ih (eqb m (d .row))
+    go false e ih = passed ih (eqb m (d .row))
+
+-- ---- what is still to come
+
+unfoldable pub leastOf : List Member → ℕ → ℕ
+leastOf [] least = least
+leastOf (d ∷ ds) least = 0
+
+pub least-zero : (ds : List Member) → leastOf ds 0 ≡ 0
+unfolding leastOf
+least-zero [] = refl
+least-zero (d ∷ ds) = refl
+
+-- required members still due, the owner's optionals of tags that may come, the slots of the owners above
+unfoldable pub future : List ℕ → State → List Slot
+future T s =
+    map (slot (s .owner) true) (s .due) ++ map (slot (s .owner) false) (from (leastOf (s .due) (s .least)) (rising (optional T (s .owner)))) ++ planOf T (s .above)
+
+-- what a row reaches, as the slot that it chooses and those behind it
+unfoldable spot : List ℕ → Reached → Spot
+spot T z = record { slot = slot (z .state .owner) (z .required-one) (z .member); rest = future T (z .state) }
+
+module _ (T : List ℕ) where
+  -- the optionals of an owner differ in row, and in tag
+  pub record Ordered (t : ℕ) : Type 0 where
+    pub rows : Pairs RowsDiffer (optional T t)
+    pub keys : Pairs KeysRise (rising (optional T t))
+
+  -- neither slot nor member, or both, and the owners to come are still right
+  data Same : Option Spot → Option Reached → Type 0 where
+    neither : Same none none
+    both : (z : Reached) → All Ordered (z .state .owner ∷ z .state .above) → Same (some (spot T z)) (some z)
+
+  due-same : (m o : ℕ) (ts : List ℕ) (d : Member) (ds : List Member) → All Ordered (o ∷ ts)
+      → Same (find m (map (slot o true) (d ∷ ds) ++ map (slot o false) (from 0 (rising (optional T o))) ++ planOf T ts)) (reachDue o ts m d ds)
+  unfolding find reachDue slot spot future
+  due-same m o ts d ds O = go (eqb m (d .row))
+    where
+      behind : ℕ → List Slot
+      behind n = map (slot o true) ds ++ map (slot o false) (from n (rising (optional T o))) ++ planOf T ts
+
+      state : State
+      state = record { owner = o; due = ds; least = 0; above = ts }
+
+      go : (b : Bool) → Same (pick b (some (record { slot = slot o true d; rest = behind 0 })) none) (pick b (some (record { member = d; required-one = true; state = state })) none)
+      go true = subst (λ (n : ℕ). Same (some (record { slot = slot o true d; rest = behind n })) (some (record { member = d; required-one = true; state = state }))) (least-zero ds) (both _ O)
+      go false = neither
+
+  -- an optional of the owner, or what comes behind its slots
+  or-same : (m o least : ℕ) (ts : List ℕ) (r : Option Reached) → All Ordered (o ∷ ts) → Same (find m (planOf T ts)) r
+      → Same (find m (map (slot o false) (from least (rising (optional T o))) ++ planOf T ts)) (orAbove o ts r (optionalRow m least (optional T o)))
+  unfolding orRest orAbove spot future leastOf
+  or-same m o least ts r (more x O) S =
+      subst (λ (f : Option Spot). Same f (orAbove o ts r (optionalRow m least (optional T o))))
+      (sym (optional-find o m least (rising (optional T o)) (planOf T ts) (x .keys) ∙ ap (orRest o (rising (optional T o)) (planOf T ts) (find m (planOf T ts))) (row-rising m least (x .rows))))
+      (go (optionalRow m least (optional T o)))
+    where
+      go : (d : Option Member) → Same (orRest o (rising (optional T o)) (planOf T ts) (find m (planOf T ts)) d) (orAbove o ts r d)
+      go none = S
+      go (some d) = both _ (more x O)
+
+  may-same : (m o least : ℕ) (ts : List ℕ) → All Ordered (o ∷ ts)
+      → Same (find m (map (slot o false) (from least (rising (optional T o))) ++ planOf T ts)) (reachMay T m o least ts)
+  unfolding reachMay find planOf entered slots
+  may-same m o least [] O = or-same m o least [] none O neither
+  may-same m o least (t ∷ ts) (more x O) = or-same m o least (t ∷ ts) _ (more x O) (go (required T t) (may-same m t 0 ts O))
+    where
+      go : (ds : List Member) → Same (find m (map (slot t false) (from 0 (rising (optional T t))) ++ planOf T ts)) (reachMay T m t 0 ts)
+          → Same (find m (map (slot t true) ds ++ map (slot t false) (rising (optional T t)) ++ planOf T ts)) (entered t ts m (reachMay T m t 0 ts) ds)
+      go [] ih = subst (λ (l : List Member). Same (find m (map (slot t false) l ++ planOf T ts)) (reachMay T m t 0 ts)) (from-zero (rising (optional T t))) ih
+      go (d ∷ ds) ih =
+          subst (λ (l : List Member). Same (find m (map (slot t true) (d ∷ ds) ++ map (slot t false) l ++ planOf T ts)) (reachDue t ts m d ds)) (from-zero (rising (optional T t)))
+          (due-same m t ts d ds O)
+
+  reach-same : (m : ℕ) (s : State) → All Ordered (s .owner ∷ s .above) → Same (find m (future T s)) (reach T m s)
+  unfolding future reach entered leastOf
+  reach-same m s O = go (s .due)
+    where
+      go : (ds : List Member)
+          → Same (find m (map (slot (s .owner) true) ds ++ map (slot (s .owner) false) (from (leastOf ds (s .least)) (rising (optional T (s .owner)))) ++ planOf T (s .above)))
+          (entered (s .owner) (s .above) m (reachMay T m (s .owner) (s .least) (s .above)) ds)
+      go [] = may-same m (s .owner) (s .least) (s .above) O
+      go (d ∷ ds) = due-same m (s .owner) (s .above) d ds O
+
+-- ---- judging by slots
+
+-- a slot is due
+unfoldable pub anyDue : List Slot → Bool
+anyDue [] = false
+anyDue (s ∷ ss) = s .due || anyDue ss
+
+-- what a row that chooses a slot gives
+unfoldable pub givenOf : Slot → List ℕ → Given
+givenOf s b = record {
+  owner = s .owner;
+  piece = pick (s .due) (Optional.required (s .member .key) b) (Optional.optional (s .member .key) (formOf (s .member .ty)) b);
+}
+
+-- 20 where the row chooses no slot or lies outside, then 21
+unfoldable pub judgeSlot : List ℕ → ℕ → Row → Option Spot → Out Spot
+judgeSlot buffer i r none = stop 20 i
+judgeSlot buffer i r (some z) =
+    pick (leb (r .place + r .len) (length buffer))
+    (pick (exact (z .slot .member .ty) (partOf buffer r)) (out z) (stop 21 i))
+    (stop 20 i)
+
+unfoldable pub judgeSlots : List ℕ → List Slot → ℕ → List Row → Out (List Given)
+judgeSlots buffer ss i [] = pick (anyDue ss) (stop 20 i) (out [])
+judgeSlots buffer ss i (r ∷ rs) =
+    next (judgeSlot buffer i r (find (r .member) ss)) λ (z : Spot).
+    next (judgeSlots buffer (z .rest) (suc i) rs) (prepend (givenOf (z .slot) (partOf buffer r)))
+
+module _ (T : List ℕ) where
+  due-append : (a b : List Slot) → anyDue (a ++ b) ≡ anyDue a || anyDue b
+  unfolding anyDue
+  due-append [] b = refl
+  due-append (s ∷ a) b = ap (λ (q : Bool). s .due || q) (due-append a b) ∙ go (s .due)
+    where
+      go : (p : Bool) → p || (anyDue a || anyDue b) ≡ p || anyDue a || anyDue b
+      go true = refl
+      go false = refl
+
+  due-required : (t : ℕ) (ms os : List Member) → anyDue (map (slot t true) ms ++ map (slot t false) os) ≡ anyOf ms
+  unfolding anyDue anyOf slot
+  due-required t [] [] = refl
+  due-required t [] (o ∷ os) = due-required t [] os
+  due-required t (m ∷ ms) os = refl
+
+  due-plan : (ts : List ℕ) → anyDue (planOf T ts) ≡ any (λ t. anyOf (required T t)) ts
+  unfolding planOf slots any anyDue
+  due-plan [] = refl
+  due-plan (t ∷ ts) = due-append (slots T t) (planOf T ts) ∙ ap₂ _||_ (due-required t (required T t) (rising (optional T t))) (due-plan ts)
+
+  due-future : (s : State) → stillDue T s ≡ anyDue (future T s)
+  unfolding stillDue future
+  due-future s =
+      let os : List Member = from (leastOf (s .due) (s .least)) (rising (optional T (s .owner))) in
+      sym (due-append (map (slot (s .owner) true) (s .due) ++ map (slot (s .owner) false) os) (planOf T (s .above)) ∙ ap₂ _||_ (due-required (s .owner) (s .due) os) (due-plan (s .above)))
+
+  pub judge-slots : (buffer : List ℕ) (rs : List Row) (i : ℕ) (s : State) → All (Ordered T) (s .owner ∷ s .above) → judgeAll T buffer s i rs ≡ judgeSlots buffer (future T s) i rs
+  unfolding judgeAll judgeSlots judge judgeSlot given givenOf next spot slot
+  judge-slots buffer [] i s O = ap (λ (q : Bool). pick q (stop 20 i) (out [])) (due-future s)
+  judge-slots buffer (r ∷ rs) i s O = go (reach-same T (r .member) s O) (λ s O. judge-slots buffer rs (suc i) s O)
+    where
+      b : List ℕ
+      b = partOf buffer r
+
+      go : {f : Option Spot} {z : Option Reached} → Same T f z
+          → ((s : State) → All (Ordered T) (s .owner ∷ s .above) → judgeAll T buffer s (suc i) rs ≡ judgeSlots buffer (future T s) (suc i) rs)
+          → next (judge buffer i r z) (λ (z : Reached). next (judgeAll T buffer (z .state) (suc i) rs) (prepend (given z b)))
+          ≡ next (judgeSlot buffer i r f) (λ (z : Spot). next (judgeSlots buffer (z .rest) (suc i) rs) (prepend (givenOf (z .slot) b)))
+      go neither ih = refl
+      go (both z O) ih = go₂ (leb (r .place + r .len) (length buffer)) (exact (z .member .ty) b)
+        where
+          go₂ : (p q : Bool)
+              → next (pick p (pick q (out z) (stop 21 i)) (stop 20 i)) (λ (z : Reached). next (judgeAll T buffer (z .state) (suc i) rs) (prepend (given z b)))
+              ≡ next (pick p (pick q (out (spot T z)) (stop 21 i)) (stop 20 i)) (λ (z : Spot). next (judgeSlots buffer (z .rest) (suc i) rs) (prepend (givenOf (z .slot) b)))
+          go₂ true true = ap (λ (o : Out (List Given)). next o (prepend (given z b))) (ih (z .state) O)
+          go₂ true false = refl
+          go₂ false q = refl
+
+-- ---- rows that are judged right
+
+-- rows choose slots in order, leave out none that is due, lie in the buffer and have their types' bytes; with what they give
+pub data Judged (buffer : List ℕ) : List Slot → List Row → List Given → Type 0 where
+  over : Judged buffer [] [] []
+  taken : {s : Slot} {ss : List Slot} {r : Row} {rs : List Row} {gs : List Given} → r .member ≡ s .member .row → r .place + r .len ≤ length buffer
+      → exact (s .member .ty) (partOf buffer r) ≡ true → Judged buffer ss rs gs → Judged buffer (s ∷ ss) (r ∷ rs) (givenOf s (partOf buffer r) ∷ gs)
+  missed : {s : Slot} {ss : List Slot} {rs : List Row} {gs : List Given} → s .due ≡ false → Judged buffer ss rs gs → Judged buffer (s ∷ ss) rs gs
+
+-- no two slots have one member row
+abbrev pub SlotsDiffer : Slot → Slot → Type 0
+SlotsDiffer a b = a .member .row ≡ b .member .row → ⊥
+
+pub out≢stop : {A : Type 0} {o : Out A} {a : A} {n p : ℕ} → o ≡ out a → o ≡ stop n p → ⊥
+out≢stop e h = let z : _≡_ {A = ℕ} 0 1 = cc in omega arith
+
+module _ {A B : Type 0} (o : Out A) (f : A → Out B) where
+  pub next-ok : {b : B} → next o f ≡ out b → (a : A) × (o ≡ out a) × (f a ≡ out b)
+  unfolding next
+  next-ok {b} h = go o refl h
+    where
+      go : (x : Out A) → o ≡ x → next x f ≡ out b → (a : A) × (o ≡ out a) × (f a ≡ out b)
+      go (out a) e h = (a, e, h)
+      go (stop n p) e h = absurd (out≢stop h refl)
+
+module _ (buffer : List ℕ) (i : ℕ) (r : Row) where
+  pub record Fitting (f : Option Spot) (z : Spot) : Type 0 where
+    pub found : f ≡ some z
+    pub inside : r .place + r .len ≤ length buffer
+    pub one : exact (z .slot .member .ty) (partOf buffer r) ≡ true
+
+  pub judgeSlot-ok : (f : Option Spot) {z : Spot} → judgeSlot buffer i r f ≡ out z → Fitting f z
+  unfolding judgeSlot
+  judgeSlot-ok none h = absurd (out≢stop h refl)
+  judgeSlot-ok (some x) {z} h = go (leb (r .place + r .len) (length buffer)) refl (exact (x .slot .member .ty) (partOf buffer r)) refl h
+    where
+      go : (p : Bool) → leb (r .place + r .len) (length buffer) ≡ p → (q : Bool) → exact (x .slot .member .ty) (partOf buffer r) ≡ q
+          → pick p (pick q (out x) (stop 21 i)) (stop 20 i) ≡ out z → Fitting (some x) z
+      go true e true g h =
+          let s : x ≡ z = cc in
+          record { found = ap some s; inside = leb-true (r .place + r .len) (length buffer) e; one = subst (λ (y : Spot). exact (y .slot .member .ty) (partOf buffer r) ≡ true) s g }
+      go true e false g h = absurd (out≢stop h refl)
+      go false e q g h = absurd (out≢stop h refl)
+
+  pub judgeSlot-step : (f : Option Spot) {z : Spot} → Fitting f z → judgeSlot buffer i r f ≡ out z
+  unfolding judgeSlot
+  judgeSlot-step f F = rw (F .found, le-leb (r .place + r .len) (length buffer) (F .inside), F .one)
+
+-- a slot that is found: those before it are not due
+find-judged : {buffer : List ℕ} {r : Row} {rs : List Row} {gs : List Given} (ss : List Slot) (z : Spot) → find (r .member) ss ≡ some z → Judged buffer (z .slot ∷ z .rest) (r ∷ rs) gs → Judged buffer ss (r ∷ rs) gs
+unfolding find
+find-judged [] z e K = absurd (some≢none e refl)
+find-judged {buffer} {r} {rs} {gs} (s ∷ ss) z e K = go (eqb (r .member) (s .member .row)) (s .due) refl e (λ e. find-judged ss z e K)
+  where
+    go : (p q : Bool) → s .due ≡ q → pick p (some (record { slot = s; rest = ss })) (pick q none (find (r .member) ss)) ≡ some z
+        → (find (r .member) ss ≡ some z → Judged buffer ss (r ∷ rs) gs) → Judged buffer (s ∷ ss) (r ∷ rs) gs
+    go true q d e ih =
+        let x : record { slot = s; rest = ss } ≡ z = cc in
+        subst (λ (y : Spot). Judged buffer (y .slot ∷ y .rest) (r ∷ rs) gs) (sym x) K
+    go false true d e ih = absurd (some≢none e refl)
+    go false false d e ih = missed d (ih e)
+
+missed-all : {buffer : List ℕ} (ss : List Slot) → anyDue ss ≡ false → Judged buffer ss [] []
+unfolding anyDue
+missed-all [] e = over
+missed-all (s ∷ ss) e = let d = either-false (s .due) (anyDue ss) e in missed (d .0) (missed-all ss (d .1))
+
+find-member : (m : ℕ) (ss : List Slot) {z : Spot} → find m ss ≡ some z → m ≡ z .slot .member .row
+unfolding find
+find-member m [] e = absurd (some≢none e refl)
+find-member m (s ∷ ss) {z} e = go (eqb m (s .member .row)) refl (s .due) e (λ e. find-member m ss e)
+  where
+    go : (p : Bool) → eqb m (s .member .row) ≡ p → (q : Bool) → pick p (some (record { slot = s; rest = ss })) (pick q none (find m ss)) ≡ some z
+        → (find m ss ≡ some z → m ≡ z .slot .member .row) → m ≡ z .slot .member .row
+    go true f q e ih =
+        let x : record { slot = s; rest = ss } ≡ z = cc in
+        eqb-true m (s .member .row) f ∙ ap (λ (y : Spot). y .slot .member .row) x
+    go false f true e ih = absurd (some≢none e refl)
+    go false f false e ih = ih e
+
+pub judged-ok : (buffer : List ℕ) (rs : List Row) (ss : List Slot) (i : ℕ) {gs : List Given} → judgeSlots buffer ss i rs ≡ out gs → Judged buffer ss rs gs
+unfolding judgeSlots prepend
+judged-ok buffer [] ss i {gs} h = go (anyDue ss) refl h
+  where
+    go : (q : Bool) → anyDue ss ≡ q → pick q (stop 20 i) (out []) ≡ out gs → Judged buffer ss [] gs
+    go true e h = absurd (out≢stop h refl)
+    go false e h = let x : [] ≡ gs = cc in subst (Judged buffer ss []) x (missed-all ss e)
+judged-ok buffer (r ∷ rs) ss i {gs} h =
+    let A = next-ok (judgeSlot buffer i r (find (r .member) ss)) _ h in
+    let z : Spot = A .0 in
+    let F = judgeSlot-ok buffer i r (find (r .member) ss) (A .1) in
+    let B = next-ok (judgeSlots buffer (z .rest) (suc i) rs) _ (A .2) in
+    let x : givenOf (z .slot) (partOf buffer r) ∷ B .0 ≡ gs = cc in
+    subst (Judged buffer ss (r ∷ rs)) x
+    (find-judged ss z (F .found) (taken (find-member (r .member) ss (F .found)) (F .inside) (F .one) (judged-ok buffer rs (z .rest) (suc i) (B .1))))
+
+-- the slot of the first row is among the slots
+first-among : {buffer : List ℕ} {P : Slot → Type 0} {ss : List Slot} {r : Row} {rs : List Row} {gs : List Given} → All P ss → Judged buffer ss (r ∷ rs) gs
+    → (s : Slot) × P s × (r .member ≡ s .member .row)
+first-among (more {a} p L) (taken e b x K) = (a, p, e)
+first-among (more p L) (missed d K) = first-among L K
+
+pub judged-step : {buffer : List ℕ} {ss : List Slot} {rs : List Row} {gs : List Given} (i : ℕ) → Pairs SlotsDiffer ss → Judged buffer ss rs gs → judgeSlots buffer ss i rs ≡ out gs
+unfolding judgeSlots anyDue find next prepend
+judged-step i alone over = refl
+judged-step {buffer} i (before D P) (taken {s} {ss} {r} e b x K) =
+    rw (eq-eqb (r .member) (s .member .row) e, judgeSlot-step buffer i r _ {z = record { slot = s; rest = ss }} (record { found = refl; inside = b; one = x })) (rw (judged-step (suc i) P K))
+judged-step i (before D P) (missed {s} {ss} {rs = []} d K) = ap (λ (q : Bool). pick (q || anyDue ss) (stop 20 i) (out [])) d ∙ judged-step i P K
+judged-step i (before D P) (missed {s} {ss} {rs = r ∷ rs} d K) =
+    let F = first-among D K in
+    rw (ne-eqb (r .member) (s .member .row) (λ e. F .1 (sym e ∙ F .2)), d) (judged-step i P K)
