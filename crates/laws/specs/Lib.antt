@@ -20,3 +20,6 @@ pub mod MessageNewer
 pub mod Promises
 pub mod PlanLaws
 pub mod PlanRules
+pub mod MessageWritten
+pub mod GatherLaws
+pub mod WriteBack

@@ -2,6 +2,7 @@
 --
 --   contents-written, -canonical   what stands in the encapsulation, by the top's kind
 --   body-written, -canonical       the encapsulation around it
+--   rules-written                  what follows the rules is accepted
 --   exact-message, exact-rows      demand 2, first sentence, and the rows listed
 use mathlib.Core.Path.{_≡_, refl, sym, ap, ap₂, _∙_, subst}
 use mathlib.Core.Bool.{Bool, true, false, not}
@@ -155,8 +156,14 @@ module _ (T : List ℕ) (top : ℕ) where
 
 -- ---- the rules
 
+pub rules-written : (T : List ℕ) (top : ℕ) (m : List ℕ) (f : Format) (p : Pieces) → Follows T top m f p → rules T top m ≡ ok (readAs f p) (length m)
+rules-written T top m f p F =
+    let b : body T top m ≡ ok (readAs f p) (length m) =
+    subst (λ (z : List ℕ). Short (length z) → body T top z ≡ ok (readAs f p) (length z)) (sym (F .encoded)) (body-written T top f p (F .conforms)) (omega (arith, F .short)) in
+    rules-step T top m (record { table = F .table; top-right = F .top-there; short = F .short; read = b })
+
 pub exact-message : Exact
-exact-message T top m f p n y = (read, written)
+exact-message T top m f p n y = (read, rules-written T top m f p)
   where
     read : rules T top m ≡ ok (readAs f p) n → Follows T top m f p × (n ≡ length m)
     read h =
@@ -164,12 +171,6 @@ exact-message T top m f p n y = (read, written)
         let t = top-there T top (A .top-right) in
         let B = body-canonical T top m y (omega (arith, A .short)) (t .1) (kind-known T (A .table) top (t .0)) (A .read) in
         (record { table = A .table; top-there = A .top-right; short = A .short; conforms = B .0; encoded = B .1 }, B .2)
-
-    written : Follows T top m f p → rules T top m ≡ ok (readAs f p) (length m)
-    written F =
-        let b : body T top m ≡ ok (readAs f p) (length m) =
-        subst (λ (z : List ℕ). Short (length z) → body T top z ≡ ok (readAs f p) (length z)) (sym (F .encoded)) (body-written T top f p (F .conforms)) (omega (arith, F .short)) in
-        rules-step T top m (record { table = F .table; top-right = F .top-there; short = F .short; read = b })
 
 pub exact-rows : ExactRows
 exact-rows = exact-rows-from exact-message

@@ -7,23 +7,23 @@
 --   plan-fit, plan-differ     the slots of a plan
 --   judging-slots             judging rows for a type is the walk over the slots of its plan
 use mathlib.Core.Path.{_≡_, refl, sym, ap, _∙_, subst}
-use mathlib.Core.Bool.{Bool, true, false, _&&_, _||_, true≢false}
+use mathlib.Core.Bool.{Bool, true, false, _&&_, _||_, true≢false, false≢true}
 use mathlib.Core.Option.{some}
 use mathlib.Core.List.{List, [], _∷_, _++_, map}
 use Prim.Native.Nat.{ℕ, zero, suc, _≤_, _<_}
 use native.Mathlib.Omega.{arith}
 use lib.Dec.{eqb, leb}
-use borrow.Author.Tests.{leb-false, eqb-false, eq-eqb, ne-eqb}
+use borrow.Author.Tests.{leb-false, eqb-true, eqb-false, eq-eqb, ne-eqb, lt-leb, le-ltb}
 use Rattle.encoding.specs.Result.{pick}
 use Rattle.encoding.specs.Number.{negative}
 use Rattle.encoding.specs.Types.{Ty}
-use Rattle.encoding.specs.Table.{types, kind, field, mark, tag, isRecord, owns, range, fine, faults, great, memberRules, Member, memberTy, trees, ownRows, requiredOf, optionalOf, required, optional, lookup, base, upward, chain}
+use Rattle.encoding.specs.Table.{types, kind, field, mark, tag, isRecord, owns, range, fine, faults, great, memberRules, Member, memberTy, trees, ownRows, requiredOf, optionalOf, required, optional, lookup, base, upward, chain, any}
 use Rattle.encoding.specs.RuleLaws.{member-test, kind-known, base-right, chain-node, Own, rows-apart, rows-there, mark-known, tags-differ}
 use Rattle.encoding.specs.Message.{Row, noTop}
 use Rattle.encoding.specs.MessageLaws.{top-there}
 use Rattle.encoding.specs.Write.{Slot, rising, slot, slots, planOf, plan, above, begin}
 use Rattle.encoding.specs.Conform.{Short}
-use Rattle.laws.specs.Demands.{All, end, more, judging}
+use Rattle.laws.specs.Demands.{All, end, more, Below, judging}
 use Rattle.laws.specs.RowsExact.{all-append, all-map, Found, required-found, required-typed, optional-typed}
 use Rattle.laws.specs.PlanLaws.{Pairs, alone, before, all-mapped, pairs-mapped, pairs-append, pairs-with, RowsDiffer, KeysDiffer, all-rising, rises-rising, differ-rising, from, from-zero, Ordered, future, least-zero, SlotsDiffer, judgeSlots, judge-slots}
 
@@ -34,6 +34,15 @@ all-any f (a ∷ l) = more (f a) (all-any f l)
 pub all-with : {A : Type 0} {P Q S : A → Type 0} {l : List A} → ((a : A) → P a → Q a → S a) → All P l → All Q l → All S l
 all-with f end end = end
 all-with f (more {a} p L) (more q K) = more (f a p q) (all-with f L K)
+
+any-among : {P : ℕ → Type 0} (r : ℕ) {l : List ℕ} → All P l → any (λ i. eqb i r) l ≡ true → P r
+unfolding any
+any-among r end h = absurd (false≢true h)
+any-among {P} r (more {a} {l} p L) h = go (eqb a r) refl h (λ h. any-among r L h)
+  where
+    go : (q : Bool) → eqb a r ≡ q → q || any (λ i. eqb i r) l ≡ true → (any (λ i. eqb i r) l ≡ true → P r) → P r
+    go true e h ih = subst P (eqb-true a r e) p
+    go false e h ih = ih h
 
 -- ---- where members stand
 
@@ -176,7 +185,7 @@ module _ (T : List ℕ) (t : ℕ) where
         record { owner-right = O; place = P; typed = F .0; finds = F .1; short = λ e. absurd (true≢false e) })
         required-mine (all-with (λ m a b. (a, b)) (required-typed T (trees T) 0 (ownRows T t)) (required-found T t))
 
-    optional-fit : All (λ (m : Member). Fit T (slot t false m)) (optional T t)
+    pub optional-fit : All (λ (m : Member). Fit T (slot t false m)) (optional T t)
     unfolding optional slot
     optional-fit =
         all-with (λ (m : Member) (P : Mine false m) (F : (m .ty ≡ memberTy T (trees T) (m .row)) × Found (optional T t) m).
@@ -196,6 +205,11 @@ module _ (T : List ℕ) (t : ℕ) where
       where
         other : (a b : Member) → Mine true a → Mine false b → a .row ≡ b .row → ⊥
         other a b A B e = true≢false (sym (A .marked) ∙ ap (λ (i : ℕ). eqb (mark T i) 0) e ∙ B .marked)
+
+-- a row of a kind from 13 on is a top
+pub top-step : (T : List ℕ) (top : ℕ) → top < types T → 13 ≤ kind T top → noTop T top ≡ false
+unfolding noTop
+top-step T top l k = rw (lt-leb (types T) top l, le-ltb (kind T top) 13 k)
 
 -- ---- the slots of a chain
 
@@ -236,7 +250,7 @@ module _ (T : List ℕ) where
       pub alike : kind T r ≡ kind T t
       pub least : r ≤ t
 
-    base-record : (t r : ℕ) → base T t ≡ suc r → isRecord (kind T t) ≡ true
+    pub base-record : (t r : ℕ) → base T t ≡ suc r → isRecord (kind T t) ≡ true
     unfolding base
     base-record t r h = go (isRecord (kind T t)) (leb (field T t 2) t) h
       where
@@ -296,6 +310,10 @@ module _ (T : List ℕ) where
       pub plan-differ : Pairs SlotsDiffer (plan T type)
       unfolding plan
       plan-differ = planOf-differ (chain T type) chain-owners chain-falls
+
+      -- a row of the chain, by the test that descends
+      pub chain-top : (top : ℕ) → Below T top type → Rung type top
+      chain-top top h = any-among top chain-rungs h
 
       pub chain-above : chain T type ≡ type ∷ above (chain T type)
       unfolding above

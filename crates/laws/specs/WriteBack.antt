@@ -1,0 +1,243 @@
+-- What the writer makes is read as the members given: the pieces that the rows make conform, and their rows are the rows given.
+--
+--   judged-level, judged-rows    the pieces of one owner
+--   Carries, judged-slices       the slices of a chain
+--   below-kind                   a top and a type that descends from it are of one kind
+--   gathered-conform, -rows      the pieces of a whole message
+--   read-back                    demand 2: what is written is read back
+use mathlib.Core.Path.{_≡_, refl, sym, ap, _∙_, subst}
+use mathlib.Core.Bool.{Bool, true, false, _&&_, true≢false}
+use mathlib.Core.Option.{Option, some}
+use mathlib.Core.List.{List, [], _∷_, _++_, map, append-nil}
+use Prim.Native.Nat.{ℕ, suc, _+_, _≤_}
+use native.Mathlib.Omega.{arith}
+use lib.ListN.{length}
+use lib.Dec.{eqb, leb, ltb}
+use borrow.Author.Tests.{eqb-true, eqb-false, ltb-false}
+use Rattle.encoding.specs.Result.{pick, concat}
+use Rattle.encoding.specs.Table.{kind, field, isRecord, fine, faults, nameOf, named, base, upward, chain, Member}
+use Rattle.encoding.specs.RuleLaws.{kind-known, chain-node, named-at}
+use Rattle.encoding.specs.MessageLaws.{top-there}
+use Rattle.encoding.specs.ResultLaws.{either-false}
+use Rattle.encoding.specs.Table
+use Rattle.encoding.specs.Optional.{Piece, pieceBytes, frontBytes, contentBytes}
+use Rattle.encoding.specs.Slice.{Format, compact, sliced, formatNumber, Slice, known, Stand, first, later, slicesBytes, dataBytes, sliceFront, isLast}
+use Rattle.encoding.specs.Message.{Pieces, list, exception, class, encode, encapsulate, noTop, limit, Row, listRow, pieceRows, sliceRows, orZero, firstIn, firstKnown, rows, skippedPieces, skippedIn, passedIn, optionalsSkipped, slicesSkipped}
+use Rattle.encoding.specs.Write
+use Rattle.encoding.specs.Write.{Slot, rising, slot, slots, planOf, plan, Given, partOf, piecesOf, slicesOf, gathered, noFormat, formatOf}
+use Rattle.encoding.specs.Conform.{Level, Owned, Follow, Slices, Conform}
+use Rattle.laws.specs.Demands.{readAs, All, end, more, SameMembers, no-members, same-member, Below, rowList, Complete, ReadBack}
+use Rattle.laws.specs.RowsExact.{Stands, stands-first, stands-next, stands-there, stands-encapsulated, content-stands, others-stand, data-stand, slices-stand}
+use Rattle.laws.specs.RecordNewer.{Line, here, above, descends-ok}
+use Rattle.laws.specs.MessageExact.{rules-written}
+use Rattle.laws.specs.PlanLaws.{Pairs, before, KeysRise, all-rising, givenOf, Judged, over, taken, missed, judged-ok}
+use Rattle.laws.specs.PlanRules.{all-any, all-with, Owner, Fit, slots-owner, owner-ordered, optional-fit, slots-fit, Falls, plan-owner, chain-falls, chain-owners, chain-above, chain-top, top-step, top-owner, base-record, judging-slots}
+use Rattle.laws.specs.GatherLaws.{piecesIn, judged-split, judged-owner, slices-own, owns-all, part-length, piece-content, piece-given, piece-member}
+use Rattle.laws.specs.MessageWritten.{writing-ok}
+
+-- ---- the pieces of one owner
+
+module _ (T : List ℕ) (t : ℕ) (buffer : List ℕ) where
+  pub judged-level : length buffer ≤ limit → (ms os : List Member) (least : ℕ) → Pairs KeysRise os → All (λ (d : Member). least ≤ d .key) os → All (λ (d : Member). Fit T (slot t false d)) os
+      → {rs : List Row} {gs : List Given} → Judged buffer (map (slot t true) ms ++ map (slot t false) os) rs gs → Level ms (Table.optional T t) least (piecesIn gs)
+  unfolding slot givenOf
+  judged-level h [] [] least P L F over = tt
+  judged-level h [] (d ∷ os) least (before p P) (more l L) (more f F) (taken {r = r} e i x K) = (
+    record {
+      member = d;
+      found = f .finds;
+      rises = l;
+      form = refl;
+      one = x;
+      short = f .short refl;
+      shorter = omega (arith, part-length buffer r i);
+    },
+    judged-level h [] os (suc (d .key)) P p F K,
+  )
+  judged-level h [] (d ∷ os) least (before p P) (more l L) (more f F) (missed q K) = judged-level h [] os least P L F K
+  judged-level h (m ∷ ms) os least P L F (taken e i x K) = (refl, x, judged-level h ms os least P L F K)
+  judged-level h (m ∷ ms) os least P L F (missed q K) = absurd (true≢false q)
+
+  pub judged-rows : (m : List ℕ) {ss : List Slot} {rs : List Row} {gs : List Given} → All (λ (s : Slot). Fit T s × (s .owner ≡ t)) ss → Judged buffer ss rs gs
+      → (at : ℕ) → Stands m at (concat pieceBytes (piecesIn gs)) → SameMembers buffer m rs (pieceRows T t at (piecesIn gs))
+  unfolding pieceRows listRow partOf
+  judged-rows m end over at S = no-members
+  judged-rows m (more {a = s} f F) (taken {r = r} {rs = rs} {gs = gs} e i x K) at S =
+      let b : List ℕ = partOf buffer r in
+      let p : Piece = givenOf s b .piece in
+      let c : contentBytes p ≡ b = piece-content s b in
+      let ih = judged-rows m F K (at + length (pieceBytes p)) (others-stand T m p (piecesIn gs) at S) in
+      subst (λ (o : Option Member). SameMembers buffer m (r ∷ rs) (listRow o (at + length (frontBytes p)) (contentBytes p) (pieceRows T t (at + length (pieceBytes p)) (piecesIn gs))))
+      (sym (piece-member s b T t (f .0) (f .1)))
+      (same-member e (sym c ∙ sym (stands-there (contentBytes p) (content-stands T m p (piecesIn gs) at S))) (sym (part-length buffer r i) ∙ sym (ap length c)) ih)
+  judged-rows m (more f F) (missed d K) at S = judged-rows m F K at S
+
+pub judged-whole : {buffer : List ℕ} {ss : List Slot} {rs : List Row} {gs : List Given} → Judged buffer ss rs gs → skippedPieces (piecesIn gs) ≡ 0
+unfolding skippedPieces
+judged-whole over = refl
+judged-whole {buffer} (taken {s = s} {r = r} e i x K) = rw (piece-given s (partOf buffer r)) (omega (arith, judged-whole K))
+judged-whole (missed d K) = judged-whole K
+
+same-append : {m m′ : List ℕ} {a a′ b b′ : List Row} → SameMembers m m′ a a′ → SameMembers m m′ b b′ → SameMembers m m′ (a ++ b) (a′ ++ b′)
+same-append no-members B = B
+same-append (same-member e p l A) B = same-member e p l (same-append A B)
+
+-- ---- the slices of a chain
+
+-- slices under the rows of a chain, whose rows are the rows given
+pub record Carries (T buffer ts : List ℕ) (rs : List Row) (ss : List Slice) : Type 0 where
+  pub follow : Follow T ts ss
+  pub none-skipped : skippedIn ss ≡ 0
+  pub none-passed : passedIn ss ≡ 0
+  pub listed : (m : List ℕ) (g : Format) (s : Stand) (at : ℕ) → Stands m at (slicesBytes g s ss) → SameMembers buffer m rs (sliceRows T g s at ts ss)
+
+module _ (T buffer : List ℕ) (right : faults T ≡ fine) (short : length buffer ≤ limit) where
+  judged-owned : (t : ℕ) → Owner T t → {rs : List Row} {gs : List Given} → Judged buffer (slots T t) rs gs → Owned T t (piecesIn gs)
+  unfolding slots
+  judged-owned t O K = judged-level T t buffer short (Table.required T t) (rising (Table.optional T t)) 0 (owner-ordered T t right O .keys) (all-any (λ d. omega arith) _) (all-rising (optional-fit T t right O)) K
+
+  listed-owned : (m : List ℕ) (t : ℕ) → Owner T t → {rs : List Row} {gs : List Given} → Judged buffer (slots T t) rs gs
+      → (at : ℕ) → Stands m at (concat pieceBytes (piecesIn gs)) → SameMembers buffer m rs (pieceRows T t at (piecesIn gs))
+  listed-owned m t O K at S = judged-rows T t buffer m (all-with (λ s a b. (a, b)) (slots-fit T t right O) (slots-owner T t)) K at S
+
+  carries-more : (t : ℕ) (ts : List ℕ) → Owner T t → {rs rs′ : List Row} {gs : List Given} {ss : List Slice} → Judged buffer (slots T t) rs gs → Carries T buffer ts rs′ ss
+      → Carries T buffer (t ∷ ts) (rs ++ rs′) (known (nameOf T t) (piecesIn gs) ∷ ss)
+  unfolding skippedIn passedIn sliceRows dataBytes
+  carries-more t ts O {gs = gs} {ss = ss} K C = record {
+    follow = (refl, judged-owned t O K, C .follow);
+    none-skipped = omega (arith, judged-whole K, C .none-skipped);
+    none-passed = C .none-passed;
+    listed = λ m g s at S.
+        same-append (listed-owned m t O K (at + length (sliceFront g s (isLast ss) (known (nameOf T t) (piecesIn gs)))) (stands-first (concat pieceBytes (piecesIn gs)) _ (data-stand T m g s (known (nameOf T t) (piecesIn gs)) ss at S)))
+        (C .listed m g (later g) _ (slices-stand T m g s (known (nameOf T t) (piecesIn gs)) ss at S));
+  }
+
+  pub judged-slices : (ts : List ℕ) → All (Owner T) ts → Pairs Falls ts → {rs : List Row} {gs : List Given} → Judged buffer (planOf T ts) rs gs → Carries T buffer ts rs (slicesOf T gs ts)
+  unfolding planOf slicesOf skippedIn passedIn sliceRows
+  judged-slices [] L P over = record { follow = tt; none-skipped = refl; none-passed = refl; listed = λ m g s at S. no-members }
+  judged-slices (t ∷ ts) (more O L) (before p P) {rs} {gs} K =
+      let S = judged-split (slots T t) K in
+      let C = carries-more t ts O (S .first) (judged-slices ts L P (S .second)) in
+      let e : slicesOf T gs (t ∷ ts) ≡ known (nameOf T t) (piecesIn (S .gives)) ∷ slicesOf T (S .gives′) ts =
+      ap (λ (l : List Given). slicesOf T l (t ∷ ts)) (S .all-gives)
+      ∙ slices-own T p (judged-owner (λ (o : ℕ). o ≡ t) (slots-owner T t) (S .first)) (judged-owner (Falls t) (plan-owner T (Falls t) ts p) (S .second)) in
+      subst (λ (l : List Row). Carries T buffer (t ∷ ts) l (slicesOf T gs (t ∷ ts))) (sym (S .all-rows))
+      (subst (Carries T buffer (t ∷ ts) (S .rows ++ S .rows′)) (sym e) C)
+
+-- ---- a whole message
+
+-- pieces that conform and are complete, whose rows are the rows given
+pub record Gathers (T buffer : List ℕ) (top type : ℕ) (f : Format) (rs : List Row) (p : Pieces) : Type 0 where
+  pub conforms : Conform T top f p
+  pub complete : Complete p
+  pub of-type : firstKnown T top p ≡ type
+  pub listed : SameMembers buffer (encapsulate (encode f p)) rs (rows T top f p)
+
+module _ (T buffer : List ℕ) (right : faults T ≡ fine) (short : length buffer ≤ limit) (type : ℕ) (there : noTop T type ≡ false) (top : ℕ) (below : Below T top type)
+    {rs : List Row} {gs : List Given} (K : Judged buffer (plan T type) rs gs) where
+  abbrev Makes : Format → Pieces → Type 0
+  Makes f p = Gathers T buffer top type f rs p
+
+  list-top : kind T type ≡ 15 → type ≡ top
+  list-top k = go (descends-ok T top type below)
+    where
+      go : Line T top type → type ≡ top
+      go (here e) = e
+      go (above r e d) = absurd (true≢false (sym (base-record T right type r e) ∙ ap (λ (x : ℕ). isRecord x) k))
+
+  -- a parameter list is its own chain
+  list-chain : kind T type ≡ 15 → chain T type ≡ type ∷ []
+  unfolding base upward
+  list-chain k = chain-node T type ∙ ap (λ (b : ℕ). type ∷ upward (chain T) b) (ap (λ (x : ℕ). pick (isRecord x && leb (field T type 2) type) (field T type 2) 0) k)
+
+  list-makes : kind T type ≡ 15 → Makes sliced (list (piecesOf type gs))
+  unfolding plan planOf firstKnown rows encode optionalsSkipped slicesSkipped
+  list-makes k =
+      let O = top-owner T right type there in
+      let e : type ≡ top = list-top k in
+      let H : Judged buffer (slots T type) rs gs = subst (λ (ss : List Slot). Judged buffer ss rs gs) (ap (planOf T) (list-chain k) ∙ append-nil (slots T type)) K in
+      let own : piecesOf type gs ≡ piecesIn gs = owns-all (judged-owner (λ (o : ℕ). o ≡ type) (slots-owner T type) H) in
+      subst (λ (ps : List Piece). Makes sliced (list ps)) (sym own) (subst (λ (x : ℕ). Gathers T buffer x type sliced rs (list (piecesIn gs))) e (record {
+        conforms = (k, refl, judged-owned T buffer right short type O H);
+        complete = record { optionals = judged-whole H; slices = refl };
+        of-type = refl;
+        listed = listed-owned T buffer right short _ type O H 6 (stands-encapsulated _);
+      }))
+
+  -- the chain of a record
+  carries : Carries T buffer (chain T type) rs (slicesOf T gs (chain T type))
+  unfolding plan
+  carries = judged-slices T buffer right short (chain T type) (chain-owners T right type there) (chain-falls T right type there) K
+
+  record-slices : isRecord (kind T type) ≡ true → (f : Format) → Slices T top f (slicesOf T gs (chain T type)) × (firstIn T (slicesOf T gs (chain T type)) ≡ type)
+  unfolding slicesOf firstIn orZero
+  record-slices i f =
+      let e : chain T type ≡ type ∷ Write.above (chain T type) = chain-above T right type there in
+      let n : named T (nameOf T type) ≡ some type = named-at T right type (top-owner T right type there .below) i in
+      subst (λ (l : List ℕ). Slices T top f (slicesOf T gs l) × (firstIn T (slicesOf T gs l) ≡ type)) (sym e) (
+        record { row = type; known = n; descends = below; follow = subst (λ (l : List ℕ). Follow T (chain T type) (slicesOf T gs l)) e (carries .follow) },
+        ap orZero n,
+      )
+
+  class-makes : kind T type ≡ 14 → (f : Format) → Makes f (class (slicesOf T gs (chain T type)))
+  unfolding firstKnown rows encode optionalsSkipped slicesSkipped
+  class-makes k f =
+      let S = record-slices (ap (λ (x : ℕ). isRecord x) k) f in
+      record {
+        conforms = (chain-top T right type there top below .alike ∙ k, S .0);
+        complete = record { optionals = carries .none-skipped; slices = carries .none-passed };
+        of-type = S .1;
+        listed = subst (λ (t : ℕ). SameMembers buffer (encapsulate (encode f (class (slicesOf T gs (chain T type))))) rs (sliceRows T f first 7 (chain T t) (slicesOf T gs (chain T type)))) (sym (S .1))
+            (carries .listed _ f first 7 (stands-next (1 ∷ []) _ (stands-encapsulated _) 7 refl));
+      }
+
+  exception-makes : kind T type ≡ 13 → (f : Format) → Makes f (exception (slicesOf T gs (chain T type)))
+  unfolding firstKnown rows encode optionalsSkipped slicesSkipped
+  exception-makes k f =
+      let S = record-slices (ap (λ (x : ℕ). isRecord x) k) f in
+      record {
+        conforms = (chain-top T right type there top below .alike ∙ k, S .0);
+        complete = record { optionals = carries .none-skipped; slices = carries .none-passed };
+        of-type = S .1;
+        listed = subst (λ (t : ℕ). SameMembers buffer (encapsulate (encode f (exception (slicesOf T gs (chain T type))))) rs (sliceRows T f first 6 (chain T t) (slicesOf T gs (chain T type)))) (sym (S .1))
+            (carries .listed _ f first 6 (stands-encapsulated _));
+      }
+
+  pub gathers : (format : ℕ) → noFormat (kind T type) format ≡ false → Makes (formatOf format) (gathered T type gs) × (formatNumber (formatOf format) ≡ format)
+  unfolding gathered noFormat formatOf
+  gathers format h =
+      let s = either-false (ltb 1 format) (eqb format 0 && eqb (kind T type) 15) h in
+      let l = ltb-false 1 format (s .0) in
+      (go (eqb (kind T type) 15) refl (eqb (kind T type) 14) refl (eqb format 0) refl (s .1), number (eqb format 0) refl l)
+    where
+      go : (a : Bool) → eqb (kind T type) 15 ≡ a → (b : Bool) → eqb (kind T type) 14 ≡ b → (c : Bool) → eqb format 0 ≡ c → c && a ≡ false
+          → Makes (pick c compact sliced) (pick a (list (piecesOf type gs)) (pick b (class (slicesOf T gs (chain T type))) (exception (slicesOf T gs (chain T type)))))
+      go true e b f true g h = absurd (true≢false h)
+      go true e b f false g h = list-makes (eqb-true (kind T type) 15 e)
+      go false e true f c g h = class-makes (eqb-true (kind T type) 14 f) (pick c compact sliced)
+      go false e false f c g h =
+          let t = top-there T type there in
+          exception-makes (omega (arith, t .1, kind-known T right type (t .0), eqb-false (kind T type) 15 e, eqb-false (kind T type) 14 f)) (pick c compact sliced)
+
+      number : (c : Bool) → eqb format 0 ≡ c → format ≤ 1 → formatNumber (pick c compact sliced) ≡ format
+      number true e l = sym (eqb-true format 0 e)
+      number false e l = omega (arith, eqb-false format 0 e)
+
+pub read-back : ReadBack
+read-back T top type format count rs buffer room m yT yB h below =
+    let W = writing-ok T type format count rs buffer room h in
+    let C = W .composed in
+    let K = judged-ok buffer (rowList count rs) (plan T type) 0 (sym (judging-slots T (C .table) type (C .there) buffer (rowList count rs)) ∙ C .judged) in
+    let G = gathers T buffer (C .table) (C .short) type (C .there) top below K format (C .formed) in
+    let p : Pieces = gathered T type (C .given) in
+    let R = chain-top T (C .table) type (C .there) top below in
+    let there : noTop T top ≡ false = top-step T top (R .below) (omega (arith, R .alike, top-there T type (C .there) .1)) in
+    record {
+      read = readAs (formatOf format) p;
+      taken = length m;
+      accepted = rules-written T top m (formatOf format) p (record { table = C .table; top-there = there; short = W .short; conforms = G .0 .conforms; encoded = C .made });
+      of-type = G .0 .of-type;
+      in-format = G .1;
+      complete = G .0 .complete;
+      members = subst (λ (z : List ℕ). SameMembers buffer z (rowList count rs) (rows T top (formatOf format) p)) (sym (C .made)) (G .0 .listed);
+    }
