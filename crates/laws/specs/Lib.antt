@@ -23,3 +23,4 @@ pub mod PlanRules
 pub mod MessageWritten
 pub mod GatherLaws
 pub mod WriteBack
+pub mod WriteAgain

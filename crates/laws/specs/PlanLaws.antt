@@ -9,7 +9,7 @@
 use mathlib.Core.Path.{_≡_, refl, sym, ap, ap₂, _∙_, subst}
 use mathlib.Core.Bool.{Bool, true, false, _&&_, _||_}
 use mathlib.Core.Option.{Option, none, some}
-use mathlib.Core.List.{List, [], _∷_, _++_, map}
+use mathlib.Core.List.{List, [], _∷_, _++_, map, append-nil}
 use Prim.Native.Nat.{ℕ, suc, _+_, _≤_, _<_}
 use native.Mathlib.Omega.{arith}
 use lib.ListN.{length}
@@ -19,12 +19,12 @@ use Rattle.encoding.specs.Result.{pick}
 use Rattle.encoding.specs.ResultLaws.{some≢none, both-true, either-false}
 use Rattle.encoding.specs.Types.{formOf}
 use Rattle.encoding.specs.Value.{exact}
-use Rattle.encoding.specs.Table.{Member, required, optional, any}
+use Rattle.encoding.specs.Table.{Member, lookup, required, optional, any}
 use Rattle.encoding.specs.Optional
 use Rattle.encoding.specs.Message.{Row}
 use Rattle.encoding.specs.Write.{Slot, insert, rising, slot, slots, planOf, Out, out, stop, next, State, Reached, reachDue, optionalRow, orAbove, entered, reachMay, reach, anyOf, stillDue, Given, given, partOf, judge, prepend, judgeAll}
 use Rattle.laws.specs.Demands.{All, end, more}
-use Rattle.laws.specs.RowsExact.{all-append, all-map}
+use Rattle.laws.specs.RowsExact.{all-append, all-map, lookup-all}
 
 -- ---- every two of a list
 
@@ -148,6 +148,19 @@ module _ (m least : ℕ) where
   row-rising alone = refl
   row-rising (before {a} {l} d D) = row-insert a (all-rising d) ∙ ap (λ (o : Option Member). pick (test a) (some a) o) (row-rising D)
 
+-- the optional of a tag is found by its row
+row-found : (k least : ℕ) {ms : List Member} {d : Member} → Pairs RowsDiffer ms → lookup k ms ≡ some d → least ≤ k → optionalRow (d .row) least ms ≡ some d
+unfolding optionalRow lookup
+row-found k least alone h l = absurd (some≢none h refl)
+row-found k least {d = d} (before {a} {l} D P) h i = go (eqb k (a .key)) refl h (λ h. row-found k least P h i)
+  where
+    go : (q : Bool) → eqb k (a .key) ≡ q → pick q (some a) (lookup k l) ≡ some d → (lookup k l ≡ some d → optionalRow (d .row) least l ≡ some d)
+        → pick (eqb (d .row) (a .row) && leb least (a .key)) (some a) (optionalRow (d .row) least l) ≡ some d
+    go true e h ih =
+        let s : a ≡ d = cc in
+        rw (eq-eqb (d .row) (a .row) (ap (λ (x : Member). x .row) (sym s)), le-leb least (a .key) (omega (arith, eqb-true k (a .key) e))) (ap some s)
+    go false e h ih = rw (ne-eqb (d .row) (a .row) (λ q. lookup-all k D h (sym q))) (ih h)
+
 -- those whose tag is at least `least`
 unfoldable pub from : ℕ → List Member → List Member
 from least [] = []
@@ -218,6 +231,16 @@ optional-find o m least (d ∷ ds) rest (before r R) =
         → find m (map (slot o false) (pick a (d ∷ ds) (from least ds)) ++ rest) ≡ orRest o (d ∷ ds) rest (find m rest) (pick (eqb m (d .row) && a) (some d) (optionalRow m least ds))
     go true e ih = found e ih (eqb m (d .row))
     go false e ih = passed ih (eqb m (d .row))
+
+-- the slot of a known optional whose tag may come
+pub optional-spot : (o k least : ℕ) {ms : List Member} {d : Member} → Pairs RowsDiffer ms → Pairs KeysRise (rising ms) → lookup k ms ≡ some d → least ≤ k
+    → find (d .row) (map (slot o false) (from least (rising ms))) ≡ some (record { slot = slot o false d; rest = map (slot o false) (from (suc (d .key)) (rising ms)) })
+unfolding orRest
+optional-spot o k least {ms} {d} P R h l =
+    ap (find (d .row)) (sym (append-nil (map (slot o false) (from least (rising ms)))))
+    ∙ optional-find o (d .row) least (rising ms) [] R
+    ∙ ap (orRest o (rising ms) [] (find (d .row) [])) (row-rising (d .row) least P ∙ row-found k least P h l)
+    ∙ ap (λ (ss : List Slot). some (record { slot = slot o false d; rest = ss })) (append-nil (map (slot o false) (from (suc (d .key)) (rising ms))))
 
 -- ---- what is still to come
 
@@ -427,7 +450,7 @@ module _ (buffer : List ℕ) (i : ℕ) (r : Row) where
   judgeSlot-step f F = rw (F .found, le-leb (r .place + r .len) (length buffer) (F .inside), F .one)
 
 -- a slot that is found: those before it are not due
-find-judged : {buffer : List ℕ} {r : Row} {rs : List Row} {gs : List Given} (ss : List Slot) (z : Spot) → find (r .member) ss ≡ some z → Judged buffer (z .slot ∷ z .rest) (r ∷ rs) gs → Judged buffer ss (r ∷ rs) gs
+pub find-judged : {buffer : List ℕ} {r : Row} {rs : List Row} {gs : List Given} (ss : List Slot) (z : Spot) → find (r .member) ss ≡ some z → Judged buffer (z .slot ∷ z .rest) (r ∷ rs) gs → Judged buffer ss (r ∷ rs) gs
 unfolding find
 find-judged [] z e K = absurd (some≢none e refl)
 find-judged {buffer} {r} {rs} {gs} (s ∷ ss) z e K = go (eqb (r .member) (s .member .row)) (s .due) refl e (λ e. find-judged ss z e K)
@@ -475,7 +498,7 @@ judged-ok buffer (r ∷ rs) ss i {gs} h =
     (find-judged ss z (F .found) (taken (find-member (r .member) ss (F .found)) (F .inside) (F .one) (judged-ok buffer rs (z .rest) (suc i) (B .1))))
 
 -- the slot of the first row is among the slots
-first-among : {buffer : List ℕ} {P : Slot → Type 0} {ss : List Slot} {r : Row} {rs : List Row} {gs : List Given} → All P ss → Judged buffer ss (r ∷ rs) gs
+pub first-among : {buffer : List ℕ} {P : Slot → Type 0} {ss : List Slot} {r : Row} {rs : List Row} {gs : List Given} → All P ss → Judged buffer ss (r ∷ rs) gs
     → (s : Slot) × P s × (r .member ≡ s .member .row)
 first-among (more {a} p L) (taken e b x K) = (a, p, e)
 first-among (more p L) (missed d K) = first-among L K

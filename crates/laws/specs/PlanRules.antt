@@ -211,6 +211,11 @@ pub top-step : (T : List ℕ) (top : ℕ) → top < types T → 13 ≤ kind T to
 unfolding noTop
 top-step T top l k = rw (lt-leb (types T) top l, le-ltb (kind T top) 13 k)
 
+-- a parameter list is its own chain
+pub list-chain : (T : List ℕ) (t : ℕ) → kind T t ≡ 15 → chain T t ≡ t ∷ []
+unfolding base upward
+list-chain T t k = chain-node T t ∙ ap (λ (b : ℕ). t ∷ upward (chain T) b) (ap (λ (x : ℕ). pick (isRecord x && leb (field T t 2) t) (field T t 2) 0) k)
+
 -- ---- the slots of a chain
 
 abbrev pub Falls : ℕ → ℕ → Type 0

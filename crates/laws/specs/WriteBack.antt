@@ -12,11 +12,11 @@ use mathlib.Core.List.{List, [], _∷_, _++_, map, append-nil}
 use Prim.Native.Nat.{ℕ, suc, _+_, _≤_}
 use native.Mathlib.Omega.{arith}
 use lib.ListN.{length}
-use lib.Dec.{eqb, leb, ltb}
+use lib.Dec.{eqb, ltb}
 use borrow.Author.Tests.{eqb-true, eqb-false, ltb-false}
 use Rattle.encoding.specs.Result.{pick, concat}
-use Rattle.encoding.specs.Table.{kind, field, isRecord, fine, faults, nameOf, named, base, upward, chain, Member}
-use Rattle.encoding.specs.RuleLaws.{kind-known, chain-node, named-at}
+use Rattle.encoding.specs.Table.{kind, isRecord, fine, faults, nameOf, named, chain, Member}
+use Rattle.encoding.specs.RuleLaws.{kind-known, named-at}
 use Rattle.encoding.specs.MessageLaws.{top-there}
 use Rattle.encoding.specs.ResultLaws.{either-false}
 use Rattle.encoding.specs.Table
@@ -31,7 +31,7 @@ use Rattle.laws.specs.RowsExact.{Stands, stands-first, stands-next, stan
 use Rattle.laws.specs.RecordNewer.{Line, here, above, descends-ok}
 use Rattle.laws.specs.MessageExact.{rules-written}
 use Rattle.laws.specs.PlanLaws.{Pairs, before, KeysRise, all-rising, givenOf, Judged, over, taken, missed, judged-ok}
-use Rattle.laws.specs.PlanRules.{all-any, all-with, Owner, Fit, slots-owner, owner-ordered, optional-fit, slots-fit, Falls, plan-owner, chain-falls, chain-owners, chain-above, chain-top, top-step, top-owner, base-record, judging-slots}
+use Rattle.laws.specs.PlanRules.{all-any, all-with, Owner, Fit, slots-owner, owner-ordered, optional-fit, slots-fit, Falls, plan-owner, chain-falls, chain-owners, chain-above, chain-top, list-chain, top-step, top-owner, base-record, judging-slots}
 use Rattle.laws.specs.GatherLaws.{piecesIn, judged-split, judged-owner, slices-own, owns-all, part-length, piece-content, piece-given, piece-member}
 use Rattle.laws.specs.MessageWritten.{writing-ok}
 
@@ -145,17 +145,12 @@ module _ (T buffer : List ℕ) (right : faults T ≡ fine) (short : length buffe
       go (here e) = e
       go (above r e d) = absurd (true≢false (sym (base-record T right type r e) ∙ ap (λ (x : ℕ). isRecord x) k))
 
-  -- a parameter list is its own chain
-  list-chain : kind T type ≡ 15 → chain T type ≡ type ∷ []
-  unfolding base upward
-  list-chain k = chain-node T type ∙ ap (λ (b : ℕ). type ∷ upward (chain T) b) (ap (λ (x : ℕ). pick (isRecord x && leb (field T type 2) type) (field T type 2) 0) k)
-
   list-makes : kind T type ≡ 15 → Makes sliced (list (piecesOf type gs))
   unfolding plan planOf firstKnown rows encode optionalsSkipped slicesSkipped
   list-makes k =
       let O = top-owner T right type there in
       let e : type ≡ top = list-top k in
-      let H : Judged buffer (slots T type) rs gs = subst (λ (ss : List Slot). Judged buffer ss rs gs) (ap (planOf T) (list-chain k) ∙ append-nil (slots T type)) K in
+      let H : Judged buffer (slots T type) rs gs = subst (λ (ss : List Slot). Judged buffer ss rs gs) (ap (planOf T) (list-chain T type k) ∙ append-nil (slots T type)) K in
       let own : piecesOf type gs ≡ piecesIn gs = owns-all (judged-owner (λ (o : ℕ). o ≡ type) (slots-owner T type) H) in
       subst (λ (ps : List Piece). Makes sliced (list ps)) (sym own) (subst (λ (x : ℕ). Gathers T buffer x type sliced rs (list (piecesIn gs))) e (record {
         conforms = (k, refl, judged-owned T buffer right short type O H);
