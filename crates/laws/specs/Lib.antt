@@ -24,3 +24,4 @@ pub mod MessageWritten
 pub mod GatherLaws
 pub mod WriteBack
 pub mod WriteAgain
+pub mod RightLists

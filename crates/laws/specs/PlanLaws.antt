@@ -3,6 +3,7 @@
 --   Pairs R l            R holds of every two of a list, the earlier first
 --   from least l         of members by rising tag, those whose tag is at least `least`
 --   find m ss            the slot of member row m with no due slot before it, and the slots behind it
+--   find-left, find-down what holds of the slots from the one found on, and of all of them
 --   future T s           the slots that are still to come where the rows stand at s
 --   judgeSlots           the judgement of rows by the slots to come; judge-slots: it is the state's
 --   Judged               rows that are judged right, with what they give; judged-ok, judged-step: those that judgeSlots lets pass
@@ -22,7 +23,8 @@ use Rattle.encoding.specs.Value.{exact}
 use Rattle.encoding.specs.Table.{Member, lookup, required, optional, any}
 use Rattle.encoding.specs.Optional
 use Rattle.encoding.specs.Message.{Row}
-use Rattle.encoding.specs.Write.{Slot, insert, rising, slot, slots, planOf, Out, out, stop, next, State, Reached, reachDue, optionalRow, orAbove, entered, reachMay, reach, anyOf, stillDue, Given, given, partOf, judge, prepend, judgeAll}
+use Rattle.encoding.specs.Write
+use Rattle.encoding.specs.Write.{Slot, Chosen, chosen, left, insert, rising, slot, slots, planOf, Out, out, stop, next, State, Reached, reachDue, optionalRow, orAbove, entered, reachMay, reach, anyOf, stillDue, Given, given, partOf, judge, prepend, judgeAll}
 use Rattle.laws.specs.Demands.{All, end, more}
 use Rattle.laws.specs.RowsExact.{all-append, all-map, lookup-all}
 
@@ -426,16 +428,16 @@ module _ {A B : Type 0} (o : Out A) (f : A → Out B) where
       go (out a) e h = (a, e, h)
       go (stop n p) e h = absurd (out≢stop h refl)
 
-module _ (buffer : List ℕ) (i : ℕ) (r : Row) where
+module _ (buffer : List ℕ) (r : Row) where
   pub record Fitting (f : Option Spot) (z : Spot) : Type 0 where
     pub found : f ≡ some z
     pub inside : r .place + r .len ≤ length buffer
     pub one : exact (z .slot .member .ty) (partOf buffer r) ≡ true
 
-  pub judgeSlot-ok : (f : Option Spot) {z : Spot} → judgeSlot buffer i r f ≡ out z → Fitting f z
+  pub judgeSlot-ok : (i : ℕ) (f : Option Spot) {z : Spot} → judgeSlot buffer i r f ≡ out z → Fitting f z
   unfolding judgeSlot
-  judgeSlot-ok none h = absurd (out≢stop h refl)
-  judgeSlot-ok (some x) {z} h = go (leb (r .place + r .len) (length buffer)) refl (exact (x .slot .member .ty) (partOf buffer r)) refl h
+  judgeSlot-ok i none h = absurd (out≢stop h refl)
+  judgeSlot-ok i (some x) {z} h = go (leb (r .place + r .len) (length buffer)) refl (exact (x .slot .member .ty) (partOf buffer r)) refl h
     where
       go : (p : Bool) → leb (r .place + r .len) (length buffer) ≡ p → (q : Bool) → exact (x .slot .member .ty) (partOf buffer r) ≡ q
           → pick p (pick q (out x) (stop 21 i)) (stop 20 i) ≡ out z → Fitting (some x) z
@@ -445,30 +447,51 @@ module _ (buffer : List ℕ) (i : ℕ) (r : Row) where
       go true e false g h = absurd (out≢stop h refl)
       go false e q g h = absurd (out≢stop h refl)
 
-  pub judgeSlot-step : (f : Option Spot) {z : Spot} → Fitting f z → judgeSlot buffer i r f ≡ out z
+  pub judgeSlot-step : (i : ℕ) (f : Option Spot) {z : Spot} → Fitting f z → judgeSlot buffer i r f ≡ out z
   unfolding judgeSlot
-  judgeSlot-step f F = rw (F .found, le-leb (r .place + r .len) (length buffer) (F .inside), F .one)
+  judgeSlot-step i f F = rw (F .found, le-leb (r .place + r .len) (length buffer) (F .inside), F .one)
 
 -- a slot that is found: those before it are not due
-pub find-judged : {buffer : List ℕ} {r : Row} {rs : List Row} {gs : List Given} (ss : List Slot) (z : Spot) → find (r .member) ss ≡ some z → Judged buffer (z .slot ∷ z .rest) (r ∷ rs) gs → Judged buffer ss (r ∷ rs) gs
-unfolding find
-find-judged [] z e K = absurd (some≢none e refl)
-find-judged {buffer} {r} {rs} {gs} (s ∷ ss) z e K = go (eqb (r .member) (s .member .row)) (s .due) refl e (λ e. find-judged ss z e K)
-  where
-    go : (p q : Bool) → s .due ≡ q → pick p (some (record { slot = s; rest = ss })) (pick q none (find (r .member) ss)) ≡ some z
-        → (find (r .member) ss ≡ some z → Judged buffer ss (r ∷ rs) gs) → Judged buffer (s ∷ ss) (r ∷ rs) gs
-    go true q d e ih =
-        let x : record { slot = s; rest = ss } ≡ z = cc in
-        subst (λ (y : Spot). Judged buffer (y .slot ∷ y .rest) (r ∷ rs) gs) (sym x) K
-    go false true d e ih = absurd (some≢none e refl)
-    go false false d e ih = missed d (ih e)
+module _ (Q : List Slot → Type 0) (m : ℕ) where
+  pub find-left : ((s : Slot) (ss : List Slot) → s .due ≡ false → Q ss → Q (s ∷ ss)) → (ss : List Slot) (z : Spot) → find m ss ≡ some z → Q (z .slot ∷ z .rest) → Q ss
+  unfolding find
+  find-left f [] z e q = absurd (some≢none e refl)
+  find-left f (s ∷ ss) z e q = go (eqb m (s .member .row)) (s .due) refl e (λ e. find-left f ss z e q)
+    where
+      go : (p d : Bool) → s .due ≡ d → pick p (some (record { slot = s; rest = ss })) (pick d none (find m ss)) ≡ some z → (find m ss ≡ some z → Q ss) → Q (s ∷ ss)
+      go true d h e ih =
+          let x : record { slot = s; rest = ss } ≡ z = cc in
+          subst (λ (y : Spot). Q (y .slot ∷ y .rest)) (sym x) q
+      go false true h e ih = absurd (some≢none e refl)
+      go false false h e ih = f s ss h (ih e)
 
-missed-all : {buffer : List ℕ} (ss : List Slot) → anyDue ss ≡ false → Judged buffer ss [] []
+  pub find-down : ((s : Slot) (ss : List Slot) → Q (s ∷ ss) → Q ss) → (ss : List Slot) (z : Spot) → find m ss ≡ some z → Q ss → Q (z .slot ∷ z .rest)
+  unfolding find
+  find-down f [] z e q = absurd (some≢none e refl)
+  find-down f (s ∷ ss) z e q = go (eqb m (s .member .row)) (s .due) e (λ e. find-down f ss z e (f s ss q))
+    where
+      go : (p d : Bool) → pick p (some (record { slot = s; rest = ss })) (pick d none (find m ss)) ≡ some z → (find m ss ≡ some z → Q (z .slot ∷ z .rest)) → Q (z .slot ∷ z .rest)
+      go true d e ih =
+          let x : record { slot = s; rest = ss } ≡ z = cc in
+          subst (λ (y : Spot). Q (y .slot ∷ y .rest)) x q
+      go false true e ih = absurd (some≢none e refl)
+      go false false e ih = ih e
+
+pub find-judged : {buffer : List ℕ} {r : Row} {rs : List Row} {gs : List Given} (ss : List Slot) (z : Spot) → find (r .member) ss ≡ some z → Judged buffer (z .slot ∷ z .rest) (r ∷ rs) gs → Judged buffer ss (r ∷ rs) gs
+find-judged {buffer} {r} {rs} {gs} ss z e K = find-left (λ (ss : List Slot). Judged buffer ss (r ∷ rs) gs) (r .member) (λ s ss d K. missed d K) ss z e K
+
+-- rows that are judged right choose their slots
+pub judged-chosen : {buffer : List ℕ} {ss : List Slot} {rs : List Row} {gs : List Given} → Judged buffer ss rs gs → Chosen ss rs
+judged-chosen over = Write.end
+judged-chosen (taken e i x K) = chosen e (judged-chosen K)
+judged-chosen (missed d K) = left d (judged-chosen K)
+
+pub missed-all : {buffer : List ℕ} (ss : List Slot) → anyDue ss ≡ false → Judged buffer ss [] []
 unfolding anyDue
 missed-all [] e = over
 missed-all (s ∷ ss) e = let d = either-false (s .due) (anyDue ss) e in missed (d .0) (missed-all ss (d .1))
 
-find-member : (m : ℕ) (ss : List Slot) {z : Spot} → find m ss ≡ some z → m ≡ z .slot .member .row
+pub find-member : (m : ℕ) (ss : List Slot) {z : Spot} → find m ss ≡ some z → m ≡ z .slot .member .row
 unfolding find
 find-member m [] e = absurd (some≢none e refl)
 find-member m (s ∷ ss) {z} e = go (eqb m (s .member .row)) refl (s .due) e (λ e. find-member m ss e)
@@ -491,24 +514,23 @@ judged-ok buffer [] ss i {gs} h = go (anyDue ss) refl h
 judged-ok buffer (r ∷ rs) ss i {gs} h =
     let A = next-ok (judgeSlot buffer i r (find (r .member) ss)) _ h in
     let z : Spot = A .0 in
-    let F = judgeSlot-ok buffer i r (find (r .member) ss) (A .1) in
+    let F = judgeSlot-ok buffer r i (find (r .member) ss) (A .1) in
     let B = next-ok (judgeSlots buffer (z .rest) (suc i) rs) _ (A .2) in
     let x : givenOf (z .slot) (partOf buffer r) ∷ B .0 ≡ gs = cc in
     subst (Judged buffer ss (r ∷ rs)) x
     (find-judged ss z (F .found) (taken (find-member (r .member) ss (F .found)) (F .inside) (F .one) (judged-ok buffer rs (z .rest) (suc i) (B .1))))
 
 -- the slot of the first row is among the slots
-pub first-among : {buffer : List ℕ} {P : Slot → Type 0} {ss : List Slot} {r : Row} {rs : List Row} {gs : List Given} → All P ss → Judged buffer ss (r ∷ rs) gs
-    → (s : Slot) × P s × (r .member ≡ s .member .row)
-first-among (more {a} p L) (taken e b x K) = (a, p, e)
-first-among (more p L) (missed d K) = first-among L K
+pub first-among : {P : Slot → Type 0} {ss : List Slot} {r : Row} {rs : List Row} → All P ss → Chosen ss (r ∷ rs) → (s : Slot) × P s × (r .member ≡ s .member .row)
+first-among (more {a} p L) (chosen e C) = (a, p, e)
+first-among (more p L) (left d C) = first-among L C
 
 pub judged-step : {buffer : List ℕ} {ss : List Slot} {rs : List Row} {gs : List Given} (i : ℕ) → Pairs SlotsDiffer ss → Judged buffer ss rs gs → judgeSlots buffer ss i rs ≡ out gs
 unfolding judgeSlots anyDue find next prepend
 judged-step i alone over = refl
 judged-step {buffer} i (before D P) (taken {s} {ss} {r} e b x K) =
-    rw (eq-eqb (r .member) (s .member .row) e, judgeSlot-step buffer i r _ {z = record { slot = s; rest = ss }} (record { found = refl; inside = b; one = x })) (rw (judged-step (suc i) P K))
+    rw (eq-eqb (r .member) (s .member .row) e, judgeSlot-step buffer r i _ {z = record { slot = s; rest = ss }} (record { found = refl; inside = b; one = x })) (rw (judged-step (suc i) P K))
 judged-step i (before D P) (missed {s} {ss} {rs = []} d K) = ap (λ (q : Bool). pick (q || anyDue ss) (stop 20 i) (out [])) d ∙ judged-step i P K
 judged-step i (before D P) (missed {s} {ss} {rs = r ∷ rs} d K) =
-    let F = first-among D K in
+    let F = first-among D (judged-chosen K) in
     rw (ne-eqb (r .member) (s .member .row) (λ e. F .1 (sym e ∙ F .2)), d) (judged-step i P K)

@@ -32,7 +32,7 @@ use Rattle.laws.specs.Demands.{Follows, All, end, more, SameMembers, sam
 use Rattle.laws.specs.OptionalNewer.{lookup-key}
 use Rattle.laws.specs.RowsExact.{Stands, stands-first, stands-next, stands-inside, stands-there, stands-encapsulated, content-stands, others-stand, data-stand, slices-stand, Found, required-found}
 use Rattle.laws.specs.MessageExact.{exact-message}
-use Rattle.laws.specs.PlanLaws.{Pairs, alone, before, Ordered, from, from-zero, optional-spot, givenOf, Judged, over, taken, missed, SlotsDiffer, find-judged, first-among, judged-step}
+use Rattle.laws.specs.PlanLaws.{Pairs, alone, before, Ordered, from, from-zero, optional-spot, givenOf, Judged, over, taken, missed, SlotsDiffer, find-judged, judged-chosen, first-among, judged-step}
 use Rattle.laws.specs.PlanRules.{Owner, owner-ordered, Fit, slots-owner, Falls, plan-owner, chain-falls, chain-owners, chain-top, plan-fit, plan-differ, list-chain, top-owner, top-step, judging-slots}
 use Rattle.laws.specs.GatherLaws.{piecesIn, judged-append, judged-owner, slices-own, owns-all}
 use Rattle.laws.specs.MessageWritten.{writing-step}
@@ -330,8 +330,8 @@ given-same : {m m′ : List ℕ} {ss : List Slot} {rs rs′ : List Row} {gs gs�
 given-same alone over over M = refl
 given-same (before D P) (taken {s = s} e i x K) (taken e′ i′ x′ K′) (same-member q b l M) =
     ap₂ (λ (g : Given) (gs : List Given). g ∷ gs) (ap (givenOf s) b) (given-same P K K′ M)
-given-same (before D P) (taken e i x K) (missed d K′) (same-member q b l M) = let F = first-among D K′ in absurd (F .1 (sym e ∙ q ∙ F .2))
-given-same (before D P) (missed d K) (taken e i x K′) (same-member q b l M) = let F = first-among D K in absurd (F .1 (sym e ∙ sym q ∙ F .2))
+given-same (before D P) (taken e i x K) (missed d K′) (same-member q b l M) = let F = first-among D (judged-chosen K′) in absurd (F .1 (sym e ∙ q ∙ F .2))
+given-same (before D P) (missed d K) (taken e i x K′) (same-member q b l M) = let F = first-among D (judged-chosen K) in absurd (F .1 (sym e ∙ sym q ∙ F .2))
 given-same (before D P) (missed d K) (missed d′ K′) M = given-same P K K′ M
 
 pub one-message : OneMessage
