@@ -10,7 +10,7 @@
 --   named-short                    a record's name is at most 255 bytes long
 --   names-differ                   records of one name are one
 --   climb-enough, chain-node       a chain is the row, then the chain of its base
---   Own, required-own, optional-own  where a member stands among the rows of its owner
+--   Own, own-later, required-own, optional-own  where a member stands among the rows of its owner
 --   taken-rises, taken-next        the member rows that the rows before one take
 --   taken-at, taken-whole          an owner's member rows begin where those of the rows before it end; all are taken
 --   rows-apart                     a member row has one owner
@@ -182,7 +182,7 @@ pub record Own (T : List ℕ) (a b : ℕ) (required : Bool) (m : Member) : Type 
   pub marked : eqb (mark T (m .row)) 0 ≡ required
   pub tagged : required ≡ false → m .key ≡ tag T (m .row)
 
-own-later : {T : List ℕ} {a b : ℕ} {q : Bool} {m : Member} → Own T (suc a) b q m → Own T a (suc b) q m
+pub own-later : {T : List ℕ} {a b : ℕ} {q : Bool} {m : Member} → Own T (suc a) b q m → Own T a (suc b) q m
 own-later O = record { from = omega (arith, O .from); to = omega (arith, O .to); marked = O .marked; tagged = O .tagged }
 
 own-here : (T : List ℕ) (a b : ℕ) (q : Bool) (this m : Member) → this ≡ m → this .row ≡ a → eqb (mark T a) 0 ≡ q → (q ≡ false → this .key ≡ tag T a) → Own T a (suc b) q m

@@ -3,7 +3,8 @@
 --   piecesIn                        the pieces given, one after another
 --   judged-append, judged-split     slots one after another
 --   judged-owner                    what is given has the owner of its slot
---   pieces-own, slices-own          an owner's rows before those of smaller owners make its pieces and the first slice
+--   owns-all                        rows of one owner make its pieces
+--   slices-own                      an owner's rows before those of smaller owners make the first slice
 --   part-length, piece-content, piece-given, piece-member   of the row that chooses a slot, and of its piece
 use mathlib.Core.Path.{_≡_, refl, sym, ap, ap₂, _∙_}
 use mathlib.Core.Bool.{Bool, true, false}
@@ -84,7 +85,7 @@ none-owned end = refl
 none-owned {t} (more {a} {l} e L) = rw (ne-eqb t (a .owner) (λ q. omega arith), none-owned L)
 
 module _ {t : ℕ} where
-  pub pieces-own : {gs hs : List Given} → All (λ (g : Given). g .owner ≡ t) gs → All (λ (g : Given). g .owner < t) hs → piecesOf t (gs ++ hs) ≡ piecesIn gs
+  pieces-own : {gs hs : List Given} → All (λ (g : Given). g .owner ≡ t) gs → All (λ (g : Given). g .owner < t) hs → piecesOf t (gs ++ hs) ≡ piecesIn gs
   unfolding piecesOf
   pieces-own end H = none-owned H
   pieces-own (more {a} {l} e L) H = rw (eq-eqb t (a .owner) (sym e), pieces-own L H)

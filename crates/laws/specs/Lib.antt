@@ -17,7 +17,6 @@ pub mod SliceNewer
 pub mod LoseLaws
 pub mod RowsNewer
 pub mod MessageNewer
-pub mod Promises
 pub mod PlanLaws
 pub mod PlanRules
 pub mod MessageWritten
@@ -25,3 +24,4 @@ pub mod GatherLaws
 pub mod WriteBack
 pub mod WriteAgain
 pub mod RightLists
+pub mod Promises

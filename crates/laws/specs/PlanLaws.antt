@@ -1,12 +1,21 @@
 -- The plan of a type, and rows that choose from it: judging rows is a walk over the slots that are still to come.
 --
---   Pairs R l            R holds of every two of a list, the earlier first
---   from least l         of members by rising tag, those whose tag is at least `least`
---   find m ss            the slot of member row m with no due slot before it, and the slots behind it
---   find-left, find-down what holds of the slots from the one found on, and of all of them
---   future T s           the slots that are still to come where the rows stand at s
---   judgeSlots           the judgement of rows by the slots to come; judge-slots: it is the state's
---   Judged               rows that are judged right, with what they give; judged-ok, judged-step: those that judgeSlots lets pass
+--   Pairs R l                      R holds of every two of a list, the earlier first; all-mapped, pairs-mapped, -append, -with
+--   RowsDiffer, KeysDiffer, KeysRise   of two members; all-rising, rises-rising, differ-rising: of members by rising tag
+--   from least l                   of members by rising tag, those whose tag is at least `least`; from-zero: all of them
+--   Spot, find m ss                the slot of member row m with no due slot before it, and the slots behind it
+--   find-left, find-down           what holds of the slots from the one found on, and of all of them
+--   find-member, optional-spot     the slot found is the row's; the slot of a known optional whose tag may come
+--   Ordered T t                    the optionals of an owner differ in row and in tag
+--   future T s                     the slots that are still to come where the rows stand at s
+--   anyDue, givenOf                a slot is due; what a row that chooses a slot gives
+--   judgeSlot, judgeSlots          the judgement of rows by the slots to come; judge-slots: it is the one by states
+--   out≢stop, next-ok              what lets pass does not stop; one judgement after another lets pass
+--   Fitting, judgeSlot-step        a row that chooses a slot, lies in the buffer and has its type's bytes
+--   Judged                         rows that are judged right, with what they give; judged-ok, judged-step: those that judgeSlots lets pass
+--   SlotsDiffer                    no two slots have one member row
+--   find-judged, missed-all        rows from the slot found on; no row, where none is due
+--   judged-chosen, first-among     rows that are judged right choose their slots; the first row's slot is one of them
 use mathlib.Core.Path.{_≡_, refl, sym, ap, ap₂, _∙_, subst}
 use mathlib.Core.Bool.{Bool, true, false, _&&_, _||_}
 use mathlib.Core.Option.{Option, none, some}
@@ -113,7 +122,7 @@ differ-rising (before {a} d D) = differ-insert a (all-rising d) (differ-rising D
 
 -- ---- an optional by its row
 
-pub optionalRow-all : {P : Member → Type 0} (m least : ℕ) {ms : List Member} {d : Member} → All P ms → optionalRow m least ms ≡ some d → P d
+optionalRow-all : {P : Member → Type 0} (m least : ℕ) {ms : List Member} {d : Member} → All P ms → optionalRow m least ms ≡ some d → P d
 unfolding optionalRow
 optionalRow-all m least end h = absurd (some≢none h refl)
 optionalRow-all {P} m least {d = d} (more {a} {l} p L) h = go (eqb m (a .row) && leb least (a .key)) h (λ h. optionalRow-all m least L h)
@@ -145,7 +154,7 @@ module _ (m least : ℕ) where
       go true ih = refl
       go false ih = ap (λ (o : Option Member). pick (test b) (some b) o) ih ∙ row-swap a b (optionalRow m least l) d
 
-  pub row-rising : {ms : List Member} → Pairs RowsDiffer ms → optionalRow m least (rising ms) ≡ optionalRow m least ms
+  row-rising : {ms : List Member} → Pairs RowsDiffer ms → optionalRow m least (rising ms) ≡ optionalRow m least ms
   unfolding optionalRow rising
   row-rising alone = refl
   row-rising (before {a} {l} d D) = row-insert a (all-rising d) ∙ ap (λ (o : Option Member). pick (test a) (some a) o) (row-rising D)
@@ -168,7 +177,7 @@ unfoldable pub from : ℕ → List Member → List Member
 from least [] = []
 from least (d ∷ ds) = pick (leb least (d .key)) (d ∷ ds) (from least ds)
 
-pub from-all : {least : ℕ} {ds : List Member} → All (λ (e : Member). least ≤ e .key) ds → from least ds ≡ ds
+from-all : {least : ℕ} {ds : List Member} → All (λ (e : Member). least ≤ e .key) ds → from least ds ≡ ds
 unfolding from
 from-all end = refl
 from-all {least} (more {a} p L) = rw (le-leb least (a .key) p)
@@ -434,7 +443,7 @@ module _ (buffer : List ℕ) (r : Row) where
     pub inside : r .place + r .len ≤ length buffer
     pub one : exact (z .slot .member .ty) (partOf buffer r) ≡ true
 
-  pub judgeSlot-ok : (i : ℕ) (f : Option Spot) {z : Spot} → judgeSlot buffer i r f ≡ out z → Fitting f z
+  judgeSlot-ok : (i : ℕ) (f : Option Spot) {z : Spot} → judgeSlot buffer i r f ≡ out z → Fitting f z
   unfolding judgeSlot
   judgeSlot-ok i none h = absurd (out≢stop h refl)
   judgeSlot-ok i (some x) {z} h = go (leb (r .place + r .len) (length buffer)) refl (exact (x .slot .member .ty) (partOf buffer r)) refl h

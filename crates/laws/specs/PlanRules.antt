@@ -1,9 +1,15 @@
 -- The plan of a type under a table that breaks no rule: each slot finds its member, no two slots have one member row.
 --
+--   all-any, all-with         what holds of all of a list
 --   Owner T t                 row t is there and takes member rows
 --   Fit T s                   a slot's member stands under its owner and is found there by its key
 --   slots-owner, plan-owner   the owners of slots
---   Falls, chain-right        a chain: rows of one kind, each smaller than the one before
+--   owner-ordered             the optionals of an owner differ in row and tag
+--   optional-fit, slots-fit   the slots of an owner
+--   top-step                  a row of a kind from 13 on is a top; top-owner: it takes member rows
+--   base-record, list-chain   only a record has a base; a parameter list is its own chain
+--   Rung, Falls               a chain has rows of one kind, each smaller than the one before: chain-falls, chain-owners, chain-above
+--   chain-top                 a top from which a type descends is a row of the type's chain
 --   plan-fit, plan-differ     the slots of a plan
 --   judging-slots             judging rows for a type is the walk over the slots of its plan
 use mathlib.Core.Path.{_≡_, refl, sym, ap, _∙_, subst}
@@ -18,7 +24,7 @@ use Rattle.encoding.specs.Result.{pick}
 use Rattle.encoding.specs.Number.{negative}
 use Rattle.encoding.specs.Types.{Ty}
 use Rattle.encoding.specs.Table.{types, kind, field, mark, tag, isRecord, owns, range, fine, faults, great, memberRules, Member, memberTy, trees, ownRows, requiredOf, optionalOf, required, optional, lookup, base, upward, chain, any}
-use Rattle.encoding.specs.RuleLaws.{member-test, kind-known, base-right, chain-node, Own, rows-apart, rows-there, mark-known, tags-differ}
+use Rattle.encoding.specs.RuleLaws.{member-test, kind-known, base-right, chain-node, Own, own-later, rows-apart, rows-there, mark-known, tags-differ}
 use Rattle.encoding.specs.Message.{Row, noTop}
 use Rattle.encoding.specs.MessageLaws.{top-there}
 use Rattle.encoding.specs.Write.{Slot, rising, slot, slots, planOf, plan, above, begin}
@@ -49,14 +55,11 @@ any-among {P} r (more {a} {l} p L) h = go (eqb a r) refl h (λ h. any-among r L 
 abbrev RowsRise : Member → Member → Type 0
 RowsRise a b = a .row < b .row
 
-own-later : {T : List ℕ} {a b : ℕ} {q : Bool} (m : Member) → Own T (suc a) b q m → Own T a (suc b) q m
-own-later m O = record { from = omega (arith, O .from); to = omega (arith, O .to); marked = O .marked; tagged = O .tagged }
-
 module _ (T : List ℕ) (l : List Ty) where
   required-placed : (i a b : ℕ) → All (Own T a b true) (requiredOf T l i (range a b))
   unfolding requiredOf range
   required-placed i a zero = end
-  required-placed i a (suc b) = go (eqb (mark T a) 0) refl (all-map own-later (required-placed (suc i) (suc a) b)) (all-map own-later (required-placed i (suc a) b))
+  required-placed i a (suc b) = go (eqb (mark T a) 0) refl (all-map (λ m O. own-later O) (required-placed (suc i) (suc a) b)) (all-map (λ m O. own-later O) (required-placed i (suc a) b))
     where
       this : Member
       this = record { row = a; key = i; ty = memberTy T l a }
@@ -69,7 +72,7 @@ module _ (T : List ℕ) (l : List Ty) where
   optional-placed : (a b : ℕ) → All (Own T a b false) (optionalOf T l (range a b))
   unfolding optionalOf range
   optional-placed a zero = end
-  optional-placed a (suc b) = go (eqb (mark T a) 0) refl (all-map own-later (optional-placed (suc a) b))
+  optional-placed a (suc b) = go (eqb (mark T a) 0) refl (all-map (λ m O. own-later O) (optional-placed (suc a) b))
     where
       this : Member
       this = record { row = a; key = tag T a; ty = memberTy T l a }
@@ -168,7 +171,7 @@ module _ (T : List ℕ) (t : ℕ) where
     pub owner-ordered : Ordered T t
     owner-ordered = record { rows = pairs-with (λ a b A B r. rise-differ a b r) optional-mine rows-optional; keys = rises-rising keys-optional }
 
-    pub optional-found : All (Found (optional T t)) (optional T t)
+    optional-found : All (Found (optional T t)) (optional T t)
     optional-found = found-keys keys-optional
 
     mine-short : (m : Member) → Mine false m → Short (m .key)
@@ -196,7 +199,7 @@ module _ (T : List ℕ) (t : ℕ) where
     unfolding slots
     slots-fit = all-append (all-mapped (slot t true) required-fit) (all-mapped (slot t false) (all-rising optional-fit))
 
-    pub slots-differ : Pairs SlotsDiffer (slots T t)
+    slots-differ : Pairs SlotsDiffer (slots T t)
     unfolding slots slot
     slots-differ =
         pairs-append (pairs-mapped (slot t true) (pairs-with (λ a b A B r. rise-differ a b r) required-mine rows-required))
@@ -228,7 +231,7 @@ module _ (T : List ℕ) where
   plan-owner P (t ∷ ts) (more p L) = all-append (all-map (λ (s : Slot) (e : s .owner ≡ t). subst P (sym e) p) (slots-owner T t)) (plan-owner P ts L)
 
   module _ (right : faults T ≡ fine) where
-    pub planOf-fit : (ts : List ℕ) → All (Owner T) ts → All (Fit T) (planOf T ts)
+    planOf-fit : (ts : List ℕ) → All (Owner T) ts → All (Fit T) (planOf T ts)
     unfolding planOf
     planOf-fit [] end = end
     planOf-fit (t ∷ ts) (more O L) = all-append (slots-fit T t right O) (planOf-fit ts L)
@@ -238,7 +241,7 @@ module _ (T : List ℕ) where
         d (rows-apart T right (a .owner) (b .owner) (a .member .row) (A .owner-right .below) (B .owner-right .below) (A .owner-right .own) (B .owner-right .own)
         (A .place .from) (A .place .to) (omega (arith, B .place .from)) (omega (arith, B .place .to)))
 
-    pub planOf-differ : (ts : List ℕ) → All (Owner T) ts → Pairs Falls ts → Pairs SlotsDiffer (planOf T ts)
+    planOf-differ : (ts : List ℕ) → All (Owner T) ts → Pairs Falls ts → Pairs SlotsDiffer (planOf T ts)
     unfolding planOf
     planOf-differ [] end alone = alone
     planOf-differ (t ∷ ts) (more O L) (before f F) =
@@ -299,7 +302,7 @@ module _ (T : List ℕ) where
           let t = top-there T type there in
           record { below = t .0; own = top-owns (kind T type) (t .1) (kind-known T right type (t .0)) }
 
-      pub chain-rungs : All (Rung type) (chain T type)
+      chain-rungs : All (Rung type) (chain T type)
       chain-rungs = line (suc type) type (omega arith) (top-owner .below) .0
 
       pub chain-falls : Pairs Falls (chain T type)

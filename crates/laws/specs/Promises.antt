@@ -1,8 +1,12 @@
 -- Every promise of `Demands`, with its proof.
-use Rattle.laws.specs.Demands.{Exact, ExactRows, ExactCounts, ExactValues, NewerRead, NewerRefused, NewerReading}
+use Rattle.laws.specs.Demands.{Exact, ExactRows, ExactCounts, ExactValues, ReadBack, WriteAgain, OneMessage, RightLists, WrongBytes, TooLong, NewerRead, NewerRefused, NewerReading}
 use Rattle.laws.specs.MessageExact.{exact-message, exact-rows}
 use Rattle.laws.specs.CountsExact.{exact-counts-from}
 use Rattle.laws.specs.ValueExact.{exact-values}
+use Rattle.laws.specs.MessageWritten.{too-long}
+use Rattle.laws.specs.WriteBack.{read-back}
+use Rattle.laws.specs.WriteAgain.{write-again, one-message}
+use Rattle.laws.specs.RightLists.{right-lists, wrong-bytes}
 use Rattle.laws.specs.MessageNewer.{newer-read, newer-refused, newer-reading}
 
 pub record Promises : Type 0 where
@@ -10,6 +14,12 @@ pub record Promises : Type 0 where
   pub rows : ExactRows
   pub counts : ExactCounts
   pub values : ExactValues
+  pub reads-back : ReadBack
+  pub writes-again : WriteAgain
+  pub one : OneMessage
+  pub right : RightLists
+  pub wrong : WrongBytes
+  pub long : TooLong
   pub newer : NewerRead
   pub newer-exception : NewerRefused
   pub newer-answer : NewerReading
@@ -20,6 +30,12 @@ promises = record {
   rows = exact-rows;
   counts = exact-counts-from exact-message;
   values = exact-values;
+  reads-back = read-back;
+  writes-again = write-again;
+  one = one-message;
+  right = right-lists;
+  wrong = wrong-bytes;
+  long = too-long;
   newer = newer-read;
   newer-exception = newer-refused;
   newer-answer = newer-reading;

@@ -3,7 +3,8 @@
 --   Rightly ss rs            rows choose from slots and lie in the buffer
 --   Passes ss qs ss′         rows that pass one after another, and the slots to come behind them
 --   passes-right, -rest      a list is right behind them exactly if it is right with them
---   Stops, stopped, stops    what stops at once; judging stops where rows that pass end at such
+--   Stops                    what stops at once, with 20 or 21
+--   stopped, stops-at        judging stops exactly where rows that pass end at such
 --   right-lists              20 stands at the first row with which no right list begins
 --   wrong-bytes              21 stands at the first row whose bytes aren't exactly its type's
 use mathlib.Core.Path.{_≡_, refl, sym, ap, _∙_, subst, subst₂}

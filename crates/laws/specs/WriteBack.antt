@@ -1,9 +1,8 @@
 -- What the writer makes is read as the members given: the pieces that the rows make conform, and their rows are the rows given.
 --
---   judged-level, judged-rows    the pieces of one owner
+--   judged-level, judged-rows    the pieces of one owner conform, and their rows are the rows given
 --   Carries, judged-slices       the slices of a chain
---   below-kind                   a top and a type that descends from it are of one kind
---   gathered-conform, -rows      the pieces of a whole message
+--   Gathers, gathers             the pieces of a whole message
 --   read-back                    demand 2: what is written is read back
 use mathlib.Core.Path.{_≡_, refl, sym, ap, _∙_, subst}
 use mathlib.Core.Bool.{Bool, true, false, _&&_, true≢false}
@@ -38,7 +37,7 @@ use Rattle.laws.specs.MessageWritten.{writing-ok}
 -- ---- the pieces of one owner
 
 module _ (T : List ℕ) (t : ℕ) (buffer : List ℕ) where
-  pub judged-level : length buffer ≤ limit → (ms os : List Member) (least : ℕ) → Pairs KeysRise os → All (λ (d : Member). least ≤ d .key) os → All (λ (d : Member). Fit T (slot t false d)) os
+  judged-level : length buffer ≤ limit → (ms os : List Member) (least : ℕ) → Pairs KeysRise os → All (λ (d : Member). least ≤ d .key) os → All (λ (d : Member). Fit T (slot t false d)) os
       → {rs : List Row} {gs : List Given} → Judged buffer (map (slot t true) ms ++ map (slot t false) os) rs gs → Level ms (Table.optional T t) least (piecesIn gs)
   unfolding slot givenOf
   judged-level h [] [] least P L F over = tt
@@ -58,7 +57,7 @@ module _ (T : List ℕ) (t : ℕ) (buffer : List ℕ) where
   judged-level h (m ∷ ms) os least P L F (taken e i x K) = (refl, x, judged-level h ms os least P L F K)
   judged-level h (m ∷ ms) os least P L F (missed q K) = absurd (true≢false q)
 
-  pub judged-rows : (m : List ℕ) {ss : List Slot} {rs : List Row} {gs : List Given} → All (λ (s : Slot). Fit T s × (s .owner ≡ t)) ss → Judged buffer ss rs gs
+  judged-rows : (m : List ℕ) {ss : List Slot} {rs : List Row} {gs : List Given} → All (λ (s : Slot). Fit T s × (s .owner ≡ t)) ss → Judged buffer ss rs gs
       → (at : ℕ) → Stands m at (concat pieceBytes (piecesIn gs)) → SameMembers buffer m rs (pieceRows T t at (piecesIn gs))
   unfolding pieceRows listRow partOf
   judged-rows m end over at S = no-members
@@ -72,7 +71,7 @@ module _ (T : List ℕ) (t : ℕ) (buffer : List ℕ) where
       (same-member e (sym c ∙ sym (stands-there (contentBytes p) (content-stands T m p (piecesIn gs) at S))) (sym (part-length buffer r i) ∙ sym (ap length c)) ih)
   judged-rows m (more f F) (missed d K) at S = judged-rows m F K at S
 
-pub judged-whole : {buffer : List ℕ} {ss : List Slot} {rs : List Row} {gs : List Given} → Judged buffer ss rs gs → skippedPieces (piecesIn gs) ≡ 0
+judged-whole : {buffer : List ℕ} {ss : List Slot} {rs : List Row} {gs : List Given} → Judged buffer ss rs gs → skippedPieces (piecesIn gs) ≡ 0
 unfolding skippedPieces
 judged-whole over = refl
 judged-whole {buffer} (taken {s = s} {r = r} e i x K) = rw (piece-given s (partOf buffer r)) (omega (arith, judged-whole K))
@@ -112,7 +111,7 @@ module _ (T buffer : List ℕ) (right : faults T ≡ fine) (short : length buffe
         (C .listed m g (later g) _ (slices-stand T m g s (known (nameOf T t) (piecesIn gs)) ss at S));
   }
 
-  pub judged-slices : (ts : List ℕ) → All (Owner T) ts → Pairs Falls ts → {rs : List Row} {gs : List Given} → Judged buffer (planOf T ts) rs gs → Carries T buffer ts rs (slicesOf T gs ts)
+  judged-slices : (ts : List ℕ) → All (Owner T) ts → Pairs Falls ts → {rs : List Row} {gs : List Given} → Judged buffer (planOf T ts) rs gs → Carries T buffer ts rs (slicesOf T gs ts)
   unfolding planOf slicesOf skippedIn passedIn sliceRows
   judged-slices [] L P over = record { follow = tt; none-skipped = refl; none-passed = refl; listed = λ m g s at S. no-members }
   judged-slices (t ∷ ts) (more O L) (before p P) {rs} {gs} K =
@@ -198,7 +197,7 @@ module _ (T buffer : List ℕ) (right : faults T ≡ fine) (short : length buffe
             (carries .listed _ f first 6 (stands-encapsulated _));
       }
 
-  pub gathers : (format : ℕ) → noFormat (kind T type) format ≡ false → Makes (formatOf format) (gathered T type gs) × (formatNumber (formatOf format) ≡ format)
+  gathers : (format : ℕ) → noFormat (kind T type) format ≡ false → Makes (formatOf format) (gathered T type gs) × (formatNumber (formatOf format) ≡ format)
   unfolding gathered noFormat formatOf
   gathers format h =
       let s = either-false (ltb 1 format) (eqb format 0 && eqb (kind T type) 15) h in
