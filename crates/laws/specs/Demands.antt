@@ -10,7 +10,7 @@
 --   ReadBack       demand 2: what the writer makes is read as the members given
 --   WriteAgain     demand 2: an accepted message with nothing skipped, written again in its own format, is the same message
 --   OneMessage     demand 2: the members and their bytes, type and format fix the message
---   RightLists, WrongBytes, TooLong   where 20, 21 and 22 stand
+--   RightLists, WrongBytes, TooLong   where 20, 21 and 22 stand; RightWritten: no other refusal meets a right list
 --   NewerRead      demand 3: an old table accepts what a new one that extends it accepts, and lists the rows of the members that it knows
 --   NewerRefused   the one exception of demand 3
 --   NewerReading   demand 3 of the reader's answer, given room
@@ -136,7 +136,7 @@ pub record ReadBackAs (T : List ℕ) (top type format : ℕ) (rs : List Row) (bu
 -- Rules out a writer that touches nothing.
 abbrev pub ReadBack : Type 0
 ReadBack =
-    (T : List ℕ) (top type format count : ℕ) (rs buffer : List ℕ) (room : ℕ) (m : List ℕ) → Bytes T → Bytes buffer
+    (T : List ℕ) (top type format count : ℕ) (rs buffer : List ℕ) (room : ℕ) (m : List ℕ)
     → writing T type format count rs buffer room ≡ out m → Below T top type → ReadBackAs T top type format (rowList count rs) buffer m
 
 -- an accepted message with nothing skipped, written again in its own format with its own rows from itself, is the same message
@@ -149,7 +149,7 @@ WriteAgain =
 -- two accepted messages of one first known type and one format, nothing skipped, with the same members and the same bytes, are equal
 abbrev pub OneMessage : Type 0
 OneMessage =
-    (T : List ℕ) (top top′ : ℕ) (m m′ : List ℕ) (f : Format) (p p′ : Pieces) (n n′ : ℕ) → Bytes T → Bytes m → Bytes m′
+    (T : List ℕ) (top top′ : ℕ) (m m′ : List ℕ) (f : Format) (p p′ : Pieces) (n n′ : ℕ) → Bytes m → Bytes m′
     → rules T top m ≡ ok (readAs f p) n → rules T top′ m′ ≡ ok (readAs f p′) n′ → firstKnown T top p ≡ firstKnown T top′ p′
     → Complete p → Complete p′ → SameMembers m m′ (rows T top f p) (rows T top′ f p′) → m ≡ m′
 
@@ -180,13 +180,19 @@ judging T type buffer rs = judgeAll T buffer (begin T type (above (chain T type)
 
 abbrev pub RightLists : Type 0
 RightLists =
-    (T : List ℕ) (type : ℕ) (buffer : List ℕ) (rs : List Row) (i : ℕ) → Bytes T → faults T ≡ fine → noTop T type ≡ false
+    (T : List ℕ) (type : ℕ) (buffer : List ℕ) (rs : List Row) (i : ℕ) → faults T ≡ fine → noTop T type ≡ false
     → (judging T type buffer rs ≡ stop 20 i → Twenty T type buffer rs i) × (Twenty T type buffer rs i → judging T type buffer rs ≡ stop 20 i)
 
 abbrev pub WrongBytes : Type 0
 WrongBytes =
-    (T : List ℕ) (type : ℕ) (buffer : List ℕ) (rs : List Row) (i : ℕ) → Bytes T → faults T ≡ fine → noTop T type ≡ false
+    (T : List ℕ) (type : ℕ) (buffer : List ℕ) (rs : List Row) (i : ℕ) → faults T ≡ fine → noTop T type ≡ false
     → (judging T type buffer rs ≡ stop 21 i → TwentyOne T type buffer rs i) × (TwentyOne T type buffer rs i → judging T type buffer rs ≡ stop 21 i)
+
+-- a right list whose rows have their types' bytes is judged right, so the writer refuses it by 22 alone
+abbrev pub RightWritten : Type 0
+RightWritten =
+    (T : List ℕ) (type : ℕ) (buffer : List ℕ) (rs : List Row) → faults T ≡ fine → noTop T type ≡ false → Right T type buffer rs → All (RowFits T buffer) rs
+    → (gs : List Given) × (judging T type buffer rs ≡ out gs)
 
 -- 22 stands exactly where the message is over 65,536 bytes or its room, and its place is the message's length
 pub record TwentyTwo (T : List ℕ) (type format count : ℕ) (rs buffer : List ℕ) (room i : ℕ) : Type 0 where

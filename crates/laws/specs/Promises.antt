@@ -1,12 +1,12 @@
 -- Every promise of `Demands`, with its proof.
-use Rattle.laws.specs.Demands.{Exact, ExactRows, ExactCounts, ExactValues, ReadBack, WriteAgain, OneMessage, RightLists, WrongBytes, TooLong, NewerRead, NewerRefused, NewerReading}
+use Rattle.laws.specs.Demands.{Exact, ExactRows, ExactCounts, ExactValues, ReadBack, WriteAgain, OneMessage, RightLists, WrongBytes, RightWritten, TooLong, NewerRead, NewerRefused, NewerReading}
 use Rattle.laws.specs.MessageExact.{exact-message, exact-rows}
 use Rattle.laws.specs.CountsExact.{exact-counts-from}
 use Rattle.laws.specs.ValueExact.{exact-values}
 use Rattle.laws.specs.MessageWritten.{too-long}
 use Rattle.laws.specs.WriteBack.{read-back}
 use Rattle.laws.specs.WriteAgain.{write-again, one-message}
-use Rattle.laws.specs.RightLists.{right-lists, wrong-bytes}
+use Rattle.laws.specs.RightLists.{right-lists, wrong-bytes, right-written}
 use Rattle.laws.specs.MessageNewer.{newer-read, newer-refused, newer-reading}
 
 pub record Promises : Type 0 where
@@ -19,6 +19,7 @@ pub record Promises : Type 0 where
   pub one : OneMessage
   pub right : RightLists
   pub wrong : WrongBytes
+  pub written : RightWritten
   pub long : TooLong
   pub newer : NewerRead
   pub newer-exception : NewerRefused
@@ -35,6 +36,7 @@ promises = record {
   one = one-message;
   right = right-lists;
   wrong = wrong-bytes;
+  written = right-written;
   long = too-long;
   newer = newer-read;
   newer-exception = newer-refused;

@@ -11,7 +11,7 @@ use mathlib.Core.Path.{_≡_, refl, sym, ap, _∙_, subst, subst₂}
 use mathlib.Core.Bool.{Bool, true, false, true≢false}
 use mathlib.Core.Option.{Option, none, some}
 use mathlib.Core.List.{List, [], _∷_, _++_, append-nil, append-assoc}
-use Prim.Native.Nat.{ℕ, suc, _+_, _≤_, _<_}
+use Prim.Native.Nat.{ℕ, zero, suc, _+_, _≤_, _<_}
 use native.Mathlib.Nat.{add-zero}
 use native.Mathlib.Omega.{arith}
 use lib.ListN.{length, take, drop, getD, length-append, take-append-drop}
@@ -24,9 +24,9 @@ use Rattle.encoding.specs.Types.{Ty}
 use Rattle.encoding.specs.Value.{exact}
 use Rattle.encoding.specs.Table.{fine, faults, memberTy, trees}
 use Rattle.encoding.specs.Message.{Row, noTop}
-use Rattle.encoding.specs.Write.{Slot, plan, Chosen, chosen, left, Within, Out, out, stop, next, Given, partOf, prepend}
+use Rattle.encoding.specs.Write.{Right, Slot, plan, Chosen, chosen, left, Within, Out, out, stop, next, Given, partOf, prepend}
 use Rattle.encoding.specs.Write
-use Rattle.laws.specs.Demands.{All, end, more, Begins, RowFits, Twenty, at-row, at-count, TwentyOne, RightLists, WrongBytes, judging}
+use Rattle.laws.specs.Demands.{All, end, more, Begins, RowFits, Twenty, at-row, at-count, TwentyOne, RightLists, WrongBytes, judging, RightWritten}
 use Rattle.laws.specs.PlanLaws.{Pairs, before, Spot, find, find-left, find-down, find-member, anyDue, givenOf, judgeSlot, judgeSlots, SlotsDiffer, out≢stop, Fitting, judgeSlot-step, missed-all, judged-chosen, first-among}
 use Rattle.laws.specs.PlanRules.{Fit, plan-fit, plan-differ, judging-slots}
 
@@ -325,13 +325,43 @@ module _ (T : List ℕ) (type : ℕ) (buffer : List ℕ) (rs : List Row) (i : �
           subst₂ Q (sym (S .split)) place (f (S .passed) (S .behind) (S .slots) (S .passes) (subst (λ (c : Bool). Stops T buffer c (S .slots) (S .behind)) (same b (S .which) (S .is-number)) (S .stops)))
 
 pub right-lists : RightLists
-right-lists T type buffer rs i yT right there = (
+right-lists T type buffer rs i right there = (
   stopped-as T type buffer rs i right there true (Twenty T type buffer) (twenty-at T buffer type (tidy-plan T type buffer rs i right there)),
   λ W. judging-slots T right type there buffer rs ∙ twenty-stops T buffer type (tidy-plan T type buffer rs i right there) rs i W,
 )
 
 pub wrong-bytes : WrongBytes
-wrong-bytes T type buffer rs i yT right there = (
+wrong-bytes T type buffer rs i right there = (
   stopped-as T type buffer rs i right there false (TwentyOne T type buffer) (twentyOne-at T buffer type (tidy-plan T type buffer rs i right there)),
   λ W. judging-slots T right type there buffer rs ∙ twentyOne-stops T buffer type (tidy-plan T type buffer rs i right there) rs i W,
 )
+
+-- ---- a right list is judged right
+
+-- the row at a place of a list has what all have
+all-at : {P : Row → Type 0} {rs : List Row} (d : Row) → All P rs → (i : ℕ) → i < length rs → P (getD rs i d)
+all-at d end i l = absurd (omega arith)
+all-at d (more p A) zero l = p
+all-at d (more p A) (suc i) l = all-at d A i (omega arith)
+
+module _ (T : List ℕ) (type : ℕ) (buffer : List ℕ) (rs : List Row) (R : Right T type buffer rs) (A : All (RowFits T buffer) rs) where
+  no-twenty : (i : ℕ) → Twenty T type buffer rs i → ⊥
+  no-twenty i (at-row l B never F) =
+      never (record { others = drop (suc i) rs; right = subst (Right T type buffer) (sym (take-append-drop (suc i) rs)) R })
+  no-twenty i (at-count e B never F) = never R
+
+  no-twentyOne : (i : ℕ) → TwentyOne T type buffer rs i → ⊥
+  no-twentyOne i W = true≢false (sym (all-at (record { member = 0; place = 0; len = 0 }) A i (W .inside)) ∙ W .misfit)
+
+pub right-written : RightWritten
+right-written T type buffer rs right there R A = go (judging T type buffer rs) refl
+  where
+    never : (n i : ℕ) (b : Bool) → n ≡ number T buffer b → judging T type buffer rs ≡ stop n i → ⊥
+    never n i true q e = no-twenty T type buffer rs R A i (right-lists T type buffer rs i right there .0 (e ∙ ap (λ (k : ℕ). stop k i) q))
+    never n i false q e = no-twentyOne T type buffer rs R A i (wrong-bytes T type buffer rs i right there .0 (e ∙ ap (λ (k : ℕ). stop k i) q))
+
+    go : (o : Out (List Given)) → judging T type buffer rs ≡ o → (gs : List Given) × (judging T type buffer rs ≡ out gs)
+    go (out gs) e = (gs, e)
+    go (stop n i) e =
+        let S = stopped T buffer rs (plan T type) 0 (tidy-plan T type buffer rs 0 right there) (sym (judging-slots T right type there buffer rs) ∙ e) in
+        absurd (never n i (S .which) (S .is-number) e)

@@ -335,7 +335,7 @@ given-same (before D P) (missed d K) (taken e i x K′) (same-member q b l M) = 
 given-same (before D P) (missed d K) (missed d′ K′) M = given-same P K K′ M
 
 pub one-message : OneMessage
-one-message T top top′ m m′ f p p′ n n′ y yM yM′ h h′ t Z Z′ M =
+one-message T top top′ m m′ f p p′ n n′ yM yM′ h h′ t Z Z′ M =
     let F = exact-message T top m f p n yM .0 h .0 in
     let F′ = exact-message T top′ m′ f p′ n′ yM′ .0 h′ .0 in
     let A = follows-again T top m f p F Z in

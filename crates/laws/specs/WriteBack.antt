@@ -218,7 +218,7 @@ module _ (T buffer : List ℕ) (right : faults T ≡ fine) (short : length buffe
       number false e l = omega (arith, eqb-false format 0 e)
 
 pub read-back : ReadBack
-read-back T top type format count rs buffer room m yT yB h below =
+read-back T top type format count rs buffer room m h below =
     let W = writing-ok T type format count rs buffer room h in
     let C = W .composed in
     let K = judged-ok buffer (rowList count rs) (plan T type) 0 (sym (judging-slots T (C .table) type (C .there) buffer (rowList count rs)) ∙ C .judged) in
