@@ -1,0 +1,189 @@
+//! Times the proved library and this implementation on the same inputs, in one run: nanoseconds a call, each the least
+//! of several rounds, the rounds of the two in turn.
+
+use independent::spec::Spec;
+use independent::{ffi, read, write};
+use std::hint::black_box;
+use std::time::{Duration, Instant};
+
+/// A round is short, so that some of many are left alone by whatever else runs; rounds go on for a while.
+const ROUND: Duration = Duration::from_micros(50);
+const WHILE: Duration = Duration::from_millis(500);
+const LEAST_ROUNDS: usize = 20;
+
+/// A table and a message under it, with the rows that the reader gives.
+struct Case {
+    name: &'static str,
+    table: Vec<u8>,
+    top: u32,
+    format: u32,
+    message: Vec<u8>,
+    rows: Vec<u8>,
+}
+
+impl Case {
+    /// The case whose members, in message order, have these bytes.
+    fn new(name: &'static str, spec: &Spec, top: u16, values: &[(usize, Vec<u8>)]) -> Case {
+        let (mut rows, mut buffer) = (vec![], vec![]);
+        for (member, value) in values {
+            for number in [*member, buffer.len(), value.len()] {
+                rows.extend((number as u32).to_le_bytes());
+            }
+            buffer.extend(value);
+        }
+        let (table, top, format) = (spec.bytes(), top.into(), 1);
+        let mut message = vec![0; 65_536];
+        let count = values.len() as u32;
+        let length = write(&table, top, format, count, &rows, &buffer, &mut message).expect(name);
+        message.truncate(length as usize);
+        read(&table, top, &message, &mut rows).expect(name);
+        Case { name, table, top, format, message, rows }
+    }
+
+    fn run(&self) {
+        let Case { name, table, top, format, message, rows } = self;
+        let mut lent = vec![0; rows.len()];
+        let mut other = lent.clone();
+        report(
+            &format!("{name}: read, {} bytes", message.len()),
+            || ffi::read(black_box(table), *top, black_box(message), &mut lent),
+            || number(read(black_box(table), *top, black_box(message), &mut other)),
+            0,
+        );
+        let count = (rows.len() / 12) as u32;
+        let mut out = vec![0; message.len()];
+        let mut other = out.clone();
+        report(
+            &format!("{name}: write, {count} rows"),
+            || ffi::write(black_box(table), *top, *format, count, black_box(rows), black_box(message), &mut out),
+            || number(write(black_box(table), *top, *format, count, black_box(rows), black_box(message), &mut other)),
+            0,
+        );
+        // The empty input is refused by 4 right behind the rules of the table.
+        report(
+            &format!("{name}: table check, {} bytes", table.len()),
+            || ffi::read(black_box(table), *top, &[], &mut []),
+            || number(read(black_box(table), *top, &[], &mut [])),
+            4,
+        );
+    }
+}
+
+fn number<T>(result: Result<T, (u32, u32)>) -> u32 {
+    result.err().map_or(0, |(number, _)| number)
+}
+
+/// One line: both must give `answer`.
+fn report(name: &str, mut library: impl FnMut() -> u32, mut independent: impl FnMut() -> u32, answer: u32) {
+    assert_eq!((library(), independent()), (answer, answer), "{name}");
+    let (calls, other_calls) = (calls_a_round(&mut library), calls_a_round(&mut independent));
+    let (mut least, mut other_least) = (f64::MAX, f64::MAX);
+    let (start, mut rounds) = (Instant::now(), 0);
+    while rounds < LEAST_ROUNDS || start.elapsed() < WHILE {
+        least = least.min(round(&mut library, calls));
+        other_least = other_least.min(round(&mut independent, other_calls));
+        rounds += 1;
+    }
+    println!("{name:<46} {least:>12.1} {other_least:>12.1} {:>8.2}", least / other_least);
+}
+
+/// How many calls a round takes.
+fn calls_a_round(call: &mut impl FnMut() -> u32) -> u32 {
+    let mut calls = 1;
+    loop {
+        let time = round(call, calls) * f64::from(calls);
+        if time >= ROUND.as_nanos() as f64 {
+            return calls;
+        }
+        calls *= 2;
+    }
+}
+
+/// Nanoseconds a call.
+fn round(call: &mut impl FnMut() -> u32, calls: u32) -> f64 {
+    let start = Instant::now();
+    for _ in 0..calls {
+        black_box(call());
+    }
+    start.elapsed().as_nanos() as f64 / f64::from(calls)
+}
+
+fn string(length: usize) -> Vec<u8> {
+    [&[length as u8][..], &vec![b'a'; length]].concat()
+}
+
+/// A long size.
+fn size(size: u32) -> Vec<u8> {
+    [&[255][..], &size.to_le_bytes()].concat()
+}
+
+fn main() {
+    println!("{:<46} {:>12} {:>12} {:>8}", "ns a call", "library", "independent", "ratio");
+
+    let mut spec = Spec::default();
+    let (short, int, long) = (spec.basic(2), spec.basic(3), spec.basic(4));
+    let top = spec.owner(15, &[(short, None), (long, Some(7)), (int, Some(8))]);
+    let p2 = [(0, vec![0x0C, 0xFE]), (1, vec![0, 0, 0, 0, 1, 0, 0, 0]), (2, vec![8, 7, 0, 0])];
+    Case::new("P2", &spec, top, &p2).run();
+
+    // 1 KB in four slices, each with required members and optionals.
+    let mut spec = Spec::default();
+    let (bool, int, double, string_row) = (spec.basic(0), spec.basic(3), spec.basic(6), spec.basic(7));
+    let state = spec.enumeration(300);
+    let point = spec.owner(9, &[(double, None), (double, None), (int, None)]);
+    let points = spec.row(10, [point, 0, 0, 0, 0]);
+    let lookup = spec.row(11, [string_row, int, 0, 0, 0]);
+    let members = [
+        (int, None),
+        (bool, None),
+        (string_row, None),
+        (state, None),
+        (points, Some(1)),
+        (lookup, Some(2)),
+        (string_row, Some(30)),
+        (double, Some(31)),
+    ];
+    let mut chain = vec![];
+    for name in [&b"::Cabin"[..], b"::Heated::Cabin", b"::Guarded::Cabin", b"::Frost::Guarded::Cabin"] {
+        chain.push(spec.record(14, chain.last().copied(), name, &members));
+    }
+    let mut values = vec![];
+    for &record in chain.iter().rev() {
+        let first = spec.rows[record as usize].1[0] as usize;
+        let pairs = [&[3][..], &string(5), &[1; 4], &string(9), &[2; 4], &string(7), &[3; 4]].concat();
+        let data = [
+            vec![7; 4],
+            vec![1],
+            string(63),
+            vec![255, 44, 1, 0, 0],
+            [&[4][..], &[9; 80]].concat(),
+            pairs,
+            string(20),
+            vec![6; 8],
+        ];
+        values.extend(data.into_iter().enumerate().map(|(i, value)| (first + i, value)));
+    }
+    Case::new("record of 4 slices", &spec, chain[3], &values).run();
+
+    let mut spec = Spec::default();
+    let short = spec.basic(2);
+    let log = spec.row(10, [short, 0, 0, 0, 0]);
+    let top = spec.owner(15, &[(log, None)]);
+    Case::new("20,000 shorts", &spec, top, &[(0, [size(20_000), vec![5; 40_000]].concat())]).run();
+    Case::new("20 shorts", &spec, top, &[(0, [vec![20], vec![5; 40]].concat())]).run();
+
+    let mut spec = Spec::default();
+    let text = spec.basic(7);
+    let names = spec.row(10, [text, 0, 0, 0, 0]);
+    let top = spec.owner(15, &[(names, None)]);
+    let strings = (0..20_000).flat_map(|i| string(1 + i % 3)).collect::<Vec<_>>();
+    Case::new("20,000 short strings", &spec, top, &[(0, [size(20_000), strings].concat())]).run();
+
+    let mut spec = Spec::default();
+    let kinds: Vec<u16> = (0..8).map(|kind| spec.basic(kind)).collect();
+    let members: Vec<_> = (0..1_024).map(|i| (kinds[i % 8], if i < 512 { None } else { Some(i as u32) })).collect();
+    let top = spec.owner(15, &members);
+    let value = |i: usize| vec![1; [1, 1, 2, 4, 8, 4, 8, 2][i % 8]];
+    let values: Vec<_> = (0..1_024).map(|i| (i, value(i))).collect();
+    Case::new("1,024 members", &spec, top, &values).run();
+}

@@ -1,0 +1,44 @@
+//! fuzz [CALLS [SEED]]: makes calls (1,000,000 unless told) of the reader and the writer and compares the proved
+//! library with this implementation in every number and every lent byte. A difference is printed as a line like those
+//! of the recorded calls, the library's answer behind it as `got`; with any, the exit status is 1.
+
+use independent::ffi;
+use independent::gen::Calls;
+use std::time::{Instant, SystemTime, UNIX_EPOCH};
+use std::{env, process};
+
+/// More differences than these are counted only.
+const SHOWN: usize = 1_000;
+
+fn main() {
+    let mut numbers = env::args().skip(1).map(|argument| {
+        argument.parse::<u64>().unwrap_or_else(|_| {
+            eprintln!("fuzz [CALLS [SEED]]");
+            process::exit(2)
+        })
+    });
+    let calls = numbers.next().unwrap_or(1_000_000);
+    let now = || SystemTime::now().duration_since(UNIX_EPOCH).map_or(0, |now| now.as_nanos() as u64);
+    let seed = numbers.next().unwrap_or_else(now);
+    println!("{calls} calls from seed {seed}");
+
+    let start = Instant::now();
+    let mut differences = 0;
+    let mut refusals = [0; 24];
+    for call in Calls::new(seed).take(calls as usize) {
+        let expected = call.answer();
+        refusals[expected.refusal() as usize] += 1;
+        let Some(got) = ffi::answer(&call) else { continue };
+        if got != expected {
+            differences += 1;
+            if differences <= SHOWN {
+                let line = call.json(&expected);
+                println!("{},\"got\":{}}}", &line[..line.len() - 1], got.json());
+            }
+        }
+    }
+    let reached: Vec<_> = refusals.iter().enumerate().map(|(number, calls)| format!("{number}: {calls}")).collect();
+    println!("answers by refusal number: {}", reached.join(", "));
+    println!("{differences} differences in {calls} calls from seed {seed}, {:.1} s", start.elapsed().as_secs_f64());
+    process::exit(i32::from(differences != 0));
+}

@@ -1,0 +1,29 @@
+//! Document 01 in plain Rust, written from the document alone.
+//!
+//! - [`check`], [`class`]: the rules of a type table.
+//! - [`read`]: the rows of a message, [`member`]: the bytes of one member.
+//! - [`write`]: a message from rows and the buffer they point into.
+//!
+//! A refusal is its number and its place. No call panics on any input, and on a refusal every lent byte stays.
+
+pub mod calls;
+#[cfg(feature = "library")]
+pub mod ffi;
+pub mod gen;
+pub mod json;
+pub mod spec;
+
+mod read;
+mod table;
+mod value;
+mod write;
+
+pub use read::{member, read, Reading};
+pub use table::{check, class};
+pub use write::write;
+
+/// A refusal: its number and its place.
+pub type Refusal = (u32, u32);
+
+/// The most bytes of a message and of the writer's buffer.
+const MOST: usize = 65_536;

@@ -1,0 +1,69 @@
+//! A type table by its parts, and its bytes.
+
+/// A member: its type row, and its tag if it is optional.
+pub type Member = (u16, Option<u32>);
+
+#[derive(Clone, Debug, Default)]
+pub struct Spec {
+    /// Kind, then a, b, c, d, e.
+    pub rows: Vec<(u8, [u16; 5])>,
+    pub members: Vec<Member>,
+    pub names: Vec<u8>,
+}
+
+impl Spec {
+    /// One more row; its number.
+    pub fn row(&mut self, kind: u8, fields: [u16; 5]) -> u16 {
+        self.rows.push((kind, fields));
+        self.rows.len() as u16 - 1
+    }
+
+    /// A row of a kind with no fields.
+    pub fn basic(&mut self, kind: u8) -> u16 {
+        self.row(kind, [0; 5])
+    }
+
+    pub fn enumeration(&mut self, greatest: u32) -> u16 {
+        self.row(8, [greatest as u16, (greatest >> 16) as u16, 0, 0, 0])
+    }
+
+    /// A struct (9) or a parameter list (15), which takes the next member rows.
+    pub fn owner(&mut self, kind: u8, members: &[Member]) -> u16 {
+        let first = self.members.len() as u16;
+        self.members.extend(members);
+        self.row(kind, [first, members.len() as u16, 0, 0, 0])
+    }
+
+    /// An exception (13) or a class (14) of this name.
+    pub fn record(&mut self, kind: u8, base: Option<u16>, name: &[u8], members: &[Member]) -> u16 {
+        let at = self.names.len() as u16;
+        self.names.extend(name);
+        self.record_named(kind, base, (at, name.len() as u16), members)
+    }
+
+    /// The same, with its name at a place of the name bytes.
+    pub fn record_named(&mut self, kind: u8, base: Option<u16>, name: (u16, u16), members: &[Member]) -> u16 {
+        let first = self.members.len() as u16;
+        self.members.extend(members);
+        self.row(kind, [first, members.len() as u16, base.map_or(0, |base| base + 1), name.0, name.1])
+    }
+
+    pub fn bytes(&self) -> Vec<u8> {
+        let mut bytes = b"FGT\x01\x00".to_vec();
+        for count in [self.rows.len(), self.members.len(), self.names.len()] {
+            bytes.extend((count as u16).to_le_bytes());
+        }
+        bytes.push(0);
+        for (kind, fields) in &self.rows {
+            bytes.extend([*kind, 0]);
+            bytes.extend(fields.iter().flat_map(|field| field.to_le_bytes()));
+        }
+        for (of, tag) in &self.members {
+            bytes.extend(of.to_le_bytes());
+            bytes.extend([tag.is_some() as u8, 0]);
+            bytes.extend(tag.unwrap_or(0).to_le_bytes());
+        }
+        bytes.extend(&self.names);
+        bytes
+    }
+}
