@@ -1,0 +1,107 @@
+-- The member that a look-up found: its row, its type and its form. Assumes nothing.
+--
+--   form-here, form-past    the number of a row's form, in the array and past its end
+--   row-form                the form of a row's type, by its number in the array
+--   optional-of             an optional's type is that of its row
+--   Met, met         what the code's look-up of a tag tells: the member, of that row and its type
+--   unmet            no member has the tag
+--   met-form         the member's form, as the array of forms has it
+use mathlib.Core.Path.{_≡_, refl, sym, ap, _∙_}
+use mathlib.Core.Bool.{Bool, true, false}
+use mathlib.Core.Option.{Option, none, some}
+use mathlib.Core.List.{List, [], _∷_, map}
+use Prim.Native.Nat.{ℕ, zero, suc, _+_, _≤_, _<_}
+use native.Mathlib.Omega.{arith}
+use lib.ListN.{getD}
+use lib.Dec.{eqb, ltb}
+use borrow.Author.Tests.{ltb-true, ltb-false, lt-ltb, le-ltb}
+use Rattle.encoding.specs.Result.{pick}
+use Rattle.encoding.specs.Types.{Ty, formOf}
+use Rattle.encoding.specs.TableLaws.{ty-past}
+use Rattle.encoding.specs.Table.{range, mark, tag, memberTy, trees, tyOf, Member, optionalOf, ownRows, optional, lookup}
+use Rattle.table.specs.declared.Found.the-variants.{At, Nothing}
+use Rattle.table.specs.Found.{rowFound}
+use Rattle.table.specs.Forms.{formNumber, formAt, formsOf}
+use Rattle.table.proofs.Places.{rows-below}
+use Rattle.level.specs.Forms.{formNamed, formIn}
+use Rattle.level.specs.FormsLaws.{named-number}
+
+-- ---- forms
+
+module _ (forms : List ℕ) (t : ℕ) where
+  pub form-here : (r : ℕ) → t < 256 → r ≡ getD forms t 0 → r ≡ formIn forms t
+  unfolding formIn
+  form-here r h e = rw (lt-ltb t 256 h) e
+
+  pub form-past : 256 ≤ t → 10 ≡ formIn forms t
+  unfolding formIn
+  form-past h = rw (le-ltb t 256 h)
+
+range-at : (f : ℕ → ℕ) (n j i : ℕ) → i < n → getD (map f (range j n)) i 0 ≡ f (j + i)
+unfolding range
+range-at f zero j i h = absurd (omega arith)
+range-at f (suc n) j zero h = ap f (omega arith)
+range-at f (suc n) j (suc i) h = range-at f n (suc j) i (omega arith) ∙ ap f (omega arith)
+
+form-row : (T : List ℕ) (t : ℕ) → formIn (formsOf T) t ≡ formNumber (formOf (tyOf T t))
+unfolding formIn formsOf formAt formOf formNumber
+form-row T t = go (ltb t 256) refl
+  where
+    go : (b : Bool) → ltb t 256 ≡ b → pick b (getD (map (formAt T) (range 0 256)) t 0) 10 ≡ formNumber (formOf (tyOf T t))
+    go true e = range-at (formAt T) 256 0 t (ltb-true t 256 e) ∙ ap (formAt T) (omega arith)
+    go false e = rw (ty-past T t (omega (arith, rows-below T, ltb-false t 256 e)))
+
+-- ---- members
+
+optional-type : (T : List ℕ) (l : List Ty) (rs : List ℕ) (k : ℕ) (m : Member) → lookup k (optionalOf T l rs) ≡ some m → m .ty ≡ memberTy T l (m .row)
+unfolding optionalOf lookup
+optional-type T l [] k m h = let z : _≡_ {A = ℕ} 0 1 = cc in absurd (omega arith)
+optional-type T l (r ∷ rs) k m h = go (eqb (mark T r) 0) (eqb k (tag T r)) refl h (optional-type T l rs k m)
+  where
+    here : (b : Bool) → pick b (some (record { row = r; key = tag T r; ty = memberTy T l r })) (lookup k (optionalOf T l rs)) ≡ some m
+        → (lookup k (optionalOf T l rs) ≡ some m → m .ty ≡ memberTy T l (m .row)) → m .ty ≡ memberTy T l (m .row)
+    here true h again =
+        let e : record { row = r; key = tag T r; ty = memberTy T l r } ≡ m = cc in
+        sym (ap (λ (x : Member). x .ty) e) ∙ ap (λ (x : Member). memberTy T l (x .row)) e
+    here false h again = again h
+
+    go : (a b : Bool) → eqb k (tag T r) ≡ b
+        → lookup k (pick a (optionalOf T l rs) (record { row = r; key = tag T r; ty = memberTy T l r } ∷ optionalOf T l rs)) ≡ some m
+        → (lookup k (optionalOf T l rs) ≡ some m → m .ty ≡ memberTy T l (m .row)) → m .ty ≡ memberTy T l (m .row)
+    go true b e h again = again h
+    go false b e h again = here (eqb k (tag T r)) h again
+
+pub optional-of : (T : List ℕ) (t k : ℕ) (m : Member) → lookup k (optional T t) ≡ some m → m .ty ≡ memberTy T (trees T) (m .row)
+unfolding optional
+optional-of T t k m h = optional-type T (trees T) (ownRows T t) k m h
+
+pub record Met (T : List ℕ) (t k row : ℕ) : Type 0 where
+  pub member : Member
+  pub there : lookup k (optional T t) ≡ some member
+  pub is : member .row ≡ row
+  pub type : member .ty ≡ memberTy T (trees T) row
+
+pub met : (T : List ℕ) (t k row : ℕ) → At row ≡ rowFound (lookup k (optional T t)) → Met T t k row
+unfolding rowFound
+met T t k row h = go (lookup k (optional T t)) refl h
+  where
+    go : (o : Option Member) → lookup k (optional T t) ≡ o → At row ≡ rowFound o → Met T t k row
+    go none e h = let z : _≡_ {A = ℕ} 0 1 = cc in absurd (omega arith)
+    go (some m) e h =
+        let q : m .row ≡ row = cc in
+        record { member = m; there = e; is = q; type = optional-of T t k m e ∙ ap (memberTy T (trees T)) q }
+
+pub unmet : (T : List ℕ) (t k : ℕ) → Nothing ≡ rowFound (lookup k (optional T t)) → lookup k (optional T t) ≡ none
+unfolding rowFound
+unmet T t k h = go (lookup k (optional T t)) refl h
+  where
+    go : (o : Option Member) → lookup k (optional T t) ≡ o → Nothing ≡ rowFound o → lookup k (optional T t) ≡ none
+    go none e h = e
+    go (some m) e h = let z : _≡_ {A = ℕ} 0 1 = cc in absurd (omega arith)
+
+pub row-form : (T forms : List ℕ) (ty g : ℕ) → forms ≡ formsOf T → g ≡ formIn forms ty → formNamed g ≡ formOf (tyOf T ty)
+row-form T forms ty g ef eg = ap formNamed (eg ∙ ap (λ (l : List ℕ). formIn l ty) ef ∙ form-row T ty) ∙ named-number (formOf (tyOf T ty))
+
+pub met-form : (T forms : List ℕ) (t k row ty g : ℕ) (M : Met T t k row) → forms ≡ formsOf T → tyOf T ty ≡ memberTy T (trees T) row → g ≡ formIn forms ty
+    → formNamed g ≡ formOf (M .member .ty)
+met-form T forms t k row ty g M ef et eg = row-form T forms ty g ef eg ∙ ap formOf (et ∙ sym (M .type))

@@ -1,0 +1,216 @@
+-- The loop over an owner's rows that reads its required members and puts a row for each. Assumes nothing.
+--
+--   Due            what holds at its head: the answer and the list at the end come of the rows that are left
+--   due-begin      at the start
+--   due-past       after an optional row
+--   due-next       after a required member that was read
+--   due-fault, due-never     where its value is refused; then nothing was accepted
+--   due-says, due-gives      at the end
+--   due-room, due-place      what is added fits
+use mathlib.Core.Path.{_≡_, refl, sym, ap, ap₂, _∙_, subst}
+use mathlib.Core.List.{List, [], _∷_}
+use Prim.Native.Nat.{ℕ, suc, _+_, _-_, _*_, _^_, _≤_, _<_}
+use native.Mathlib.Nat.{add-zero, zero-add, add-assoc}
+use native.Mathlib.Numerals.{add-one}
+use native.Mathlib.Omega.{arith}
+use mir.Syntax.{w64}
+use mir.Val.{Fits}
+use lib.ListN.{length, take, drop, length-drop}
+use lib.Seq.{drop-drop, length-take-le}
+use Rattle.encoding.specs.Result.{Res, ok, bad, shift, _>>=_, pure, made, mapc, bytes}
+use Rattle.encoding.specs.ResultLaws.{ok≢bad, Bound, bind-ok, bind-next, bind-bad, bytes-step, mapc-ok, held-took, held-refused}
+use Rattle.encoding.specs.Value.{value}
+use Rattle.encoding.specs.ValueLaws.{held-value}
+use Rattle.encoding.specs.Table.{field, mark, range, tyOf, memberTy, ownRows, trees, Member, requiredOf}
+use Rattle.encoding.specs.Table
+use Rattle.encoding.specs.Optional.{Piece, required, requireds}
+use Rattle.encoding.specs.Message.{Row, rowBytes, pieceRows}
+use Rattle.wire.specs.declared.Step.{Step}
+use Rattle.wire.specs.declared.Step.the-variants.{Took, Fault}
+use Rattle.wire.specs.Steps.{stepOf}
+use Rattle.wire.specs.Put.{put}
+use Rattle.wire.specs.PutLaws.{put-length}
+use Rattle.table.proofs.Ranges.{range-left, range-empty}
+use Rattle.wire.specs.StepLaws.{rest-is, step-fault}
+use Rattle.level.specs.declared.Members.the-variants.{Read, Refused}
+use Rattle.level.specs.Fill.{fill}
+use Rattle.level.specs.Answers.{membersOf}
+use Rattle.level.specs.RequiredLaws.{memberAt, Ahead, ahead-begin, ahead-past, ahead-next, required-past, required-next, piece-row}
+use Rattle.level.proofs.Told.{step-took}
+
+-- the pieces still to come, where all are accepted, and what they make of the list as it is
+record Later (T : List ℕ) (t at : ℕ) (s : List ℕ) (ms : List Member) (pos k : ℕ) (last out : List ℕ) : Type 0 where
+  pieces : List Piece
+  taken : ℕ
+  read : requireds ms (drop pos s) ≡ ok pieces taken
+  made : last ≡ fill k (pieceRows T t (at + pos) pieces) out
+
+pub record Due (T : List ℕ) (t at count : ℕ) (s out₀ : List ℕ) (m left pos k : ℕ) (out : List ℕ) : Type 0 where
+  pub seen : ℕ
+  pub inside : pos ≤ length s
+  pub few : m + left < 131072
+  pub low : k + left < count + 65536
+  pub same : length out ≡ length out₀
+  pub ahead : Ahead T t seen (range m left)
+  pub says : membersOf count (requireds (Table.required T t) s) ≡ membersOf k (shift pos (requireds (requiredOf T (trees T) seen (range m left)) (drop pos s)))
+  gives : (ps : List Piece) (n : ℕ) → requireds (Table.required T t) s ≡ ok ps n
+      → Later T t at s (requiredOf T (trees T) seen (range m left)) pos k (fill count (pieceRows T t at ps) out₀) out
+
+shift-none : {A : Type 0} (r : Res A) → r ≡ shift 0 r
+unfolding shift
+shift-none (ok a n) = ap (ok a) (sym (zero-add n))
+shift-none (bad c p) = ap (bad c) (sym (zero-add p))
+
+-- one member, and the rest behind it
+one-more : (k pos n : ℕ) (p : Piece) (r : Res (List Piece)) → membersOf k (shift pos (shift n (made (λ ps _. p ∷ ps) r))) ≡ membersOf (k + 1) (shift (pos + n) r)
+unfolding membersOf shift made
+one-more k pos n p (ok ps l) = ap₂ Read (sym (add-assoc pos n l)) (omega arith)
+one-more k pos n p (bad c q) = ap (Refused c) (sym (add-assoc pos n q))
+
+pub due-begin : (T : List ℕ) (t at count : ℕ) (s out : List ℕ) (m left : ℕ) → m ≡ field T t 0 → left ≡ field T t 1 → m < 65536 → left < 65536
+    → Due T t at count s out m left 0 count out
+unfolding ownRows Table.required
+due-begin T t at count s out m left em el hm hl =
+    let e : range m left ≡ ownRows T t = rw (em, el) in
+    record {
+      seen = 0;
+      inside = omega arith;
+      few = omega arith;
+      low = omega arith;
+      same = refl;
+      ahead = rw e (ahead-begin T t);
+      says = rw e (ap (membersOf count) (shift-none (requireds (Table.required T t) s)));
+      gives = λ ps n h. record {
+        pieces = ps;
+        taken = n;
+        read = rw e h;
+        made = ap (λ (i : ℕ). fill count (pieceRows T t i ps) out) (sym (add-zero at));
+      };
+    }
+
+module _ (T : List ℕ) (t at count : ℕ) (s out₀ : List ℕ) (m left pos k : ℕ) (out : List ℕ) (D : Due T t at count s out₀ m left pos k out) where
+  -- ---- the end
+  pub due-says : left ≤ 0 → Read pos k ≡ membersOf count (requireds (Table.required T t) s)
+  unfolding requiredOf requireds pure shift membersOf
+  due-says h = sym (D .says ∙ rw (range-empty m left h, add-zero pos, add-zero k))
+
+  pub due-gives : left ≤ 0 → (ps : List Piece) (n : ℕ) → requireds (Table.required T t) s ≡ ok ps n → out ≡ fill count (pieceRows T t at ps) out₀
+  unfolding requiredOf requireds pure pieceRows fill
+  due-gives h ps n e = go (D .gives ps n e)
+    where
+      go : Later T t at s (requiredOf T (trees T) (D .seen) (range m left)) pos k (fill count (pieceRows T t at ps) out₀) out → out ≡ fill count (pieceRows T t at ps) out₀
+      go L =
+          let r : ok [] 0 ≡ ok (L .pieces) (L .taken) = rw (range-empty m left h) at (L .read) in
+          let z : L .pieces ≡ [] = cc in
+          sym (L .made ∙ ap (λ (l : List Piece). fill k (pieceRows T t (at + pos) l) out) z)
+
+  -- ---- one row
+  module _ (h : 0 < left) where
+    split : range m left ≡ m ∷ range (m + 1) (left - 1)
+    split = range-left m left h
+
+    ahead-split : Ahead T t (D .seen) (m ∷ range (m + 1) (left - 1))
+    ahead-split = rw split at (D .ahead)
+
+    pub due-past : (g : ℕ) → g ≡ mark T m → (g ≡ 0 → ⊥) → Due T t at count s out₀ (m + 1) (left - 1) pos k out
+    due-past g eg z =
+        let y : mark T m ≡ 0 → ⊥ = λ q. z (eg ∙ q) in
+        let e : requiredOf T (trees T) (D .seen) (range m left) ≡ requiredOf T (trees T) (D .seen) (range (m + 1) (left - 1)) =
+        ap (requiredOf T (trees T) (D .seen)) split ∙ required-past T (D .seen) m (range (m + 1) (left - 1)) y in
+        record {
+          seen = D .seen;
+          inside = D .inside;
+          few = omega (arith, D .few);
+          low = omega (arith, D .low);
+          same = D .same;
+          ahead = ahead-past T t (D .seen) m (range (m + 1) (left - 1)) ahead-split y;
+          says = D .says ∙ ap (λ (l : List Member). membersOf k (shift pos (requireds l (drop pos s)))) e;
+          gives = λ ps n q. subst (λ (l : List Member). Later T t at s l pos k (fill count (pieceRows T t at ps) out₀) out) e (D .gives ps n q);
+        }
+
+    -- ---- a required member
+    module _ (g : ℕ) (eg : g ≡ mark T m) (z : g ≡ 0) (ty : ℕ) (et : tyOf T ty ≡ memberTy T (trees T) m)
+        (r : Step) (er : r ≡ stepOf (value (tyOf T ty) (take (length s - pos) (drop pos s)))) where
+      abbrev rest : List Member
+      rest = requiredOf T (trees T) (suc (D .seen)) (range (m + 1) (left - 1))
+
+      abbrev cont : List ℕ → List ℕ → Res (List Piece)
+      cont b = mapc (λ ps _. required (D .seen) b ∷ ps) (requireds rest)
+
+      ms-split : requiredOf T (trees T) (D .seen) (range m left) ≡ memberAt T (D .seen) m ∷ rest
+      ms-split = ap (requiredOf T (trees T) (D .seen)) split ∙ required-next T (D .seen) m (range (m + 1) (left - 1)) (sym eg ∙ z)
+
+      requireds-split : requireds (requiredOf T (trees T) (D .seen) (range m left)) (drop pos s) ≡ (bytes (value (memberTy T (trees T) m)) >>= cont) (drop pos s)
+      unfolding requireds
+      requireds-split = ap (λ (l : List Member). requireds l (drop pos s)) ms-split
+
+      answer : r ≡ stepOf (value (memberTy T (trees T) m) (drop pos s))
+      answer = rw (et, rest-is s pos) at er
+
+      value-held : (n : ℕ) → r ≡ Took n → n ≤ length s - pos
+      value-held n q =
+          omega (arith, held-took (value (memberTy T (trees T) m)) (held-value (memberTy T (trees T) m)) (drop pos s) (step-took (value (memberTy T (trees T) m) (drop pos s)) n (sym q ∙ answer) .1), length-drop pos s)
+
+      value-is : (n : ℕ) → r ≡ Took n → bytes (value (memberTy T (trees T) m)) (drop pos s) ≡ ok (take n (drop pos s)) n
+      value-is n q = bytes-step (value (memberTy T (trees T) m)) (drop pos s) (step-took (value (memberTy T (trees T) m) (drop pos s)) n (sym q ∙ answer) .1)
+
+      value-bad : (c p : ℕ) → r ≡ Fault c p → bytes (value (memberTy T (trees T) m)) (drop pos s) ≡ bad c p
+      unfolding bytes made
+      value-bad c p q = rw (step-fault (value (memberTy T (trees T) m) (drop pos s)) c p (sym q ∙ answer))
+
+      next-later : (n : ℕ) → r ≡ Took n → (o : List ℕ) → o ≡ put (12 * k) (rowBytes (record { member = m; place = at + pos; len = n })) out → (last : List ℕ)
+          → Later T t at s (requiredOf T (trees T) (D .seen) (range m left)) pos k last out → Later T t at s rest (pos + n) (k + 1) last o
+      unfolding fill
+      next-later n q o eo last L = go (bind-ok (bytes (value (memberTy T (trees T) m))) cont (drop pos s) (sym requireds-split ∙ L .read))
+        where
+          go : Bound (bytes (value (memberTy T (trees T) m))) cont (drop pos s) (L .pieces) (L .taken) → Later T t at s rest (pos + n) (k + 1) last o
+          go B =
+              let M = mapc-ok (requireds rest) (drop (B .n) (drop pos s)) (λ ps _. required (D .seen) (B .fst) ∷ ps) (B .next) in
+              let same-bytes : ok (B .fst) (B .n) ≡ ok (take n (drop pos s)) n = sym (B .first) ∙ value-is n q in
+              let eb : B .fst ≡ take n (drop pos s) = cc in
+              let en : B .n ≡ n = cc in
+              let el : length (B .fst) ≡ n = ap length eb ∙ length-take-le n (drop pos s) (omega (arith, value-held n q, length-drop pos s)) in
+              record {
+                pieces = M .0;
+                taken = B .m;
+                read = ap (requireds rest) (sym (ap (λ (i : ℕ). drop i (drop pos s)) en ∙ drop-drop n pos s)) ∙ M .1;
+                made = L .made ∙ ap (λ (l : List Piece). fill k (pieceRows T t (at + pos) l) out) (M .2)
+                    ∙ ap (λ (l : List Row). fill k l out) (piece-row T t (D .seen) m (range (m + 1) (left - 1)) ahead-split (sym eg ∙ z) (at + pos) (B .fst) (M .0))
+                    ∙ ap (λ (i : ℕ). fill (suc k) (pieceRows T t (at + pos + i) (M .0)) (put (12 * k) (rowBytes (record { member = m; place = at + pos; len = i })) out)) el
+                    ∙ ap (λ (l : List ℕ). fill (suc k) (pieceRows T t (at + pos + n) (M .0)) l) (sym eo)
+                    ∙ ap₂ (λ (i j : ℕ). fill i (pieceRows T t j (M .0)) o) (sym (add-one k)) (add-assoc at pos n);
+              }
+
+      pub due-next : (n : ℕ) → r ≡ Took n → (o : List ℕ) → o ≡ put (12 * k) (rowBytes (record { member = m; place = at + pos; len = n })) out
+          → Due T t at count s out₀ (m + 1) (left - 1) (pos + n) (k + 1) o
+      unfolding mapc
+      due-next n q o eo = record {
+        seen = suc (D .seen);
+        inside = omega (arith, D .inside, value-held n q);
+        few = omega (arith, D .few);
+        low = omega (arith, D .low);
+        same = ap length eo ∙ put-length (12 * k) _ out ∙ D .same;
+        ahead = ahead-next T t (D .seen) m (range (m + 1) (left - 1)) ahead-split (sym eg ∙ z);
+        says = D .says ∙ ap (λ (x : Res (List Piece)). membersOf k (shift pos x)) (requireds-split ∙ bind-next (bytes (value (memberTy T (trees T) m))) cont (drop pos s) (value-is n q))
+            ∙ one-more k pos n (required (D .seen) (take n (drop pos s))) (requireds rest (drop n (drop pos s)))
+            ∙ ap (λ (l : List ℕ). membersOf (k + 1) (shift (pos + n) (requireds rest l))) (drop-drop n pos s);
+        gives = λ ps i h. next-later n q o eo _ (D .gives ps i h);
+      }
+
+      pub due-fault : (c p : ℕ) → r ≡ Fault c p → Refused c (pos + p) ≡ membersOf count (requireds (Table.required T t) s)
+      unfolding shift membersOf
+      due-fault c p q =
+          sym (D .says ∙ ap (λ (x : Res (List Piece)). membersOf k (shift pos x)) (requireds-split ∙ bind-bad (bytes (value (memberTy T (trees T) m))) cont (drop pos s) (value-bad c p q)))
+
+      -- then nothing is accepted
+      pub due-never : (c p : ℕ) → r ≡ Fault c p → (ps : List Piece) (n : ℕ) → requireds (Table.required T t) s ≡ ok ps n → out ≡ fill count (pieceRows T t at ps) out₀
+      due-never c p q ps n h =
+          absurd (ok≢bad (D .gives ps n h .read) (requireds-split ∙ bind-bad (bytes (value (memberTy T (trees T) m))) cont (drop pos s) (value-bad c p q)))
+
+      -- ---- what is added fits
+      pub due-room : (n : ℕ) → r ≡ Took n → at + length s < 2 ^ 63 → Fits w64 (pos + n)
+      due-room n q l = omega (arith, D .inside, value-held n q)
+
+      pub due-place : (c p : ℕ) → r ≡ Fault c p → at + length s < 2 ^ 63 → Fits w64 (pos + p)
+      due-place c p q l =
+          omega (arith, D .inside, held-refused (value (memberTy T (trees T) m)) (held-value (memberTy T (trees T) m)) (drop pos s) (step-fault (value (memberTy T (trees T) m) (drop pos s)) c p (sym q ∙ answer)), length-drop pos s)

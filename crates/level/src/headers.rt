@@ -1,0 +1,111 @@
+// An optional's header: its first byte and a long tag, then judged.
+ghost use mathlib.Core.Path.{_≡_};
+ghost use mathlib.Core.Bool.{_&&_};
+ghost use lib.Dec.{ltb};
+ghost use Rattle.encoding.specs.Types.{bits, bitsOf};
+ghost use Rattle.encoding.specs.Table.{optional};
+ghost use Rattle.encoding.specs.Optional.{header};
+ghost use Rattle.table.specs.Forms.{formsOf};
+ghost use Rattle.level.specs.Forms.{formNamed, formIn};
+ghost use Rattle.level.specs.Answers.{front, frontOf, early, headOf};
+use crate::Front;
+use crate::Head;
+use table::Found;
+use wire::Sized;
+
+// The first byte and, behind five bits 30, the tag as a size.
+fn front(s: &[u8]) -> Front
+    ensures { λ r. ⌜ r ≡ frontOf (front (now (s .entry))) ⌝ }
+{
+    if s.len() < 1 {
+        return Front::Isnt(4, 0);
+    }
+    let h = wire::byte_at(s, 0);
+    let tag = wire::tag_bits(h);
+    let k = wire::type_bits(h);
+    if 31 <= tag {
+        return Front::Isnt(12, 0);
+    }
+    if tag != 30 {
+        return Front::Is(false, tag, k, 1);
+    }
+    let z = wire::read_size(&s[1..]);
+    match z {
+        Sized::Is(n, w) => Front::Is(true, n, k, 1 + w),
+        Sized::Isnt(c, p) => Front::Isnt(c, 1 + p),
+    }
+}
+
+// A long tag under 30.
+fn under(long: bool, tag: usize) -> bool
+    ensures { λ r. ⌜ r ≡ long && ltb tag 30 ⌝ }
+{
+    if long { tag < 30 } else { false }
+}
+
+// 12 for form and order, 13; or 0.
+fn early(least: usize, long: bool, tag: usize, k: usize) -> usize
+    ensures { λ r. ⌜ r ≡ early least long tag k ⌝ }
+{
+    if under(long, tag) {
+        return 12;
+    }
+    if tag < least {
+        return 12;
+    }
+    if k == 7 {
+        return 13;
+    }
+    0
+}
+
+// The number of the form of row t's type.
+pub fn form_at(forms: &[u8; 256], t: usize) -> usize
+    ensures { λ r. ⌜ r ≡ formIn (now (forms .entry)) t ⌝ }
+{
+    if t < 256 {
+        return wire::wide(forms[t]);
+    }
+    10
+}
+
+// The type bits of a form.
+fn form_bits(f: usize) -> usize
+    ensures { λ r. ⌜ r ≡ bits (bitsOf (formNamed f)) ⌝ }
+{
+    if f < 8 {
+        return f;
+    }
+    if f < 10 {
+        return 5;
+    }
+    6
+}
+
+// A header, judged: 12 for form and order, 13, 12 for a known tag of another type.
+pub fn header(table: &[u8], forms: &[u8; 256], t: usize, least: usize, s: &[u8]) -> Head
+    requires { ⌜ now forms ≡ formsOf (now table) ⌝ }
+    ensures { λ r. ⌜ r ≡ headOf (optional (now (table .entry)) t) (header (optional (now (table .entry)) t) least (now (s .entry))) ⌝ }
+{
+    let f = front(s);
+    match f {
+        Front::Is(long, tag, k, n) => {
+            let c = early(least, long, tag, k);
+            if c != 0 {
+                return Head::Wrong(c, 0);
+            }
+            let found = table::chain::tag_member(table, t, tag);
+            match found {
+                Found::At(m) => {
+                    if k == form_bits(form_at(forms, table::type_of_member(table, m))) {
+                        Head::Known(m, tag, n)
+                    } else {
+                        Head::Wrong(12, 0)
+                    }
+                }
+                Found::Nothing => Head::Unknown(tag, k, n),
+            }
+        }
+        Front::Isnt(c, p) => Head::Wrong(c, p),
+    }
+}

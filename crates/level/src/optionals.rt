@@ -1,0 +1,62 @@
+// The next optional of an owner.
+ghost use mathlib.Core.Path.{_≡_};
+ghost use Rattle.encoding.specs.Result.{bytes, inside};
+ghost use Rattle.encoding.specs.Value.{value};
+ghost use Rattle.encoding.specs.Table.{tyOf, optional};
+ghost use Rattle.encoding.specs.Optional.{part, optionalOf};
+ghost use Rattle.table.specs.Forms.{formsOf};
+ghost use Rattle.level.specs.Forms.{formNamed};
+ghost use Rattle.level.specs.Answers.{partOf, optionalAnswer};
+use crate::Head;
+use crate::Optional;
+use crate::Part;
+use wire::Step;
+
+// A value of type row t in the part of the form of number f: it uses up just the declared bytes.
+fn used_up(table: &[u8], t: usize, s: &[u8], f: usize) -> Part
+    ensures { λ r. ⌜ r ≡ partOf (inside (part (formNamed f)) (bytes (value (tyOf (now (table .entry)) t))) (now (s .entry))) ⌝ }
+{
+    let p = crate::extents::part(s, f);
+    match p {
+        Part::Is(a, e) => {
+            let step = value::read_value(table, t, &s[a..e]);
+            match step {
+                Step::Took(n) => {
+                    if n == e - a {
+                        Part::Is(a, e)
+                    } else {
+                        Part::Isnt(11, 0)
+                    }
+                }
+                Step::Fault(c, q) => Part::Isnt(c, a + q),
+            }
+        }
+        Part::Isnt(c, q) => Part::Isnt(c, q),
+    }
+}
+
+// The next optional of owner t, its tag at least `least`: a known value in its declared bytes, or a skipped one.
+pub fn optional(table: &[u8], forms: &[u8; 256], t: usize, least: usize, s: &[u8]) -> Optional
+    requires { ⌜ now forms ≡ formsOf (now table) ⌝ }
+    ensures { λ r. ⌜ r ≡ optionalAnswer (optional (now (table .entry)) t) (optionalOf (optional (now (table .entry)) t) least (now (s .entry))) ⌝ }
+{
+    let h = crate::headers::header(table, forms, t, least, s);
+    match h {
+        Head::Known(m, tag, n) => {
+            let ty = table::type_of_member(table, m);
+            let p = used_up(table, ty, &s[n..], crate::headers::form_at(forms, ty));
+            match p {
+                Part::Is(a, e) => Optional::Known(m, tag, n + a, n + e),
+                Part::Isnt(c, q) => Optional::Wrong(c, n + q),
+            }
+        }
+        Head::Unknown(tag, k, n) => {
+            let p = crate::extents::extent(&s[n..], k);
+            match p {
+                Part::Is(a, e) => Optional::Skipped(tag, n + e),
+                Part::Isnt(c, q) => Optional::Wrong(c, n + q),
+            }
+        }
+        Head::Wrong(c, p) => Optional::Wrong(c, p),
+    }
+}
