@@ -3,9 +3,9 @@
 --   form-here, form-past    the number of a row's form, in the array and past its end
 --   row-form                the form of a row's type, by its number in the array
 --   optional-of             an optional's type is that of its row
---   Met, met         what the code's look-up of a tag tells: the member, of that row and its type
---   unmet            no member has the tag
---   met-form         the member's form, as the array of forms has it
+--   Met, met                what the code's look-up of a tag tells: the member, of that row and its type
+--   unmet                   no member has the tag
+--   met-form                the member's form, as the array of forms has it
 use mathlib.Core.Path.{_≡_, refl, sym, ap, _∙_}
 use mathlib.Core.Bool.{Bool, true, false}
 use mathlib.Core.Option.{Option, none, some}

@@ -1,10 +1,12 @@
 -- What the code answers of the members of one owner.
 --
 --   membersOf k r     required members that were read: the bytes taken, and how many rows there are, k before them
+--   rowOr             a member's row, if there is one
+--   pieceAnswer       what is answered of a piece that took n bytes
 --   optionalAnswer    the next optional: a known one with its member row, its tag, where its bytes begin and the bytes taken; or a skipped one
 --   front             a header before it is judged; frontOf what the code answers of it
 --   early             the judgements of a header before the last: 12 for form and order, 13; or 0
---   headOf            a header: of a known tag with its member row, or of an unknown one
+--   headFor, headOf   a header: of a known tag with its member row, or of an unknown one
 --   partOf            declared bytes: where those delivered begin, and the bytes taken; wholePart all of them delivered
 use mathlib.Core.Bool.{Bool, _&&_}
 use mathlib.Core.Option.{Option, none, some}

@@ -1,8 +1,10 @@
 -- What the answers tell of the readers' results, in the shape in which a call and a match hand them over. Assumes nothing.
 --
---   known-read, skipped-read, wrong-read    the piece that was read and the least tag next; or the refusal
+--   KnownRead, SkippedRead                  an optional was read to a known piece, to a skipped one, and the least tag next is one above its own
+--   known-read, skipped-read, wrong-read    what each answer tells: that; or the refusal
 --   known-rows, skipped-rows                what the piece adds to the rows
---   known-.., skipped-.., wrong-within      at least one byte, all of it there, and a tag below 2 ^ 31
+--   known-some, -within, -start, -tag       at least one byte, all of them there, the value ends them, the tag is below 2 ^ 31
+--   skipped-some, -within, -tag             the same of a skipped one; wrong-within a refusal's place is there
 --   members-read, members-refused           the pieces of the required members; or the refusal
 --   members-within, refused-within          what they take, and where they are refused, is there
 use mathlib.Core.Path.{_≡_, refl, sym, ap, _∙_}

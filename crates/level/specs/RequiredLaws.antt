@@ -1,5 +1,7 @@
 -- The rows of required members: the piece at a position is of the member at that position. Assumes nothing.
 --
+--   memberAt T i r            the required member of row r at position i
+--   required-past, -next      what an optional row and a required one add to the members
 --   Ahead T t i rs            of owner t, the required members from position i on are those of the rows rs
 --   ahead-begin               all of them are those of the owner's rows
 --   ahead-past, ahead-next    one row further: an optional one, a required one
