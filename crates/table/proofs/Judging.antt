@@ -1,7 +1,7 @@
 -- What the tests of the check tell, rule by rule, and its loops. Assumes nothing.
 --
 --   header-..                  the header's rules in the code's order
---   used-..                    the list of used fields
+--   used-..                    how many fields a kind uses
 --   Unused, unused-..          the loop over the fields that a kind does not use
 --   part-.., base-..           references to rows below
 --   Before, before-.., alike-is   the loop over the names before, and that it finds what is alike
@@ -23,15 +23,16 @@ use lib.Dec.{eqb, leb, ltb}
 use borrow.Author.Tests.{eqb-true, eqb-false, lt-ltb, le-ltb, le-leb, lt-leb, eq-eqb, ne-eqb, not-false}
 use Rattle.encoding.specs.Result.{pick, firstOf, sameBytes}
 use Rattle.encoding.specs.Number.{negative}
-use Rattle.encoding.specs.Table.{at, types, members, names, typesAt, rowAt, membersAt, memberAt, namesAt, kind, field, memberType, mark, tag, isRecord, owns, nameOf, range, any, used, taken, noPart, noBase, alike, tagAlike, typeRules, headerTests, headerRules, sumRules, faultAt, Fault, fine, fault, orElse, pass, passes, faults}
+use Rattle.encoding.specs.Table.{at, types, members, names, typesAt, rowAt, membersAt, memberAt, namesAt, kind, field, memberType, mark, tag, isRecord, owns, nameOf, range, any, used, taken, noPart, noBase, alike, typeRules, headerTests, headerRules, sumRules, faultAt, Fault, fine, fault, orElse, pass, passes, faults}
 use Rattle.table.specs.Names.{nameStart, isNamed}
 use Rattle.table.specs.NamesLaws.{name-part}
-use Rattle.table.specs.Checks.{verdictOf, isUnusedSet, enumRules, structRules, seqRules, dictRules, recordRules, listRules, kindRules, rowRules, share, typePass, memberPass, isOptionalOf, requiredRules, optionalRules, memberRulesOf, ownerPass, ownersPass}
+use Rattle.table.specs.Checks.{verdictOf, isUnusedSet, enumRules, structRules, seqRules, dictRules, recordRules, listRules, kindRules, rowRules, share, typePass, memberPass, isOptionalOf, isTagBefore, requiredRules, optionalRules, memberRulesOf, ownerPass, ownersPass}
 use Rattle.table.specs.ChecksLaws.{row-rules, owners-pass}
 use Rattle.table.specs.declared.Verdict.{Verdict}
 use Rattle.table.specs.declared.Verdict.the-variants.{Fine, Broken}
 use Rattle.table.proofs.Ranges.{range-more, range-none, range-left, range-empty, any-here, any-next, any-none}
-use Rattle.table.proofs.Shapes.{getD-within}
+use Rattle.table.proofs.Places.{member-type-is, mark-is, member-spare-is, tag-is}
+use Rattle.table.proofs.Shapes.{by-kind}
 
 -- ---- header
 
@@ -84,13 +85,41 @@ module _ (T : List ℕ) (long : 12 ≤ length T) (s : Bool) (es : s ≡ sameByte
 
 -- ---- fields that a kind does not use
 
-pub used-below : (k : ℕ) → k < 16 → getD (0 ∷ 0 ∷ 0 ∷ 0 ∷ 0 ∷ 0 ∷ 0 ∷ 0 ∷ 2 ∷ 2 ∷ 1 ∷ 2 ∷ 0 ∷ 5 ∷ 5 ∷ 2 ∷ []) k 0 ≡ used k
-unfolding used
-used-below k h = getD-within (0 ∷ 0 ∷ 0 ∷ 0 ∷ 0 ∷ 0 ∷ 0 ∷ 0 ∷ 2 ∷ 2 ∷ 1 ∷ 2 ∷ 0 ∷ 5 ∷ 5 ∷ 2 ∷ []) k 0 5 h
+module _ (k : ℕ) where
+  pub used-low : k < 8 → 0 ≡ used k
+  unfolding used
+  used-low = by-kind (λ n. n < 8 → 0 ≡ used n)
+      (λ h. refl) (λ h. refl) (λ h. refl) (λ h. refl) (λ h. refl) (λ h. refl) (λ h. refl) (λ h. refl)
+      (λ h. absurd (omega arith)) (λ h. absurd (omega arith)) (λ h. absurd (omega arith)) (λ h. absurd (omega arith)) (λ h. absurd (omega arith))
+      (λ n l h. absurd (omega arith)) k
 
-pub used-past : (k : ℕ) → 16 ≤ k → 5 ≡ used k
-unfolding used
-used-past k h = sym (List·getD-eq-default (0 ∷ 0 ∷ 0 ∷ 0 ∷ 0 ∷ 0 ∷ 0 ∷ 0 ∷ 2 ∷ 2 ∷ 1 ∷ 2 ∷ 0 ∷ 5 ∷ 5 ∷ 2 ∷ []) 5 {n = k} h)
+  pub used-seq : k ≡ 10 → 1 ≡ used k
+  unfolding used
+  used-seq e = rw e
+
+  pub used-proxy : k ≡ 12 → 0 ≡ used k
+  unfolding used
+  used-proxy e = rw e
+
+  pub used-exception : k ≡ 13 → 5 ≡ used k
+  unfolding used
+  used-exception e = rw e
+
+  pub used-class : k ≡ 14 → 5 ≡ used k
+  unfolding used
+  used-class e = rw e
+
+  pub used-two : 8 ≤ k → (k ≡ 10 → ⊥) → (k ≡ 12 → ⊥) → (k ≡ 13 → ⊥) → (k ≡ 14 → ⊥) → k < 16 → 2 ≡ used k
+  unfolding used
+  used-two = by-kind (λ n. 8 ≤ n → (n ≡ 10 → ⊥) → (n ≡ 12 → ⊥) → (n ≡ 13 → ⊥) → (n ≡ 14 → ⊥) → n < 16 → 2 ≡ used n)
+      (λ h a b c d l. absurd (omega arith)) (λ h a b c d l. absurd (omega arith)) (λ h a b c d l. absurd (omega arith)) (λ h a b c d l. absurd (omega arith))
+      (λ h a b c d l. absurd (omega arith)) (λ h a b c d l. absurd (omega arith)) (λ h a b c d l. absurd (omega arith)) (λ h a b c d l. absurd (omega arith))
+      (λ h a b c d l. refl) (λ h a b c d l. refl) (λ h a b c d l. absurd (a refl)) (λ h a b c d l. refl) (λ h a b c d l. absurd (b refl))
+      (λ n g h a b c d l. let z : n ≡ 15 = omega arith in rw z) k
+
+  pub used-past : 16 ≤ k → 5 ≡ used k
+  unfolding used
+  used-past h = sym (List·getD-eq-default (0 ∷ 0 ∷ 0 ∷ 0 ∷ 0 ∷ 0 ∷ 0 ∷ 0 ∷ 2 ∷ 2 ∷ 1 ∷ 2 ∷ 0 ∷ 5 ∷ 5 ∷ 2 ∷ []) 5 {n = k} h)
 
 abbrev isSet : List ℕ → ℕ → ℕ → Bool
 isSet T t i = not (eqb (field T t i) 0)
@@ -400,87 +429,87 @@ module _ (T : List ℕ) (n t prior : ℕ) (inv : Types T n t prior) where
 
 -- ---- member rows
 
-module _ (T : List ℕ) (g i k : ℕ) (ek : k ≡ mark T i) where
-  pub tagged-is : k ≡ 1 → (f : ℕ) → f ≡ tag T i → eqb f g ≡ isOptionalOf T g i
-  tagged-is e f ef = rw (eq-eqb (mark T i) 1 (sym ek ∙ e), ef)
+module _ (T : List ℕ) (g i a : ℕ) (ea : drop a T ≡ drop (memberAt T i) T) (k : ℕ) (ek : k ≡ at (take (length T - a) (drop a T)) 1 2) where
+  pub tagged-is : k ≡ 1 → (f : ℕ) → f ≡ at (take (length T - a) (drop a T)) 4 4 → eqb f g ≡ isOptionalOf T g i
+  tagged-is e f ef = rw (eq-eqb (mark T i) 1 (sym (mark-is T i a ea k ek) ∙ e), tag-is T i a ea f ef)
 
   pub tagged-not : (k ≡ 1 → ⊥) → false ≡ isOptionalOf T g i
-  tagged-not h = rw (ne-eqb (mark T i) 1 (λ q. h (ek ∙ q)))
+  tagged-not h = rw (ne-eqb (mark T i) 1 (λ q. h (mark-is T i a ea k ek ∙ q)))
 
 pub record Tags (T : List ℕ) (o m g i : ℕ) : Type 0 where
-  pub rest : tagAlike T o m ≡ any (isOptionalOf T g) (range i (m - i))
+  pub rest : isTagBefore T o m g ≡ any (isOptionalOf T g) (range i (m - i))
 
-pub tags-begin : (T : List ℕ) (o m g i : ℕ) → g ≡ tag T m → i ≡ field T o 0 → Tags T o m g i
-unfolding tagAlike
-tags-begin T o m g i eg ei = rw (eg, ei) record { rest = refl }
+pub tags-begin : (T : List ℕ) (o m g i : ℕ) → i ≡ field T o 0 → Tags T o m g i
+unfolding isTagBefore
+tags-begin T o m g i ei = rw ei record { rest = refl }
 
 module _ (T : List ℕ) (o m g i : ℕ) (inv : Tags T o m g i) where
   module _ (h : i < m) (b : Bool) (e : b ≡ isOptionalOf T g i) where
-    pub tags-here : b ≡ true → true ≡ tagAlike T o m
+    pub tags-here : b ≡ true → true ≡ isTagBefore T o m g
     tags-here q = sym (inv .rest ∙ any-here (isOptionalOf T g) i m h (sym e ∙ q))
 
     pub tags-next : b ≡ false → Tags T o m g (i + 1)
     tags-next q = record { rest = inv .rest ∙ any-next (isOptionalOf T g) i m h (sym e ∙ q) }
 
-  pub tags-end : m ≤ i → false ≡ tagAlike T o m
+  pub tags-end : m ≤ i → false ≡ isTagBefore T o m g
   tags-end h = sym (inv .rest ∙ any-none (isOptionalOf T g) i m h)
 
-module _ (T : List ℕ) (o m g : ℕ) (eg : g ≡ tag T m) where
-  pub required-tag : (g ≡ 0 → ⊥) → 32 ≡ firstOf (requiredRules T o m)
+module _ (T : List ℕ) (o t g : ℕ) where
+  pub required-tag : (g ≡ 0 → ⊥) → 32 ≡ firstOf (requiredRules T o t g)
   unfolding firstOf requiredRules
-  required-tag h = rw (← eg, ne-eqb g 0 h)
+  required-tag h = rw (ne-eqb g 0 h)
 
-  module _ (zero-tag : g ≡ 0) (t : ℕ) (et : t ≡ memberType T m) (r : Bool) (er : r ≡ noPart T o t) where
-    pub required-part : r ≡ true → 34 ≡ firstOf (requiredRules T o m)
+  module _ (zero-tag : g ≡ 0) (r : Bool) (er : r ≡ noPart T o t) where
+    pub required-part : r ≡ true → 34 ≡ firstOf (requiredRules T o t g)
     unfolding firstOf requiredRules
-    required-part q = rw (← eg, eq-eqb g 0 zero-tag, ← et, ← er, q)
+    required-part q = rw (eq-eqb g 0 zero-tag, ← er, q)
 
-    pub required-fine : r ≡ false → 0 ≡ firstOf (requiredRules T o m)
+    pub required-fine : r ≡ false → 0 ≡ firstOf (requiredRules T o t g)
     unfolding firstOf requiredRules
-    required-fine q = rw (← eg, eq-eqb g 0 zero-tag, ← et, ← er, q)
+    required-fine q = rw (eq-eqb g 0 zero-tag, ← er, q)
 
-module _ (T : List ℕ) (o m t : ℕ) (et : t ≡ memberType T m) (r : Bool) (er : r ≡ noPart T o t) where
-  pub optional-part : r ≡ true → 34 ≡ firstOf (optionalRules T o m)
+module _ (T : List ℕ) (o m t k g : ℕ) (r : Bool) (er : r ≡ noPart T o t) where
+  pub optional-part : r ≡ true → 34 ≡ firstOf (optionalRules T o m t k g)
   unfolding firstOf optionalRules
-  optional-part q = rw (← et, ← er, q)
+  optional-part q = rw (← er, q)
 
-  module _ (part : r ≡ false) (k : ℕ) (ek : k ≡ mark T m) where
-    pub optional-mark : 1 < k → 36 ≡ firstOf (optionalRules T o m)
+  module _ (part : r ≡ false) where
+    pub optional-mark : 1 < k → 36 ≡ firstOf (optionalRules T o m t k g)
     unfolding firstOf optionalRules
-    optional-mark h = rw (← et, ← er, part, ← ek, lt-ltb 1 k h)
+    optional-mark h = rw (← er, part, lt-ltb 1 k h)
 
     module _ (marked : k ≤ 1) (j : ℕ) (ej : j ≡ kind T o) where
-      pub optional-struct : j ≡ 9 → 36 ≡ firstOf (optionalRules T o m)
+      pub optional-struct : j ≡ 9 → 36 ≡ firstOf (optionalRules T o m t k g)
       unfolding firstOf optionalRules
-      optional-struct h = rw (← et, ← er, part, ← ek, le-ltb 1 k marked, ← ej, eq-eqb j 9 h)
+      optional-struct h = rw (← er, part, le-ltb 1 k marked, ← ej, eq-eqb j 9 h)
 
-      module _ (other : j ≡ 9 → ⊥) (g : ℕ) (eg : g ≡ tag T m) where
-        pub optional-great : 2147483648 ≤ g → 38 ≡ firstOf (optionalRules T o m)
+      module _ (other : j ≡ 9 → ⊥) where
+        pub optional-great : 2147483648 ≤ g → 38 ≡ firstOf (optionalRules T o m t k g)
         unfolding firstOf optionalRules negative
-        optional-great h = rw (← et, ← er, part, ← ek, le-ltb 1 k marked, ← ej, ne-eqb j 9 other, ← eg, le-leb (2 ^ 31) g h)
+        optional-great h = rw (← er, part, le-ltb 1 k marked, ← ej, ne-eqb j 9 other, le-leb (2 ^ 31) g h)
 
-        module _ (small : g < 2147483648) (s : Bool) (es : s ≡ tagAlike T o m) where
-          pub optional-alike : s ≡ true → 38 ≡ firstOf (optionalRules T o m)
+        module _ (small : g < 2147483648) (s : Bool) (es : s ≡ isTagBefore T o m g) where
+          pub optional-alike : s ≡ true → 38 ≡ firstOf (optionalRules T o m t k g)
           unfolding firstOf optionalRules negative
-          optional-alike q = rw (← et, ← er, part, ← ek, le-ltb 1 k marked, ← ej, ne-eqb j 9 other, ← eg, lt-leb (2 ^ 31) g small, ← es, q)
+          optional-alike q = rw (← er, part, le-ltb 1 k marked, ← ej, ne-eqb j 9 other, lt-leb (2 ^ 31) g small, ← es, q)
 
-          pub optional-fine : s ≡ false → 0 ≡ firstOf (optionalRules T o m)
+          pub optional-fine : s ≡ false → 0 ≡ firstOf (optionalRules T o m t k g)
           unfolding firstOf optionalRules negative
-          optional-fine q = rw (← et, ← er, part, ← ek, le-ltb 1 k marked, ← ej, ne-eqb j 9 other, ← eg, lt-leb (2 ^ 31) g small, ← es, q)
+          optional-fine q = rw (← er, part, le-ltb 1 k marked, ← ej, ne-eqb j 9 other, lt-leb (2 ^ 31) g small, ← es, q)
 
-module _ (T : List ℕ) (o m z : ℕ) (ez : z ≡ at T 1 (memberAt T m + 3)) where
+module _ (T : List ℕ) (o m a : ℕ) (ea : drop a T ≡ drop (memberAt T m) T) (z : ℕ) (ez : z ≡ at (take (length T - a) (drop a T)) 1 3) where
   pub member-spare : (z ≡ 0 → ⊥) → 32 ≡ firstOf (memberRulesOf T o m)
   unfolding firstOf memberRulesOf
-  member-spare h = rw (← ez, ne-eqb z 0 h)
+  member-spare h = rw (← member-spare-is T m a ea z ez, ne-eqb z 0 h)
 
-  module _ (spare : z ≡ 0) (k : ℕ) (ek : k ≡ mark T m) (r : ℕ) where
-    pub member-required : k ≡ 0 → r ≡ firstOf (requiredRules T o m) → r ≡ firstOf (memberRulesOf T o m)
+  module _ (spare : z ≡ 0) (t k g : ℕ) (et : t ≡ at (take (length T - a) (drop a T)) 2 0) (ek : k ≡ at (take (length T - a) (drop a T)) 1 2) (eg : g ≡ at (take (length T - a) (drop a T)) 4 4) (r : ℕ) where
+    pub member-required : k ≡ 0 → r ≡ firstOf (requiredRules T o t g) → r ≡ firstOf (memberRulesOf T o m)
     unfolding firstOf memberRulesOf
-    member-required h e = e ∙ sym (rw (← ez, eq-eqb z 0 spare, ← ek, eq-eqb k 0 h))
+    member-required h e = e ∙ sym (rw (← member-spare-is T m a ea z ez, eq-eqb z 0 spare, ← mark-is T m a ea k ek, eq-eqb k 0 h, ← member-type-is T m a ea t et, ← tag-is T m a ea g eg))
 
-    pub member-optional : (k ≡ 0 → ⊥) → r ≡ firstOf (optionalRules T o m) → r ≡ firstOf (memberRulesOf T o m)
+    pub member-optional : (k ≡ 0 → ⊥) → r ≡ firstOf (optionalRules T o m t k g) → r ≡ firstOf (memberRulesOf T o m)
     unfolding firstOf memberRulesOf
-    member-optional h e = e ∙ sym (rw (← ez, eq-eqb z 0 spare, ← ek, ne-eqb k 0 h))
+    member-optional h e = e ∙ sym (rw (← member-spare-is T m a ea z ez, eq-eqb z 0 spare, ← mark-is T m a ea k ek, ne-eqb k 0 h, ← member-type-is T m a ea t et, ← tag-is T m a ea g eg))
 
 -- over the members of one owner
 pub record Owner (T : List ℕ) (o m left : ℕ) : Type 0 where

@@ -27,7 +27,7 @@ use Rattle.encoding.specs.TableLaws.{ty-past, below-ty, below-none, member-in, 
 use Rattle.table.proofs.Places.{rows-below}
 use Rattle.table.specs.Forms.{formNumber, plainForm, formAt, formsOf, Formed, partTy}
 
-by-kind : (P : ℕ → Type 0) → P 0 → P 1 → P 2 → P 3 → P 4 → P 5 → P 6 → P 7 → P 8 → P 9 → P 10 → P 11 → P 12 → ((n : ℕ) → 12 < n → P n) → (k : ℕ) → P k
+pub by-kind : (P : ℕ → Type 0) → P 0 → P 1 → P 2 → P 3 → P 4 → P 5 → P 6 → P 7 → P 8 → P 9 → P 10 → P 11 → P 12 → ((n : ℕ) → 12 < n → P n) → (k : ℕ) → P k
 by-kind P a b c d e f g h i j k l m o zero = a
 by-kind P a b c d e f g h i j k l m o (suc zero) = b
 by-kind P a b c d e f g h i j k l m o (suc (suc zero)) = c

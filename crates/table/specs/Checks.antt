@@ -7,7 +7,8 @@
 --   share                     how many member rows a row takes
 --   typePass, memberPass      the passes over type rows and over member rows
 --   isOptionalOf              a member row is optional and has a tag
---   requiredRules, optionalRules   the rules of a member row with mark 0, or with another
+--   isTagBefore               a member row before m, of owner o, is one
+--   requiredRules, optionalRules   the rules of a member row with mark 0, or with another mark k, by its type t and tag g
 --   memberRulesOf             the rules of a member row of owner o
 --   ownerPass, ownersPass     the member rows of one owner; of several in turn
 use Prim.Native.Nat.{ℕ, _+_, _-_, _*_}
@@ -15,7 +16,7 @@ use mathlib.Core.Bool.{Bool, _&&_, _||_, not}
 use mathlib.Core.List.{List, [], _∷_}
 use lib.Dec.{eqb, ltb}
 use Rattle.encoding.specs.Result.{pick}
-use Rattle.encoding.specs.Table.{at, types, members, names, rowAt, memberAt, kind, field, memberType, mark, tag, isRecord, owns, range, any, great, used, noPart, noBase, alike, tagAlike, typeRules, memberRules, Fault, fine, fault, orElse, pass}
+use Rattle.encoding.specs.Table.{at, types, members, names, rowAt, memberAt, kind, field, memberType, mark, tag, isRecord, owns, range, any, great, used, noPart, noBase, alike, typeRules, memberRules, Fault, fine, fault, orElse, pass}
 use Rattle.table.specs.declared.Verdict.{Verdict}
 use Rattle.table.specs.declared.Verdict.the-variants.{Fine, Broken}
 
@@ -82,21 +83,25 @@ memberPass T = pass (memberAt T) (memberRules T) (range 0 (members T))
 abbrev pub isOptionalOf : List ℕ → ℕ → ℕ → Bool
 isOptionalOf T g i = eqb (mark T i) 1 && eqb (tag T i) g
 
-unfoldable pub requiredRules : List ℕ → ℕ → ℕ → List (ℕ × Bool)
-requiredRules T o m = (32, not (eqb (tag T m) 0)) ∷ (34, noPart T o (memberType T m)) ∷ []
+unfoldable pub isTagBefore : List ℕ → ℕ → ℕ → ℕ → Bool
+isTagBefore T o m g = any (isOptionalOf T g) (range (field T o 0) (m - field T o 0))
 
-unfoldable pub optionalRules : List ℕ → ℕ → ℕ → List (ℕ × Bool)
-optionalRules T o m =
-    (34, noPart T o (memberType T m))
-    ∷ (36, ltb 1 (mark T m))
+unfoldable pub requiredRules : List ℕ → ℕ → ℕ → ℕ → List (ℕ × Bool)
+requiredRules T o t g = (32, not (eqb g 0)) ∷ (34, noPart T o t) ∷ []
+
+unfoldable pub optionalRules : List ℕ → ℕ → ℕ → ℕ → ℕ → ℕ → List (ℕ × Bool)
+optionalRules T o m t k g =
+    (34, noPart T o t)
+    ∷ (36, ltb 1 k)
     ∷ (36, eqb (kind T o) 9)
-    ∷ (38, great (tag T m))
-    ∷ (38, tagAlike T o m)
+    ∷ (38, great g)
+    ∷ (38, isTagBefore T o m g)
     ∷ []
 
 unfoldable pub memberRulesOf : List ℕ → ℕ → ℕ → List (ℕ × Bool)
 memberRulesOf T o m =
-    (32, not (eqb (at T 1 (memberAt T m + 3)) 0)) ∷ pick (eqb (mark T m) 0) (requiredRules T o m) (optionalRules T o m)
+    (32, not (eqb (at T 1 (memberAt T m + 3)) 0))
+    ∷ pick (eqb (mark T m) 0) (requiredRules T o (memberType T m) (tag T m)) (optionalRules T o m (memberType T m) (mark T m) (tag T m))
 
 unfoldable pub ownerPass : List ℕ → ℕ → Fault
 ownerPass T o = pass (memberAt T) (memberRulesOf T o) (range (field T o 0) (share T o))

@@ -16,8 +16,8 @@ use lib.Dec.{eqb, ltb, leb}
 use borrow.Author.Tests.{eqb-true, eqb-false, ltb-false, not-false, lt-leb, le-leb, lt-ltb}
 use Rattle.encoding.specs.Result.{pick, firstOf}
 use Rattle.encoding.specs.Number.{negative}
-use Rattle.encoding.specs.Table.{types, members, rowAt, memberAt, kind, field, mark, tag, isRecord, owns, range, any, taken, takes, ownerOf, great, typeRules, memberRules, headerRules, sumRules, faultAt, Fault, fine, fault, orElse, pass, passes, faults}
-use Rattle.table.specs.Checks.{isUnusedSet, enumRules, structRules, seqRules, dictRules, recordRules, listRules, kindRules, rowRules, share, typePass, memberPass, requiredRules, optionalRules, memberRulesOf, ownerPass, ownersPass}
+use Rattle.encoding.specs.Table.{types, members, rowAt, memberAt, kind, field, mark, tag, isRecord, owns, range, any, taken, takes, ownerOf, tagAlike, great, typeRules, memberRules, headerRules, sumRules, faultAt, Fault, fine, fault, orElse, pass, passes, faults}
+use Rattle.table.specs.Checks.{isUnusedSet, enumRules, structRules, seqRules, dictRules, recordRules, listRules, kindRules, rowRules, share, typePass, memberPass, isTagBefore, requiredRules, optionalRules, memberRulesOf, ownerPass, ownersPass}
 
 -- ---- a type row by its kind
 
@@ -49,7 +49,7 @@ module _ (T : List ℕ) (t : ℕ) where
 
 module _ (T : List ℕ) (m : ℕ) where
   member-rules : firstOf (memberRulesOf T (ownerOf T m (types T)) m) ≡ firstOf (memberRules T m)
-  unfolding firstOf memberRulesOf memberRules requiredRules optionalRules negative
+  unfolding firstOf memberRulesOf memberRules requiredRules optionalRules isTagBefore tagAlike negative
   member-rules =
       either (mark T m) 0
       (λ e. either (tag T m) 0 (λ q. rw (e, q)) (λ q. rw (e, q)))

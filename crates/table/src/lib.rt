@@ -122,14 +122,6 @@ pub fn mark(table: &[u8], m: usize) -> usize
     wire::byte_at(&table[a..], 2)
 }
 
-// A member row's zero byte.
-pub fn member_spare(table: &[u8], m: usize) -> usize
-    ensures { λ r. ⌜ (r ≡ at (now (table .entry)) 1 (memberAt (now (table .entry)) m + 3)) × (r < 256) ⌝ }
-{
-    let a = member(table, m);
-    wire::byte_at(&table[a..], 3)
-}
-
 // A member row's tag.
 pub fn tag(table: &[u8], m: usize) -> usize
     ensures { λ r. ⌜ (r ≡ tag (now (table .entry)) m) × (r < 4294967296) ⌝ }

@@ -3,9 +3,9 @@ use crate::Verdict;
 ghost use mathlib.Core.Path.{_≡_};
 ghost use Prim.Native.Nat.{_<_};
 ghost use Rattle.encoding.specs.Result.{firstOf};
-ghost use Rattle.encoding.specs.Table.{any, range, types, headerRules, used, taken, noPart, noBase, alike, tagAlike, faultAt, faults};
+ghost use Rattle.encoding.specs.Table.{any, range, types, headerRules, used, taken, noPart, noBase, alike, faultAt, faults};
 ghost use Rattle.table.specs.Names.{isNamed};
-ghost use Rattle.table.specs.Checks.{verdictOf, isUnusedSet, enumRules, structRules, seqRules, dictRules, recordRules, listRules, kindRules, rowRules, share, typePass, isOptionalOf, requiredRules, optionalRules, memberRulesOf, ownerPass, ownersPass};
+ghost use Rattle.table.specs.Checks.{verdictOf, isUnusedSet, enumRules, structRules, seqRules, dictRules, recordRules, listRules, kindRules, rowRules, share, typePass, isOptionalOf, isTagBefore, requiredRules, optionalRules, memberRulesOf, ownerPass, ownersPass};
 
 // The class of the header, or 0.
 fn header(table: &[u8]) -> usize
@@ -41,14 +41,27 @@ fn header(table: &[u8]) -> usize
     0
 }
 
-const USED: [usize; 16] = [0, 0, 0, 0, 0, 0, 0, 0, 2, 2, 1, 2, 0, 5, 5, 2];
-
 // How many fields kind k uses, from a on.
 fn used(k: usize) -> usize
     ensures { λ r. ⌜ r ≡ used k ⌝ }
 {
+    if k < 8 {
+        return 0;
+    }
+    if k == 10 {
+        return 1;
+    }
+    if k == 12 {
+        return 0;
+    }
+    if k == 13 {
+        return 5;
+    }
+    if k == 14 {
+        return 5;
+    }
     if k < 16 {
-        return USED[k];
+        return 2;
     }
     5
 }
@@ -283,17 +296,17 @@ fn type_rows(table: &[u8]) -> Verdict
 fn is_optional_of(table: &[u8], i: usize, tag: usize) -> bool
     ensures { λ r. ⌜ r ≡ isOptionalOf (now (table .entry)) tag i ⌝ }
 {
-    if crate::mark(table, i) == 1 {
-        return crate::tag(table, i) == tag;
+    let a = crate::member(table, i);
+    if wire::byte_at(&table[a..], 2) == 1 {
+        return wire::int_at(&table[a..], 4) == tag;
     }
     false
 }
 
-// A member row before m, of owner o, is optional and has m's tag.
-fn tag_alike(table: &[u8], o: usize, m: usize) -> bool
-    ensures { λ r. ⌜ r ≡ tagAlike (now (table .entry)) o m ⌝ }
+// A member row before m, of owner o, is optional and has this tag.
+fn is_tag_before(table: &[u8], o: usize, m: usize, tag: usize) -> bool
+    ensures { λ r. ⌜ r ≡ isTagBefore (now (table .entry)) o m tag ⌝ }
 {
-    let tag = crate::tag(table, m);
     let mut i = crate::field(table, o, 0);
     while i < m {
         if is_optional_of(table, i, tag) {
@@ -304,36 +317,36 @@ fn tag_alike(table: &[u8], o: usize, m: usize) -> bool
     false
 }
 
-// The rules of member row m of owner o where it is required.
-fn required_row(table: &[u8], o: usize, m: usize) -> usize
-    ensures { λ r. ⌜ r ≡ firstOf (requiredRules (now (table .entry)) o m) ⌝ }
+// The rules of a required member of owner o, by its type and tag.
+fn required_row(table: &[u8], o: usize, t: usize, tag: usize) -> usize
+    ensures { λ r. ⌜ r ≡ firstOf (requiredRules (now (table .entry)) o t tag) ⌝ }
 {
-    if crate::tag(table, m) != 0 {
+    if tag != 0 {
         return 32;
     }
-    if no_part(table, o, crate::member_type(table, m)) {
+    if no_part(table, o, t) {
         return 34;
     }
     0
 }
 
-// The rules of member row m of owner o where it is not.
-fn optional_row(table: &[u8], o: usize, m: usize) -> usize
-    ensures { λ r. ⌜ r ≡ firstOf (optionalRules (now (table .entry)) o m) ⌝ }
+// The rules of member row m of owner o with another mark, by its type, mark and tag.
+fn optional_row(table: &[u8], o: usize, m: usize, t: usize, mark: usize, tag: usize) -> usize
+    ensures { λ r. ⌜ r ≡ firstOf (optionalRules (now (table .entry)) o m t mark tag) ⌝ }
 {
-    if no_part(table, o, crate::member_type(table, m)) {
+    if no_part(table, o, t) {
         return 34;
     }
-    if 1 < crate::mark(table, m) {
+    if 1 < mark {
         return 36;
     }
     if crate::kind(table, o) == 9 {
         return 36;
     }
-    if 2147483648 <= crate::tag(table, m) {
+    if 2147483648 <= tag {
         return 38;
     }
-    if tag_alike(table, o, m) {
+    if is_tag_before(table, o, m, tag) {
         return 38;
     }
     0
@@ -343,13 +356,17 @@ fn optional_row(table: &[u8], o: usize, m: usize) -> usize
 fn member_row(table: &[u8], o: usize, m: usize) -> usize
     ensures { λ r. ⌜ r ≡ firstOf (memberRulesOf (now (table .entry)) o m) ⌝ }
 {
-    if crate::member_spare(table, m) != 0 {
+    let a = crate::member(table, m);
+    if wire::byte_at(&table[a..], 3) != 0 {
         return 32;
     }
-    if crate::mark(table, m) == 0 {
-        return required_row(table, o, m);
+    let t = wire::short_at(&table[a..], 0);
+    let mark = wire::byte_at(&table[a..], 2);
+    let tag = wire::int_at(&table[a..], 4);
+    if mark == 0 {
+        return required_row(table, o, t, tag);
     }
-    optional_row(table, o, m)
+    optional_row(table, o, m, t, mark, tag)
 }
 
 // The member rows of owner o.

@@ -19,7 +19,7 @@ same-spec =
     (tie.spec
     Inv-loop
     μ-loop
-    (λ c. search same-lengths)  -- returns
+    (λ c. same-lengths _ _ (λ e. omega arith))  -- returns
     (λ c. search needs)  -- loop-holds
     (λ c. omega arith)  -- shared-slice-read-if2
     (λ c. omega arith)  -- shared-slice-read-if2-2

@@ -1,5 +1,6 @@
 -- By the row's number, then by its kind. Assumes nothing.
 use borrow.Author.Needs.{needs}
+use native.Mathlib.Omega.{arith}
 use Rattle.table.proofs.Judging.{part-above, part-below}
 use Rattle.table.proofs.rules.no_part.Statement.{statement}
 use Rattle.table.proofs.rules.no_part.Tie as tie
@@ -8,6 +9,6 @@ pub no-part-spec : {M : Type 1} → statement M
 no-part-spec =
     tie.close
     (tie.spec
-    (λ c. search part-above)  -- returns
+    (λ c. part-above _ _ _ (omega arith))  -- returns
     (λ c κs. search needs)  -- kind-requires
     (λ c. search part-below))  -- returns-2

@@ -8,15 +8,12 @@ pub optional-row-spec : {M : Type 1} → statement M
 optional-row-spec =
     tie.close
     (tie.spec
-    (λ c κs. search needs)  -- member-type-requires
     (λ c κs. search needs)  -- no-part-requires
     (λ c. search optional-part)  -- returns
-    (λ c κs. search needs)  -- mark-requires
     (λ c. search optional-mark)  -- returns-2
     (λ c κs. search needs)  -- kind-requires
     (λ c. search optional-struct)  -- returns-3
-    (λ c κs. search needs)  -- tag-requires
     (λ c. search optional-great)  -- returns-4
-    (λ c κs. search needs)  -- tag-alike-requires
+    (λ c κs. search needs)  -- is-tag-before-requires
     (λ c. search optional-alike)  -- returns-5
     (λ c. search optional-fine))  -- returns-6

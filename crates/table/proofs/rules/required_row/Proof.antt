@@ -8,9 +8,7 @@ pub required-row-spec : {M : Type 1} → statement M
 required-row-spec =
     tie.close
     (tie.spec
-    (λ c κs. search needs)  -- tag-requires
     (λ c. search required-tag)  -- returns
-    (λ c κs. search needs)  -- member-type-requires
     (λ c κs. search needs)  -- no-part-requires
     (λ c. search required-part)  -- returns-2
     (λ c. search required-fine))  -- returns-3

@@ -1,6 +1,5 @@
--- The array has the numbers of the kinds below 16, and past its end the definition's list gives 5. Assumes nothing.
-use borrow.Author.Needs.{needs}
-use Rattle.table.proofs.Judging.{used-below, used-past}
+-- By the kinds. Assumes nothing.
+use Rattle.table.proofs.Judging.{used-low, used-seq, used-proxy, used-exception, used-class, used-two, used-past}
 use Rattle.table.proofs.rules.used.Statement.{statement}
 use Rattle.table.proofs.rules.used.Tie as tie
 
@@ -8,7 +7,10 @@ pub used-spec : {M : Type 1} → statement M
 used-spec =
     tie.close
     (tie.spec
-    (λ c. search needs)  -- mul-result
-    (λ c. search needs)  -- array-read-result
-    (λ c. used-below (c .before .args .k) (c .if1 .taken))  -- returns
-    (λ c. used-past (c .before .args .k) (c .if1 .left)))  -- returns-2
+    (λ c. search used-low)  -- returns
+    (λ c. search used-seq)  -- returns-2
+    (λ c. search used-proxy)  -- returns-3
+    (λ c. search used-exception)  -- returns-4
+    (λ c. search used-class)  -- returns-5
+    (λ c. search used-two)  -- returns-6
+    (λ c. search used-past))  -- returns-7

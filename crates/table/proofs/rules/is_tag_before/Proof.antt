@@ -3,8 +3,8 @@ use Prim.Native.Nat.{_-_}
 use borrow.Author.Needs.{needs}
 use native.Mathlib.Omega.{arith}
 use Rattle.table.proofs.Judging.{Tags, tags-begin, tags-here, tags-next, tags-end}
-use Rattle.table.proofs.rules.tag_alike.Statement.{statement}
-use Rattle.table.proofs.rules.tag_alike.Tie as tie
+use Rattle.table.proofs.rules.is_tag_before.Statement.{statement}
+use Rattle.table.proofs.rules.is_tag_before.Tie as tie
 
 abbrev Inv-loop : tie.InvT-loop
 Inv-loop table o m tag i₀ i = Tags table o m tag i
@@ -12,13 +12,12 @@ Inv-loop table o m tag i₀ i = Tags table o m tag i
 abbrev μ-loop : tie.MeasureT-loop
 μ-loop table o m tag i₀ i = m - i
 
-pub tag-alike-spec : {M : Type 1} → statement M
-tag-alike-spec =
+pub is-tag-before-spec : {M : Type 1} → statement M
+is-tag-before-spec =
     tie.close
     (tie.spec
     Inv-loop
     μ-loop
-    (λ c κs. search needs)  -- tag-requires
     (λ c κs. search needs)  -- field-requires
     (λ c. search tags-begin)  -- loop-holds
     (λ c κs. search needs)  -- is-optional-of-requires
