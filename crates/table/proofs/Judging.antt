@@ -1,8 +1,8 @@
 -- What the tests of the check tell, rule by rule, and its loops. Assumes nothing.
 --
 --   header-..                  the header's rules in the code's order
---   used-..                    how many fields a kind uses
---   Unused, unused-..          the loop over the fields that a kind does not use
+--   set-.., clear-..           fields that are not 0, from one on
+--   unused-..                  those that a kind does not use
 --   part-.., base-..           references to rows below
 --   Before, before-.., alike-is   the loop over the names before, and that it finds what is alike
 --   enum-.. list-..            the rules of each kind; kind-.. those of a row by its kind; row-.. all of a type row
@@ -22,16 +22,17 @@ use lib.ListN.{length, take, drop, getD, List·getD-eq-default}
 use lib.Dec.{eqb, leb, ltb}
 use borrow.Author.Tests.{eqb-true, eqb-false, lt-ltb, le-ltb, le-leb, lt-leb, eq-eqb, ne-eqb, not-false}
 use Rattle.encoding.specs.Result.{pick, firstOf, sameBytes}
-use Rattle.encoding.specs.Number.{negative}
+use Rattle.encoding.specs.Number.{val, negative}
+use Rattle.wire.specs.At.{at-more}
 use Rattle.encoding.specs.Table.{at, types, members, names, typesAt, rowAt, membersAt, memberAt, namesAt, kind, field, memberType, mark, tag, isRecord, owns, nameOf, range, any, used, taken, noPart, noBase, alike, typeRules, headerTests, headerRules, sumRules, faultAt, Fault, fine, fault, orElse, pass, passes, faults}
 use Rattle.table.specs.Names.{nameStart, isNamed}
 use Rattle.table.specs.NamesLaws.{name-part}
-use Rattle.table.specs.Checks.{verdictOf, isUnusedSet, enumRules, structRules, seqRules, dictRules, recordRules, listRules, kindRules, rowRules, share, typePass, memberPass, isOptionalOf, isTagBefore, requiredRules, optionalRules, memberRulesOf, ownerPass, ownersPass}
+use Rattle.table.specs.Checks.{verdictOf, isSetFrom, enumRules, structRules, seqRules, dictRules, recordRules, listRules, kindRules, rowRules, share, typePass, memberPass, isOptionalOf, isTagBefore, requiredRules, optionalRules, memberRulesOf, ownerPass, ownersPass}
 use Rattle.table.specs.ChecksLaws.{row-rules, owners-pass}
 use Rattle.table.specs.declared.Verdict.{Verdict}
 use Rattle.table.specs.declared.Verdict.the-variants.{Fine, Broken}
 use Rattle.table.proofs.Ranges.{range-more, range-none, range-left, range-empty, any-here, any-next, any-none}
-use Rattle.table.proofs.Places.{member-type-is, mark-is, member-spare-is, tag-is}
+use Rattle.table.proofs.Places.{at-from, field-is, member-type-is, mark-is, member-spare-is, tag-is}
 use Rattle.table.proofs.Shapes.{by-kind}
 
 -- ---- header
@@ -85,62 +86,119 @@ module _ (T : List ℕ) (long : 12 ≤ length T) (s : Bool) (es : s ≡ sameByte
 
 -- ---- fields that a kind does not use
 
-module _ (k : ℕ) where
-  pub used-low : k < 8 → 0 ≡ used k
+int-shorts : (T : List ℕ) (p : ℕ) → at T 4 p ≡ at T 2 p + 65536 * at T 2 (p + 2)
+unfolding at val
+int-shorts T p =
+    let e : suc (suc p) ≡ p + 2 = omega arith in
+    let q : at T 2 (suc (suc p)) ≡ at T 2 (p + 2) = ap (at T 2) e in
+    at-more T 3 p ∙ omega (arith, at-more T 2 (suc p), at-more T 1 p, at-more T 0 (suc p), q)
+
+-- fields that stand one behind the other, as one int
+module _ (T : List ℕ) (t i : ℕ) where
+  fields-int : at T 4 (rowAt T t + (2 + 2 * i)) ≡ field T t i + 65536 * field T t (suc i)
+  unfolding field
+  fields-int =
+      let a : rowAt T t + (2 + 2 * i) ≡ rowAt T t + 2 + 2 * i = omega arith in
+      let b : rowAt T t + 2 + 2 * i + 2 ≡ rowAt T t + 2 + 2 * suc i = omega arith in
+      ap (at T 4) a ∙ int-shorts T (rowAt T t + 2 + 2 * i) ∙ ap (λ (z : ℕ). at T 2 (rowAt T t + 2 + 2 * i) + 65536 * at T 2 z) b
+
+two-set : (a b : ℕ) (r : Bool) → (a + 65536 * b ≡ 0 → ⊥) → true ≡ not (eqb a 0) || (not (eqb b 0) || r)
+two-set a b r h = go (eqb a 0) refl
+  where
+    go : (x : Bool) → eqb a 0 ≡ x → true ≡ not x || (not (eqb b 0) || r)
+    go false e = refl
+    go true e = let z : b ≡ 0 → ⊥ = λ q. h (omega (arith, eqb-true)) in rw (ne-eqb b 0 z)
+
+two-clear : (a b : ℕ) (r : Bool) → a + 65536 * b ≡ 0 → r ≡ not (eqb a 0) || (not (eqb b 0) || r)
+two-clear a b r h =
+    let x : a ≡ 0 = omega arith in
+    let y : b ≡ 0 = omega arith in
+    rw (x, y)
+
+module _ (T : List ℕ) (t : ℕ) where
+  from-b : isSetFrom T t 1 ≡ not (eqb (field T t 1) 0) || isSetFrom T t 2
+  unfolding isSetFrom any range
+  from-b = refl
+
+  pub set-b : (f : ℕ) → f ≡ field T t 1 → (f ≡ 0 → ⊥) → true ≡ isSetFrom T t 1
+  set-b f e h = sym (from-b ∙ rw (← e, ne-eqb f 0 h))
+
+  pub clear-b : (f : ℕ) → f ≡ field T t 1 → f ≡ 0 → (r : Bool) → r ≡ isSetFrom T t 2 → r ≡ isSetFrom T t 1
+  clear-b f e h r q = q ∙ sym (from-b ∙ rw (← e, eq-eqb f 0 h))
+
+  module _ (a : ℕ) (ea : drop a T ≡ drop (rowAt T t) T) (r : ℕ) where
+    pub set-c : r ≡ at (take (length T - a) (drop a T)) 4 6 → (r ≡ 0 → ⊥) → true ≡ isSetFrom T t 2
+    unfolding isSetFrom any range
+    set-c e h = two-set (field T t 2) (field T t 3) _ (λ q. h (at-from T a (rowAt T t) ea r 4 6 e ∙ fields-int T t 2 ∙ q))
+
+    pub clear-c : r ≡ at (take (length T - a) (drop a T)) 4 6 → r ≡ 0 → (s : ℕ) → s ≡ at (take (length T - a) (drop a T)) 2 10 → not (eqb s 0) ≡ isSetFrom T t 2
+    unfolding isSetFrom any range
+    clear-c e h s es =
+        let q : s ≡ field T t 4 = field-is T t a ea s 4 es in
+        rw q (last ∙ two-clear (field T t 2) (field T t 3) _ (sym (fields-int T t 2) ∙ sym (at-from T a (rowAt T t) ea r 4 6 e) ∙ h))
+      where
+        last : not (eqb (field T t 4) 0) ≡ not (eqb (field T t 4) 0) || false
+        last = go (not (eqb (field T t 4) 0))
+          where
+            go : (b : Bool) → b ≡ b || false
+            go true = refl
+            go false = refl
+
+    pub set-a : r ≡ at (take (length T - a) (drop a T)) 4 2 → (r ≡ 0 → ⊥) → true ≡ isSetFrom T t 0
+    unfolding isSetFrom any range
+    set-a e h = two-set (field T t 0) (field T t 1) _ (λ q. h (at-from T a (rowAt T t) ea r 4 2 e ∙ fields-int T t 0 ∙ q))
+
+    pub clear-a : r ≡ at (take (length T - a) (drop a T)) 4 2 → r ≡ 0 → (b : Bool) → b ≡ isSetFrom T t 2 → b ≡ isSetFrom T t 0
+    unfolding isSetFrom any range
+    clear-a e h b q = q ∙ two-clear (field T t 0) (field T t 1) _ (sym (fields-int T t 0) ∙ sym (at-from T a (rowAt T t) ea r 4 2 e) ∙ h)
+
+-- by the kind
+used-low : (k : ℕ) → k < 8 → 0 ≡ used k
+unfolding used
+used-low = by-kind (λ n. n < 8 → 0 ≡ used n)
+    (λ h. refl) (λ h. refl) (λ h. refl) (λ h. refl) (λ h. refl) (λ h. refl) (λ h. refl) (λ h. refl)
+    (λ h. absurd (omega arith)) (λ h. absurd (omega arith)) (λ h. absurd (omega arith)) (λ h. absurd (omega arith)) (λ h. absurd (omega arith))
+    (λ n l h. absurd (omega arith))
+
+used-two : (k : ℕ) → 8 ≤ k → (k ≡ 10 → ⊥) → (k ≡ 12 → ⊥) → (k ≡ 13 → ⊥) → (k ≡ 14 → ⊥) → k < 16 → 2 ≡ used k
+unfolding used
+used-two = by-kind (λ n. 8 ≤ n → (n ≡ 10 → ⊥) → (n ≡ 12 → ⊥) → (n ≡ 13 → ⊥) → (n ≡ 14 → ⊥) → n < 16 → 2 ≡ used n)
+    (λ h a b c d l. absurd (omega arith)) (λ h a b c d l. absurd (omega arith)) (λ h a b c d l. absurd (omega arith)) (λ h a b c d l. absurd (omega arith))
+    (λ h a b c d l. absurd (omega arith)) (λ h a b c d l. absurd (omega arith)) (λ h a b c d l. absurd (omega arith)) (λ h a b c d l. absurd (omega arith))
+    (λ h a b c d l. refl) (λ h a b c d l. refl) (λ h a b c d l. absurd (a refl)) (λ h a b c d l. refl) (λ h a b c d l. absurd (b refl))
+    (λ n g h a b c d l. let z : n ≡ 15 = omega arith in rw z)
+
+module _ (T : List ℕ) (t k : ℕ) (b : Bool) where
+  pub unused-low : k < 8 → b ≡ isSetFrom T t 0 → b ≡ isSetFrom T t (used k)
+  unused-low h e = e ∙ ap (isSetFrom T t) (used-low k h)
+
+  pub unused-seq : k ≡ 10 → b ≡ isSetFrom T t 1 → b ≡ isSetFrom T t (used k)
   unfolding used
-  used-low = by-kind (λ n. n < 8 → 0 ≡ used n)
-      (λ h. refl) (λ h. refl) (λ h. refl) (λ h. refl) (λ h. refl) (λ h. refl) (λ h. refl) (λ h. refl)
-      (λ h. absurd (omega arith)) (λ h. absurd (omega arith)) (λ h. absurd (omega arith)) (λ h. absurd (omega arith)) (λ h. absurd (omega arith))
-      (λ n l h. absurd (omega arith)) k
+  unused-seq h e = rw h e
 
-  pub used-seq : k ≡ 10 → 1 ≡ used k
+  pub unused-proxy : k ≡ 12 → b ≡ isSetFrom T t 0 → b ≡ isSetFrom T t (used k)
   unfolding used
-  used-seq e = rw e
+  unused-proxy h e = rw h e
 
-  pub used-proxy : k ≡ 12 → 0 ≡ used k
+  pub unused-two : 8 ≤ k → (k ≡ 10 → ⊥) → (k ≡ 12 → ⊥) → (k ≡ 13 → ⊥) → (k ≡ 14 → ⊥) → k < 16 → b ≡ isSetFrom T t 2 → b ≡ isSetFrom T t (used k)
+  unused-two h x y z w l e = e ∙ ap (isSetFrom T t) (used-two k h x y z w l)
+
+module _ (T : List ℕ) (t k : ℕ) where
+  none-set : false ≡ isSetFrom T t 5
+  unfolding isSetFrom any range
+  none-set = refl
+
+  pub unused-exception : k ≡ 13 → false ≡ isSetFrom T t (used k)
   unfolding used
-  used-proxy e = rw e
+  unused-exception h = rw h none-set
 
-  pub used-exception : k ≡ 13 → 5 ≡ used k
+  pub unused-class : k ≡ 14 → false ≡ isSetFrom T t (used k)
   unfolding used
-  used-exception e = rw e
+  unused-class h = rw h none-set
 
-  pub used-class : k ≡ 14 → 5 ≡ used k
+  pub unused-unknown : 16 ≤ k → false ≡ isSetFrom T t (used k)
   unfolding used
-  used-class e = rw e
-
-  pub used-two : 8 ≤ k → (k ≡ 10 → ⊥) → (k ≡ 12 → ⊥) → (k ≡ 13 → ⊥) → (k ≡ 14 → ⊥) → k < 16 → 2 ≡ used k
-  unfolding used
-  used-two = by-kind (λ n. 8 ≤ n → (n ≡ 10 → ⊥) → (n ≡ 12 → ⊥) → (n ≡ 13 → ⊥) → (n ≡ 14 → ⊥) → n < 16 → 2 ≡ used n)
-      (λ h a b c d l. absurd (omega arith)) (λ h a b c d l. absurd (omega arith)) (λ h a b c d l. absurd (omega arith)) (λ h a b c d l. absurd (omega arith))
-      (λ h a b c d l. absurd (omega arith)) (λ h a b c d l. absurd (omega arith)) (λ h a b c d l. absurd (omega arith)) (λ h a b c d l. absurd (omega arith))
-      (λ h a b c d l. refl) (λ h a b c d l. refl) (λ h a b c d l. absurd (a refl)) (λ h a b c d l. refl) (λ h a b c d l. absurd (b refl))
-      (λ n g h a b c d l. let z : n ≡ 15 = omega arith in rw z) k
-
-  pub used-past : 16 ≤ k → 5 ≡ used k
-  unfolding used
-  used-past h = sym (List·getD-eq-default (0 ∷ 0 ∷ 0 ∷ 0 ∷ 0 ∷ 0 ∷ 0 ∷ 0 ∷ 2 ∷ 2 ∷ 1 ∷ 2 ∷ 0 ∷ 5 ∷ 5 ∷ 2 ∷ []) 5 {n = k} h)
-
-abbrev isSet : List ℕ → ℕ → ℕ → Bool
-isSet T t i = not (eqb (field T t i) 0)
-
-pub record Unused (T : List ℕ) (t k i : ℕ) : Type 0 where
-  pub rest : isUnusedSet T t k ≡ any (isSet T t) (range i (5 - i))
-
-pub unused-begin : (T : List ℕ) (t k i : ℕ) → i ≡ used k → Unused T t k i
-unfolding isUnusedSet
-unused-begin T t k i e = rw e record { rest = refl }
-
-module _ (T : List ℕ) (t k i : ℕ) (inv : Unused T t k i) where
-  module _ (h : i < 5) (f : ℕ) (e : f ≡ field T t i) where
-    pub unused-here : (f ≡ 0 → ⊥) → true ≡ isUnusedSet T t k
-    unused-here z = sym (inv .rest ∙ any-here (isSet T t) i 5 h (rw (ne-eqb (field T t i) 0 (λ q. z (e ∙ q)))))
-
-    pub unused-next : f ≡ 0 → Unused T t k (i + 1)
-    unused-next z = record { rest = inv .rest ∙ any-next (isSet T t) i 5 h (rw (eq-eqb (field T t i) 0 (sym e ∙ z))) }
-
-  pub unused-end : 5 ≤ i → false ≡ isUnusedSet T t k
-  unused-end h = sym (inv .rest ∙ any-none (isSet T t) i 5 h)
+  unused-unknown h = rw (List·getD-eq-default {A = ℕ} (0 ∷ 0 ∷ 0 ∷ 0 ∷ 0 ∷ 0 ∷ 0 ∷ 0 ∷ 2 ∷ 2 ∷ 1 ∷ 2 ∷ 0 ∷ 5 ∷ 5 ∷ 2 ∷ []) 5 {n = k} h) none-set
 
 -- ---- references
 
@@ -340,7 +398,7 @@ module _ (T : List ℕ) (t n z : ℕ) (ez : z ≡ at T 1 (rowAt T t + 1)) where
   unfolding firstOf rowRules
   row-spare h = rw (← ez, ne-eqb z 0 h)
 
-  module _ (spare : z ≡ 0) (k : ℕ) (ek : k ≡ kind T t) (u : Bool) (eu : u ≡ isUnusedSet T t k) where
+  module _ (spare : z ≡ 0) (k : ℕ) (ek : k ≡ kind T t) (u : Bool) (eu : u ≡ isSetFrom T t (used k)) where
     pub row-unused : u ≡ true → 32 ≡ firstOf (rowRules T t n)
     unfolding firstOf rowRules
     row-unused q = rw (← ez, eq-eqb z 0 spare, ← ek, ← eu, q)

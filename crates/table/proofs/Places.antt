@@ -2,6 +2,7 @@
 --
 --   row-here, row-past                              where a type row begins, or the table's end for a row past it
 --   member-here, member-short, member-far           the same of a member row
+--   at-from                                         a number of the part that begins at a place
 --   kind-is .. tag-is                               a field of a row, read from the part that begins at the row
 --   field-past                                      a field past the table's end
 --   rows-few, rows-many                             how many rows have a tree
@@ -50,7 +51,7 @@ module _ (T : List ℕ) (m n : ℕ) (e : n ≡ types T) where
   member-far l h = past T (12 + 12 * types T + 8 * m) (omega arith)
 
 module _ (T : List ℕ) (a p : ℕ) (e : drop a T ≡ drop p T) (r : ℕ) where
-  at-from : (k i : ℕ) → r ≡ at (take (length T - a) (drop a T)) k i → r ≡ at T k (p + i)
+  pub at-from : (k i : ℕ) → r ≡ at (take (length T - a) (drop a T)) k i → r ≡ at T k (p + i)
   unfolding at
   at-from k i h =
       let z : take (length T - a) (drop a T) ≡ drop a T = take-all (length T - a) (drop a T) (omega (arith, length-drop a T)) in

@@ -1,7 +1,7 @@
 -- The rules of a table as the code takes them: the type rules by kind, the member rules by owner.
 --
 --   verdictOf                 fine, or the class and the place of the first rule that is broken
---   isUnusedSet               a field that kind k does not use is not 0
+--   isSetFrom                 a field of a row, from field i on, is not 0
 --   enumRules .. listRules    the rules that a kind has; n is the number of member rows taken before
 --   kindRules, rowRules       those of kind k; all of a type row
 --   share                     how many member rows a row takes
@@ -26,8 +26,8 @@ verdictOf (fault c p) = Broken c p
 
 -- ---- type rows
 
-unfoldable pub isUnusedSet : List ℕ → ℕ → ℕ → Bool
-isUnusedSet T t k = any (λ i. not (eqb (field T t i) 0)) (range (used k) (5 - used k))
+unfoldable pub isSetFrom : List ℕ → ℕ → ℕ → Bool
+isSetFrom T t i = any (λ i. not (eqb (field T t i) 0)) (range i (5 - i))
 
 unfoldable pub enumRules : List ℕ → ℕ → List (ℕ × Bool)
 enumRules T t = (38, great (field T t 0 + 65536 * field T t 1)) ∷ []
@@ -65,7 +65,7 @@ kindRules T t k n =
 unfoldable pub rowRules : List ℕ → ℕ → ℕ → List (ℕ × Bool)
 rowRules T t n =
     (32, not (eqb (at T 1 (rowAt T t + 1)) 0))
-    ∷ (32, isUnusedSet T t (kind T t))
+    ∷ (32, isSetFrom T t (used (kind T t)))
     ∷ (33, ltb 15 (kind T t))
     ∷ kindRules T t (kind T t) n
 

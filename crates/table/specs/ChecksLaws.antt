@@ -17,7 +17,7 @@ use borrow.Author.Tests.{eqb-true, eqb-false, ltb-false, not-false, lt-leb, le-l
 use Rattle.encoding.specs.Result.{pick, firstOf}
 use Rattle.encoding.specs.Number.{negative}
 use Rattle.encoding.specs.Table.{types, members, rowAt, memberAt, kind, field, mark, tag, isRecord, owns, range, any, taken, takes, ownerOf, tagAlike, great, typeRules, memberRules, headerRules, sumRules, faultAt, Fault, fine, fault, orElse, pass, passes, faults}
-use Rattle.table.specs.Checks.{isUnusedSet, enumRules, structRules, seqRules, dictRules, recordRules, listRules, kindRules, rowRules, share, typePass, memberPass, isTagBefore, requiredRules, optionalRules, memberRulesOf, ownerPass, ownersPass}
+use Rattle.table.specs.Checks.{isSetFrom, enumRules, structRules, seqRules, dictRules, recordRules, listRules, kindRules, rowRules, share, typePass, memberPass, isTagBefore, requiredRules, optionalRules, memberRulesOf, ownerPass, ownersPass}
 
 -- ---- a type row by its kind
 
@@ -42,7 +42,7 @@ module _ (T : List ℕ) (t : ℕ) where
       either (kind T t) 15 (λ e. rw e) (λ e15. rw (e8, e9, e10, e11, e13, e14, e15))))))))
 
   pub row-rules : firstOf (rowRules T t (taken T t)) ≡ firstOf (typeRules T t)
-  unfolding firstOf rowRules typeRules isUnusedSet
+  unfolding firstOf rowRules typeRules isSetFrom
   row-rules = rw kind-rules
 
 -- ---- a member row by its mark

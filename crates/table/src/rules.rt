@@ -5,7 +5,7 @@ ghost use Prim.Native.Nat.{_<_};
 ghost use Rattle.encoding.specs.Result.{firstOf};
 ghost use Rattle.encoding.specs.Table.{any, range, types, headerRules, used, taken, noPart, noBase, alike, faultAt, faults};
 ghost use Rattle.table.specs.Names.{isNamed};
-ghost use Rattle.table.specs.Checks.{verdictOf, isUnusedSet, enumRules, structRules, seqRules, dictRules, recordRules, listRules, kindRules, rowRules, share, typePass, isOptionalOf, isTagBefore, requiredRules, optionalRules, memberRulesOf, ownerPass, ownersPass};
+ghost use Rattle.table.specs.Checks.{verdictOf, isSetFrom, enumRules, structRules, seqRules, dictRules, recordRules, listRules, kindRules, rowRules, share, typePass, isOptionalOf, isTagBefore, requiredRules, optionalRules, memberRulesOf, ownerPass, ownersPass};
 
 // The class of the header, or 0.
 fn header(table: &[u8]) -> usize
@@ -41,41 +41,59 @@ fn header(table: &[u8]) -> usize
     0
 }
 
-// How many fields kind k uses, from a on.
-fn used(k: usize) -> usize
-    ensures { λ r. ⌜ r ≡ used k ⌝ }
+// One of the fields c, d, e of row t is not 0: c and d are read as one int.
+fn is_set_from_c(table: &[u8], t: usize) -> bool
+    ensures { λ r. ⌜ r ≡ isSetFrom (now (table .entry)) t 2 ⌝ }
 {
-    if k < 8 {
-        return 0;
+    let a = crate::row(table, t);
+    if wire::int_at(&table[a..], 6) != 0 {
+        return true;
     }
-    if k == 10 {
-        return 1;
+    wire::short_at(&table[a..], 10) != 0
+}
+
+// One of the fields b to e of row t is not 0.
+fn is_set_from_b(table: &[u8], t: usize) -> bool
+    ensures { λ r. ⌜ r ≡ isSetFrom (now (table .entry)) t 1 ⌝ }
+{
+    if crate::field(table, t, 1) != 0 {
+        return true;
     }
-    if k == 12 {
-        return 0;
+    is_set_from_c(table, t)
+}
+
+// One of the fields of row t is not 0: a and b are read as one int.
+fn is_set_from_a(table: &[u8], t: usize) -> bool
+    ensures { λ r. ⌜ r ≡ isSetFrom (now (table .entry)) t 0 ⌝ }
+{
+    let a = crate::row(table, t);
+    if wire::int_at(&table[a..], 2) != 0 {
+        return true;
     }
-    if k == 13 {
-        return 5;
-    }
-    if k == 14 {
-        return 5;
-    }
-    if k < 16 {
-        return 2;
-    }
-    5
+    is_set_from_c(table, t)
 }
 
 // A field of row t that kind k does not use is not 0.
 fn is_unused_set(table: &[u8], t: usize, k: usize) -> bool
-    ensures { λ r. ⌜ r ≡ isUnusedSet (now (table .entry)) t k ⌝ }
+    ensures { λ r. ⌜ r ≡ isSetFrom (now (table .entry)) t (used k) ⌝ }
 {
-    let mut i = used(k);
-    while i < 5 {
-        if crate::field(table, t, i) != 0 {
-            return true;
-        }
-        i += 1;
+    if k < 8 {
+        return is_set_from_a(table, t);
+    }
+    if k == 10 {
+        return is_set_from_b(table, t);
+    }
+    if k == 12 {
+        return is_set_from_a(table, t);
+    }
+    if k == 13 {
+        return false;
+    }
+    if k == 14 {
+        return false;
+    }
+    if k < 16 {
+        return is_set_from_c(table, t);
     }
     false
 }

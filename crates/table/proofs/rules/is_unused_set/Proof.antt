@@ -1,28 +1,21 @@
--- The loop's invariant: the fields left to look at decide. The measure is their number. Assumes nothing.
-use Prim.Native.Nat.{_-_}
+-- By the kinds, each with the number of fields that it uses. Assumes nothing.
 use borrow.Author.Needs.{needs}
-use native.Mathlib.Omega.{arith}
-use Rattle.table.proofs.Judging.{Unused, unused-begin, unused-here, unused-next, unused-end}
+use Rattle.table.proofs.Judging.{unused-low, unused-seq, unused-proxy, unused-exception, unused-class, unused-two, unused-unknown}
 use Rattle.table.proofs.rules.is_unused_set.Statement.{statement}
 use Rattle.table.proofs.rules.is_unused_set.Tie as tie
-
-abbrev Inv-loop : tie.InvT-loop
-Inv-loop table t k i₀ i = Unused table t k i
-
-abbrev μ-loop : tie.MeasureT-loop
-μ-loop table t k i₀ i = 5 - i
 
 pub is-unused-set-spec : {M : Type 1} → statement M
 is-unused-set-spec =
     tie.close
     (tie.spec
-    Inv-loop
-    μ-loop
-    (λ c κs. search needs)  -- used-requires
-    (λ c. search unused-begin)  -- loop-holds
-    (λ c κs. search needs)  -- field-requires
-    (λ c. search unused-here)  -- returns
-    (λ c. omega arith)  -- add-i
-    (λ c. omega arith)  -- loop-less
-    (λ c. search unused-next)  -- loop-again
-    (λ c. search unused-end))  -- returns-2
+    (λ c κs. search needs)  -- is-set-from-a-requires
+    (λ c. search unused-low)  -- returns
+    (λ c κs. search needs)  -- is-set-from-b-requires
+    (λ c. search unused-seq)  -- returns-2
+    (λ c κs. search needs)  -- is-set-from-a-requires-2
+    (λ c. search unused-proxy)  -- returns-3
+    (λ c. search unused-exception)  -- returns-4
+    (λ c. search unused-class)  -- returns-5
+    (λ c κs. search needs)  -- is-set-from-c-requires
+    (λ c. search unused-two)  -- returns-6
+    (λ c. search unused-unknown))  -- returns-7
