@@ -55,6 +55,7 @@ Exact =
     → (rules T top m ≡ ok (readAs f p) n → Follows T top m f p × (n ≡ length m))
     × (Follows T top m f p → rules T top m ≡ ok (readAs f p) (length m))
 
+-- each element of a list has a property
 pub data All {A : Type 0} (P : A → Type 0) : List A → Type 0 where
   end : All P []
   more : {a : A} {l : List A} → P a → All P l → All P (a ∷ l)
@@ -99,6 +100,7 @@ ExactCounts =
     (T : List ℕ) (top : ℕ) (m : List ℕ) (f : Format) (p : Pieces) (n : ℕ) → Bytes m → rules T top m ≡ ok (readAs f p) n
     → (length (rows T top f p) + optionalsSkipped p ≡ memberCount p) × (knownCount T top p + slicesSkipped p ≡ sliceCount p)
 
+-- a value is what the grammar says, no more and no less
 abbrev pub ExactValues : Type 0
 ExactValues = (t : Ty) (b : List ℕ) → Bytes b → (exact t b ≡ true → IsValue t b) × (IsValue t b → exact t b ≡ true)
 
@@ -217,6 +219,7 @@ pub data Kept (old new : List ℕ) (top top′ : ℕ) : List Row → List Row �
   lost : {r : Row} {rs rs′ : List Row} → ((m : ℕ) → Counterpart old new top top′ m (r .member) → ⊥)
       → Kept old new top top′ rs rs′ → Kept old new top top′ (r ∷ rs) rs′
 
+-- the type ID of the first slice
 unfoldable pub firstId : List Slice → List ℕ
 firstId [] = []
 firstId (s ∷ ss) = idOf s
