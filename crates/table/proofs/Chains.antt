@@ -5,19 +5,16 @@
 --   Optionals, optionals-..   the loop over a row's optional members that looks for a tag
 use Prim.Native.Nat.{ℕ, zero, suc, _+_, _-_, _≤_, _<_}
 use mathlib.Core.Path.{_≡_, refl, sym, ap, _∙_}
-use mathlib.Core.Bool.{Bool, true, false, _&&_, _||_, not}
-use mathlib.Core.Option.{Option, none, some}
-use mathlib.Core.List.{List, [], _∷_}
+use mathlib.Core.Bool.{Bool, true, false, _&&_, not}
+use mathlib.Core.List.{List, _∷_}
 use native.Mathlib.Numerals.{sub-one}
 use native.Mathlib.Omega.{arith}
-use lib.Dec.{eqb, leb, ltb}
-use borrow.Author.Tests.{le-leb, lt-leb, lt-ltb, le-ltb, eq-eqb, ne-eqb}
+use lib.Dec.{eqb, ltb}
+use borrow.Author.Tests.{le-leb, lt-leb, eq-eqb, ne-eqb}
 use Rattle.encoding.specs.Result.{pick}
-use Rattle.encoding.specs.Types.{Ty}
 use Rattle.encoding.specs.Table.{kind, field, isRecord, mark, tag, range, takes, any, base, upward, chain, Member, memberTy, optionalOf, ownRows, trees, optional, lookup}
 use Rattle.encoding.specs.TableLaws.{chain-row}
 use Rattle.table.specs.Found.{rowFound, hasTag}
-use Rattle.table.specs.declared.Found.{Found}
 use Rattle.table.specs.declared.Found.the-variants.{At, Nothing}
 use Rattle.table.proofs.Ranges.{range-left, range-empty}
 

@@ -7,7 +7,7 @@
 --   Before, before-.., alike-is   the loop over the names before, and that it finds what is alike
 --   enum-.. list-..            the rules of each kind; kind-.. those of a row by its kind; row-.. all of a type row
 --   share-.., Sum, sum-..      the member rows that rows take
---   Types, types-..            the pass over the type rows
+--   Types, types-..            the pass over the type rows and the member sum
 --   Tags, tags-..              the loop over the tags before
 --   required-.., optional-.., member-..   the rules of a member row
 --   Owner, owner-..            the member rows of one owner; Owners, owners-.. of all owners
@@ -18,17 +18,17 @@ use mathlib.Core.Bool.{Bool, true, false, _&&_, _||_, not}
 use mathlib.Core.List.{List, [], _∷_}
 use native.Mathlib.Numerals.{add-one, sub-one}
 use native.Mathlib.Omega.{arith}
-use lib.ListN.{length, take, drop, getD, List·getD-eq-default}
-use lib.Dec.{eqb, leb, ltb}
-use borrow.Author.Tests.{eqb-true, eqb-false, lt-ltb, le-ltb, le-leb, lt-leb, eq-eqb, ne-eqb, not-false}
+use lib.ListN.{length, take, drop, List·getD-eq-default}
+use lib.Dec.{eqb, ltb}
+use borrow.Author.Tests.{eqb-true, eqb-false, lt-ltb, le-ltb, le-leb, lt-leb, eq-eqb, ne-eqb}
 use Rattle.encoding.specs.Result.{pick, firstOf, sameBytes}
 use Rattle.encoding.specs.Number.{val, negative}
 use Rattle.wire.specs.At.{at-more}
-use Rattle.encoding.specs.Table.{at, types, members, names, typesAt, rowAt, membersAt, memberAt, namesAt, kind, field, memberType, mark, tag, isRecord, owns, nameOf, range, any, used, taken, noPart, noBase, alike, typeRules, headerTests, headerRules, sumRules, faultAt, Fault, fine, fault, orElse, pass, passes, faults}
+use Rattle.encoding.specs.Table.{at, types, members, names, typesAt, rowAt, membersAt, memberAt, namesAt, kind, field, mark, isRecord, owns, nameOf, range, any, used, taken, noPart, noBase, alike, typeRules, headerTests, headerRules, sumRules, faultAt, Fault, fine, fault, orElse, pass, passes, faults}
 use Rattle.table.specs.Names.{nameStart, isNamed}
 use Rattle.table.specs.NamesLaws.{name-part}
 use Rattle.table.specs.Checks.{verdictOf, isSetFrom, enumRules, structRules, seqRules, dictRules, recordRules, listRules, kindRules, rowRules, share, typePass, memberPass, isOptionalOf, isTagBefore, requiredRules, optionalRules, memberRulesOf, ownerPass, ownersPass}
-use Rattle.table.specs.ChecksLaws.{row-rules, owners-pass}
+use Rattle.table.specs.ChecksLaws.{row-rules, or-assoc, owners-pass}
 use Rattle.table.specs.declared.Verdict.{Verdict}
 use Rattle.table.specs.declared.Verdict.the-variants.{Fine, Broken}
 use Rattle.table.proofs.Ranges.{range-more, range-none, range-left, range-empty, any-here, any-next, any-none}
@@ -435,9 +435,6 @@ pub sum-next : (T : List ℕ) (t sum s : ℕ) → Sum T t sum → s ≡ share T 
 unfolding taken share
 sum-next T t sum s inv e h = record { so-far = rw (add-one, inv .so-far, e); bound = omega (arith, inv .bound) }
 
-pub sum-end : (T : List ℕ) (n t sum : ℕ) → Sum T t sum → t ≤ n → n ≤ t → sum ≡ taken T n
-sum-end T n t sum inv a b = let z : t ≡ n = omega arith in rw z at (inv .so-far)
-
 -- ---- a pass
 
 module _ (place : ℕ → ℕ) (f : ℕ → List (ℕ × Bool)) (r c : ℕ) (l : List ℕ) (e : c ≡ firstOf (f r)) where
@@ -453,7 +450,22 @@ module _ (place : ℕ → ℕ) (f : ℕ → List (ℕ × Bool)) (r c : ℕ) (l :
   unfolding pass orElse faultAt
   pass-next h = rw (← e, h)
 
--- over the type rows
+or-verdict : (f g : Fault) → verdictOf f ≡ Fine → verdictOf (orElse f g) ≡ verdictOf g
+unfolding verdictOf orElse
+or-verdict fine g e = refl
+or-verdict (fault c p) g e = let z : _≡_ {A = ℕ} 0 1 = cc in absurd (omega arith)
+
+or-broken : (f g : Fault) (c p : ℕ) → verdictOf f ≡ Broken c p → verdictOf (orElse f g) ≡ Broken c p
+unfolding verdictOf orElse
+or-broken fine g c p e = let z : _≡_ {A = ℕ} 0 1 = cc in absurd (omega arith)
+or-broken (fault k q) g c p e = e
+
+is-fine : (f : Fault) → verdictOf f ≡ Fine → f ≡ fine
+unfolding verdictOf
+is-fine fine e = refl
+is-fine (fault c p) e = let z : _≡_ {A = ℕ} 0 1 = cc in absurd (omega arith)
+
+-- over the type rows, and the member sum
 pub record Types (T : List ℕ) (n t prior : ℕ) : Type 0 where
   pub within : t ≤ n
   pub few : n < 65536
@@ -465,17 +477,29 @@ unfolding typePass
 types-begin T n e h = let z : n - 0 ≡ types T = omega arith in record { within = omega arith; few = h; sum = sum-begin T; rest = rw z }
 
 module _ (T : List ℕ) (n t prior : ℕ) (inv : Types T n t prior) where
-  pub types-end : n ≤ t → Fine ≡ verdictOf (typePass T)
-  unfolding verdictOf pass
-  types-end h = sym (inv .rest ∙ rw (range-none t n h))
+  module _ (e : n ≡ types T) (h : n ≤ t) (m : ℕ) (em : m ≡ members T) where
+    rows-fine : verdictOf (orElse (typePass T) (sumRules T)) ≡ verdictOf (sumRules T)
+    unfolding verdictOf pass
+    rows-fine = or-verdict (typePass T) (sumRules T) (inv .rest ∙ rw (range-none t n h))
+
+    sum-is : prior ≡ taken T (types T)
+    sum-is = let z : t ≡ types T = omega (arith, inv .within) in inv .sum .so-far ∙ ap (taken T) z
+
+    pub types-sum : (prior ≡ m → ⊥) → Broken 35 0 ≡ verdictOf (orElse (typePass T) (sumRules T))
+    unfolding sumRules faultAt verdictOf
+    types-sum z = sym (rows-fine ∙ rw (← sum-is, ← em, ne-eqb prior m z))
+
+    pub types-end : prior ≡ m → Fine ≡ verdictOf (orElse (typePass T) (sumRules T))
+    unfolding sumRules faultAt verdictOf
+    types-end z = sym (rows-fine ∙ rw (← sum-is, ← em, eq-eqb prior m z))
 
   module _ (h : t < n) (c : ℕ) (e : c ≡ firstOf (rowRules T t prior)) where
     types-row : c ≡ firstOf (typeRules T t)
     types-row = e ∙ ap (λ (z : ℕ). firstOf (rowRules T t z)) (inv .sum .so-far) ∙ row-rules T t
 
-    pub types-fault : (c ≡ 0 → ⊥) → Broken c (12 + 12 * t) ≡ verdictOf (typePass T)
+    pub types-fault : (c ≡ 0 → ⊥) → Broken c (12 + 12 * t) ≡ verdictOf (orElse (typePass T) (sumRules T))
     unfolding rowAt typesAt
-    types-fault z = sym (inv .rest ∙ rw (range-more t n h) (pass-fault (rowAt T) (typeRules T) t c (range (t + 1) (n - (t + 1))) types-row z))
+    types-fault z = sym (or-broken (typePass T) (sumRules T) c (12 + 12 * t) (inv .rest ∙ rw (range-more t n h) (pass-fault (rowAt T) (typeRules T) t c (range (t + 1) (n - (t + 1))) types-row z)))
 
     pub types-next : c ≡ 0 → (s : ℕ) → s ≡ share T t → s < 65536 → Types T n (t + 1) (prior + s)
     types-next z s es hs = record {
@@ -594,23 +618,6 @@ module _ (T : List ℕ) (o m left : ℕ) (inv : Owner T o m left) where
       rest = inv .rest ∙ rw (range-left m left h) (ap verdictOf (pass-next (memberAt T) (memberRulesOf T o) m c (range (m + 1) (left - 1)) e z));
     }
 
--- ---- one pass after another
-
-or-verdict : (f g : Fault) → verdictOf f ≡ Fine → verdictOf (orElse f g) ≡ verdictOf g
-unfolding verdictOf orElse
-or-verdict fine g e = refl
-or-verdict (fault c p) g e = let z : _≡_ {A = ℕ} 0 1 = cc in absurd (omega arith)
-
-or-broken : (f g : Fault) (c p : ℕ) → verdictOf f ≡ Broken c p → verdictOf (orElse f g) ≡ Broken c p
-unfolding verdictOf orElse
-or-broken fine g c p e = let z : _≡_ {A = ℕ} 0 1 = cc in absurd (omega arith)
-or-broken (fault k q) g c p e = e
-
-is-fine : (f : Fault) → verdictOf f ≡ Fine → f ≡ fine
-unfolding verdictOf
-is-fine fine e = refl
-is-fine (fault c p) e = let z : _≡_ {A = ℕ} 0 1 = cc in absurd (omega arith)
-
 -- over the owners
 pub record Owners (T : List ℕ) (n o : ℕ) : Type 0 where
   pub within : o ≤ n
@@ -633,11 +640,12 @@ module _ (T : List ℕ) (n o : ℕ) (inv : Owners T n o) where
     unfolding ownersPass
     owners-next q = record { within = omega arith; rest = inv .rest ∙ rw (range-more o n h) (or-verdict (ownerPass T o) _ (sym e ∙ q)) }
 
--- header, type rows, member sum, member rows
+-- ---- header, type rows and member sum, member rows
+
 module _ (T : List ℕ) (h : ℕ) (eh : faultAt 0 h ≡ headerRules T) where
-  all : faults T ≡ orElse (faultAt 0 h) (orElse (typePass T) (orElse (sumRules T) (orElse (memberPass T) fine)))
+  all : faults T ≡ orElse (faultAt 0 h) (orElse (orElse (typePass T) (sumRules T)) (orElse (memberPass T) fine))
   unfolding faults passes typePass memberPass
-  all = rw eh
+  all = rw (eh, or-assoc)
 
   pub check-header : (h ≡ 0 → ⊥) → Broken h 0 ≡ verdictOf (faults T)
   unfolding verdictOf faultAt
@@ -647,26 +655,20 @@ module _ (T : List ℕ) (h : ℕ) (eh : faultAt 0 h ≡ headerRules T) where
       go zero z = absurd (z refl)
       go (suc c) z = refl
 
-  module _ (head : h ≡ 0) (v : Verdict) (ev : v ≡ verdictOf (typePass T)) where
-    past-header : verdictOf (faults T) ≡ verdictOf (orElse (typePass T) (orElse (sumRules T) (orElse (memberPass T) fine)))
+  module _ (head : h ≡ 0) (v : Verdict) (ev : v ≡ verdictOf (orElse (typePass T) (sumRules T))) where
+    past-header : verdictOf (faults T) ≡ verdictOf (orElse (orElse (typePass T) (sumRules T)) (orElse (memberPass T) fine))
     unfolding faultAt verdictOf
     past-header = ap verdictOf all ∙ rw head (or-verdict fine _ refl)
 
     pub check-types : (c p : ℕ) → v ≡ Broken c p → Broken c p ≡ verdictOf (faults T)
-    check-types c p q = sym (past-header ∙ or-broken (typePass T) _ c p (sym ev ∙ q))
+    check-types c p q = sym (past-header ∙ or-broken (orElse (typePass T) (sumRules T)) _ c p (sym ev ∙ q))
 
-    module _ (rows : v ≡ Fine) (n s m : ℕ) (en : n ≡ types T) (es : s ≡ taken T n) (em : m ≡ members T) where
-      past-types : verdictOf (faults T) ≡ verdictOf (orElse (sumRules T) (orElse (memberPass T) fine))
-      past-types = past-header ∙ or-verdict (typePass T) _ (sym ev ∙ rows)
-
-      pub check-sum : (s ≡ m → ⊥) → Broken 35 0 ≡ verdictOf (faults T)
-      unfolding sumRules faultAt orElse verdictOf
-      check-sum z = sym (past-types ∙ rw (← en, ← es, ← em, ne-eqb s m z))
-
-      pub check-members : s ≡ m → (w : Verdict) → w ≡ verdictOf (ownersPass T (range 0 (types T))) → w ≡ verdictOf (faults T)
-      unfolding sumRules faultAt orElse verdictOf
-      check-members z w e = e ∙ ap verdictOf (owners-pass T (is-fine (typePass T) (sym ev ∙ rows)) (sym (es ∙ ap (taken T) en) ∙ z ∙ em)) ∙ sym (past-types ∙ rw (← en, ← es, ← em, eq-eqb s m z) (last (memberPass T)))
-        where
-          last : (f : Fault) → verdictOf (orElse f fine) ≡ verdictOf f
-          last fine = refl
-          last (fault c p) = refl
+    pub check-members : v ≡ Fine → (w : Verdict) → w ≡ verdictOf (ownersPass T (range 0 (types T))) → w ≡ verdictOf (faults T)
+    unfolding orElse verdictOf
+    check-members q w e =
+        let f = is-fine (orElse (typePass T) (sumRules T)) (sym ev ∙ q) in
+        e ∙ ap verdictOf (owners-pass T f) ∙ sym (past-header ∙ or-verdict (orElse (typePass T) (sumRules T)) _ (sym ev ∙ q) ∙ last (memberPass T))
+      where
+        last : (f : Fault) → verdictOf (orElse f fine) ≡ verdictOf f
+        last fine = refl
+        last (fault c p) = refl

@@ -3,10 +3,9 @@
 --   Same, same-..            the loop that compares two strings
 --   name-here ..             where a name begins, and how many bytes it has within the table
 --   name-found ..            the loop that looks for the record of a name
-use Prim.Native.Nat.{ℕ, zero, suc, _+_, _-_, _*_, _≤_, _<_}
+use Prim.Native.Nat.{ℕ, suc, _+_, _-_, _*_, _≤_, _<_}
 use mathlib.Core.Path.{_≡_, refl, sym, ap, _∙_}
 use mathlib.Core.Bool.{Bool, true, false, _&&_}
-use mathlib.Core.Option.{Option, none, some}
 use mathlib.Core.List.{List, [], _∷_}
 use native.Mathlib.Numerals.{add-one}
 use native.Mathlib.Omega.{arith}
@@ -19,7 +18,6 @@ use Rattle.encoding.specs.Table.{types, members, typesAt, rowAt, membersAt, mem
 use Rattle.table.specs.Names.{nameStart, isNamed}
 use Rattle.table.specs.NamesLaws.{name-part, length-name}
 use Rattle.table.specs.Found.{foundOf}
-use Rattle.table.specs.declared.Found.{Found}
 use Rattle.table.specs.declared.Found.the-variants.{At, Nothing}
 use Rattle.table.proofs.Ranges.{find-here, find-next, find-none}
 

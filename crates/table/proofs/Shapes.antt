@@ -21,7 +21,7 @@ use lib.Seq.{getD-set-same, getD-set-other, ext-getD}
 use lib.Dec.{eqb, leb}
 use borrow.Author.Tests.{leb-true, leb-false, le-leb, lt-leb, eq-eqb, ne-eqb}
 use Rattle.encoding.specs.Result.{pick}
-use Rattle.encoding.specs.Types.{Ty, Tys, broken, struct, seq, dict, fixed, fixeds, single, Form, counted, sized, formOf}
+use Rattle.encoding.specs.Types.{Ty, seq, dict, fixed, fixeds, single, Form, counted, sized, formOf}
 use Rattle.encoding.specs.Table.{kind, field, members, memberType, range, memberTys, ownRows, tys, typeRows, tyOf}
 use Rattle.encoding.specs.TableLaws.{ty-past, below-ty, below-none, member-in, member-past, members-more, members-none, row-bool, row-byte, row-short, row-int, row-long, row-float, row-double, row-string, row-enum, row-struct, row-seq, row-dict, row-proxy, row-other}
 use Rattle.table.proofs.Places.{rows-below}

@@ -2,21 +2,20 @@
 --
 --   row-rules      the rules of a type row, taken by its kind, find what the row's rules find
 --   owners-pass    where the type rows and the sum are fine, the member rows owner by owner are the member rows in order
---   faults-..      what the passes find, one after another
-use Prim.Native.Nat.{ℕ, zero, suc, _+_, _-_, _*_, _≤_, _<_}
+--   or-assoc       the first fault of three passes
+use Prim.Native.Nat.{ℕ, zero, suc, _+_, _-_, _≤_, _<_}
 use mathlib.Core.Path.{_≡_, refl, sym, ap, ap₂, _∙_}
-use mathlib.Core.Bool.{Bool, true, false, _&&_, _||_, not}
+use mathlib.Core.Bool.{Bool, true, false, _&&_, not}
 use mathlib.Core.Logic.{⊎-elim}
 use mathlib.Core.List.{List, [], _∷_, _++_}
 use native.Mathlib.Nat.{eq-or-lt-of-le, add-zero}
-use native.Mathlib.Numerals.{add-one}
 use native.Mathlib.Omega.{arith}
 use lib.ListN.{drop}
-use lib.Dec.{eqb, ltb, leb}
-use borrow.Author.Tests.{eqb-true, eqb-false, ltb-false, not-false, lt-leb, le-leb, lt-ltb}
+use lib.Dec.{eqb}
+use borrow.Author.Tests.{eqb-true, eqb-false, not-false, lt-leb, le-leb, lt-ltb}
 use Rattle.encoding.specs.Result.{pick, firstOf}
 use Rattle.encoding.specs.Number.{negative}
-use Rattle.encoding.specs.Table.{types, members, rowAt, memberAt, kind, field, mark, tag, isRecord, owns, range, any, taken, takes, ownerOf, tagAlike, great, typeRules, memberRules, headerRules, sumRules, faultAt, Fault, fine, fault, orElse, pass, passes, faults}
+use Rattle.encoding.specs.Table.{types, members, rowAt, memberAt, kind, field, mark, tag, owns, range, taken, takes, ownerOf, tagAlike, typeRules, memberRules, sumRules, faultAt, Fault, fine, fault, orElse, pass}
 use Rattle.table.specs.Checks.{isSetFrom, enumRules, structRules, seqRules, dictRules, recordRules, listRules, kindRules, rowRules, share, typePass, memberPass, isTagBefore, requiredRules, optionalRules, memberRulesOf, ownerPass, ownersPass}
 
 -- ---- a type row by its kind
@@ -57,7 +56,7 @@ module _ (T : List ℕ) (m : ℕ) where
 
 -- ---- passes
 
-or-assoc : (a b c : Fault) → orElse (orElse a b) c ≡ orElse a (orElse b c)
+pub or-assoc : (a b c : Fault) → orElse (orElse a b) c ≡ orElse a (orElse b c)
 unfolding orElse
 or-assoc fine b c = refl
 or-assoc (fault k p) b c = refl
@@ -202,6 +201,17 @@ module _ (T : List ℕ) where
         ap₂ orElse (owner-pass o (omega arith)) (owners-from d (suc o) (omega arith))
         ∙ sym (rw (y, range-append) (pass-append (memberAt T) (memberRules T) (range (taken T o) (share T o)) _ ∙ ap (λ (z : ℕ). orElse (pass (memberAt T) (memberRules T) (range (taken T o) (share T o))) (pass (memberAt T) (memberRules T) (range z (taken T (types T) - taken T (suc o))))) (sym (taken-more o))))
 
-pub owners-pass : (T : List ℕ) → typePass T ≡ fine → taken T (types T) ≡ members T → ownersPass T (range 0 (types T)) ≡ memberPass T
+sum-fine : (T : List ℕ) → sumRules T ≡ fine → taken T (types T) ≡ members T
+unfolding sumRules
+sum-fine T e = go (eqb (taken T (types T)) (members T)) refl (at-fine 0 _ e)
+  where
+    go : (b : Bool) → eqb (taken T (types T)) (members T) ≡ b → _≡_ {A = ℕ} (pick b 0 35) 0 → taken T (types T) ≡ members T
+    go true q z = eqb-true _ _ q
+    go false q z = absurd (omega arith)
+
+pub owners-pass : (T : List ℕ) → orElse (typePass T) (sumRules T) ≡ fine → ownersPass T (range 0 (types T)) ≡ memberPass T
 unfolding memberPass taken
-owners-pass T f e = owners-from T (turns T f) (types T) 0 (omega arith) ∙ ap (λ (z : ℕ). pass (memberAt T) (memberRules T) (range 0 z)) (omega arith)
+owners-pass T e =
+    let f = or-fine (typePass T) (sumRules T) e in
+    let s = sum-fine T (f .1) in
+    owners-from T (turns T (f .0)) (types T) 0 (omega arith) ∙ ap (λ (z : ℕ). pass (memberAt T) (memberRules T) (range 0 z)) (omega arith)

@@ -1,7 +1,7 @@
 // The names of records.
 use crate::Found;
 ghost use mathlib.Core.Path.{_≡_};
-ghost use Prim.Native.Nat.{_+_, _-_, _≤_};
+ghost use Prim.Native.Nat.{_+_, _≤_};
 ghost use lib.ListN.{length};
 ghost use Rattle.encoding.specs.Result.{sameBytes};
 ghost use Rattle.encoding.specs.Table.{nameOf, named};

@@ -3,7 +3,7 @@ use crate::Verdict;
 ghost use mathlib.Core.Path.{_≡_};
 ghost use Prim.Native.Nat.{_<_};
 ghost use Rattle.encoding.specs.Result.{firstOf};
-ghost use Rattle.encoding.specs.Table.{any, range, types, headerRules, used, taken, noPart, noBase, alike, faultAt, faults};
+ghost use Rattle.encoding.specs.Table.{any, range, types, headerRules, sumRules, orElse, used, noPart, noBase, alike, faultAt, faults};
 ghost use Rattle.table.specs.Names.{isNamed};
 ghost use Rattle.table.specs.Checks.{verdictOf, isSetFrom, enumRules, structRules, seqRules, dictRules, recordRules, listRules, kindRules, rowRules, share, typePass, isOptionalOf, isTagBefore, requiredRules, optionalRules, memberRulesOf, ownerPass, ownersPass};
 
@@ -278,23 +278,9 @@ fn share(table: &[u8], t: usize) -> usize
     0
 }
 
-// The member rows that the first n type rows take.
-fn taken(table: &[u8], n: usize) -> usize
-    requires { ⌜ n < 65536 ⌝ }
-    ensures { λ r. ⌜ r ≡ taken (now (table .entry)) n ⌝ }
-{
-    let mut sum = 0;
-    let mut t = 0;
-    while t < n {
-        sum += share(table, t);
-        t += 1;
-    }
-    sum
-}
-
-// The pass over the type rows.
+// The pass over the type rows, then the member sum.
 fn type_rows(table: &[u8]) -> Verdict
-    ensures { λ r. ⌜ r ≡ verdictOf (typePass (now (table .entry))) ⌝ }
+    ensures { λ r. ⌜ r ≡ verdictOf (orElse (typePass (now (table .entry))) (sumRules (now (table .entry)))) ⌝ }
 {
     let n = crate::types(table);
     let mut prior = 0;
@@ -306,6 +292,9 @@ fn type_rows(table: &[u8]) -> Verdict
         }
         prior += share(table, t);
         t += 1;
+    }
+    if prior != crate::members(table) {
+        return Verdict::Broken(35, 0);
     }
     Verdict::Fine
 }
@@ -391,9 +380,9 @@ fn member_row(table: &[u8], o: usize, m: usize) -> usize
 fn owner(table: &[u8], o: usize) -> Verdict
     ensures { λ r. ⌜ r ≡ verdictOf (ownerPass (now (table .entry)) o) ⌝ }
 {
-    let start = 12 + 12 * crate::types(table);
-    let mut m = crate::field(table, o, 0);
     let mut left = share(table, o);
+    let mut m = crate::field(table, o, 0);
+    let start = 12 + 12 * crate::types(table);
     while left > 0 {
         let c = member_row(table, o, m);
         if c != 0 {
@@ -438,9 +427,6 @@ pub fn check(table: &[u8]) -> Verdict
             return Verdict::Broken(c, p);
         }
         Verdict::Fine => {}
-    }
-    if taken(table, crate::types(table)) != crate::members(table) {
-        return Verdict::Broken(35, 0);
     }
     member_rows(table)
 }

@@ -1,6 +1,6 @@
 -- The passes in turn; once the type rows and the sum are fine, the member rows owner by owner are the member rows in order. Assumes nothing.
 use borrow.Author.Needs.{needs}
-use Rattle.table.proofs.Judging.{check-header, check-types, check-sum, check-members}
+use Rattle.table.proofs.Judging.{check-header, check-types, check-members}
 use Rattle.table.proofs.rules.check.Statement.{statement}
 use Rattle.table.proofs.rules.check.Tie as tie
 
@@ -14,9 +14,5 @@ check-spec =
     (λ c. search needs)  -- enum-known-v
     (λ c. search check-types)  -- returns-2
     (λ c. search needs)  -- enum-told
-    (λ c κs. search needs)  -- types-requires
-    (λ c κs. search needs)  -- taken-requires
-    (λ c κs. search needs)  -- members-requires
-    (λ c. search check-sum)  -- returns-3
     (λ c κs. search needs)  -- member-rows-requires
-    (λ c. search check-members))  -- returns-4
+    (λ c. search check-members))  -- returns-3

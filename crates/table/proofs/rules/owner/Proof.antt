@@ -6,10 +6,10 @@ use Rattle.table.proofs.rules.owner.Statement.{statement}
 use Rattle.table.proofs.rules.owner.Tie as tie
 
 abbrev Inv-loop : tie.InvT-loop
-Inv-loop table o start m₀ left₀ m left = Owner table o m left
+Inv-loop table o left₀ m₀ start left m = Owner table o m left
 
 abbrev μ-loop : tie.MeasureT-loop
-μ-loop table o start m₀ left₀ m left = left
+μ-loop table o left₀ m₀ start left m = left
 
 pub owner-spec : {M : Type 1} → statement M
 owner-spec =
@@ -17,11 +17,11 @@ owner-spec =
     (tie.spec
     Inv-loop
     μ-loop
+    (λ c κs. search needs)  -- share-requires
+    (λ c κs. search needs)  -- field-requires
     (λ c κs. search needs)  -- types-requires
     (λ c. search needs)  -- mul-start
     (λ c. search needs)  -- add-start
-    (λ c κs. search needs)  -- field-requires
-    (λ c κs. search needs)  -- share-requires
     (λ c. search owner-begin)  -- loop-holds
     (λ c κs. search needs)  -- member-row-requires
     (λ c. omega (arith, c .before .before .before .loop .inv .few))  -- mul-t10

@@ -2,7 +2,7 @@
 use Prim.Native.Nat.{_-_}
 use borrow.Author.Needs.{needs}
 use native.Mathlib.Omega.{arith}
-use Rattle.table.proofs.Judging.{Types, types-begin, types-fault, types-next, types-end}
+use Rattle.table.proofs.Judging.{Types, types-begin, types-fault, types-next, types-sum, types-end}
 use Rattle.table.proofs.rules.type_rows.Statement.{statement}
 use Rattle.table.proofs.rules.type_rows.Tie as tie
 
@@ -29,4 +29,6 @@ type-rows-spec =
     (λ c. omega (arith, c .before .before .before .before .loop .inv .few))  -- add-t
     (λ c. omega arith)  -- loop-less
     (λ c. search types-next)  -- loop-again
-    (λ c. search types-end))  -- returns-2
+    (λ c κs. search needs)  -- members-requires
+    (λ c. types-sum _ _ _ _ (c .before .before .before .loop .inv) (c .before .before .before .before .types .ensures .0) (c .before .before .loop-test .left) _ (c .before .members .ensures .0) (λ e. omega arith))  -- returns-2
+    (λ c. search types-end))  -- returns-3
