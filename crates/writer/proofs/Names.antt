@@ -1,0 +1,48 @@
+-- The type ID of an owner. Assumes nothing.
+--
+--   name-few            a name is at most as long as its length says
+--   id-long, id-none    how many bytes the type ID takes, where it is due and where not
+--   id-put, id-put-none its size, and the name behind it
+use mathlib.Core.Path.{_≡_, refl, sym, ap, _∙_}
+use mathlib.Core.Bool.{Bool, true, false}
+use mathlib.Core.List.{List, [], _++_}
+use Prim.Native.Nat.{ℕ, _+_, _≤_, _<_}
+use native.Mathlib.Omega.{arith}
+use native.Mathlib.Nat.{min-le-left}
+use lib.ListN.{length, take, drop, length-append}
+use Rattle.encoding.specs.Number.{sizeBytes, stringBytes}
+use Rattle.encoding.specs.Table.{field, nameOf}
+use Rattle.table.specs.Names.{nameStart}
+use Rattle.table.specs.NamesLaws.{name-part, length-name}
+use Rattle.wire.specs.Put.{put}
+use Rattle.writer.specs.Puts.{Puts}
+use Rattle.writer.specs.PutsLaws.{puts-one, puts-none, puts-is, puts-size, puts-then}
+use Rattle.writer.specs.Slices.{idField}
+
+pub name-few : (T : List ℕ) (o n most : ℕ) → n ≡ length (nameOf T o) → most ≡ field T o 4 → n ≤ most
+name-few T o n most e f = let l : length (nameOf T o) ≤ field T o 4 = rw (length-name T o) (min-le-left _ _) in omega arith
+
+module _ (T : List ℕ) (o : ℕ) (id : Bool) where
+  pub id-none : id ≡ false → 0 ≡ length (idField T o id)
+  unfolding idField
+  id-none q = rw q
+
+  module _ (q : id ≡ true) (n k : ℕ) (en : n ≡ length (nameOf T o)) (ek : k ≡ length (sizeBytes n)) where
+    pub id-long : k + n ≡ length (idField T o id)
+    unfolding idField stringBytes
+    id-long =
+        let z : length (sizeBytes (length (nameOf T o))) ≡ k = ap (λ (x : ℕ). length (sizeBytes x)) (sym en) ∙ sym ek in
+        rw q (omega (arith, length-append (sizeBytes (length (nameOf T o))) (nameOf T o)))
+
+    pub id-put : (at a : ℕ) (out mid last : List ℕ) → mid ≡ put at (sizeBytes n) out → a ≡ nameStart T o → last ≡ put (at + k) (take n (drop a T)) mid
+        → Puts at (idField T o id) out last (at + k + n)
+    unfolding idField stringBytes
+    id-put at a out mid last e f g =
+        let z : take n (drop a T) ≡ nameOf T o = rw (en, f) (name-part T o) in
+        rw (q, ← en)
+        (puts-then at (sizeBytes n) out mid (at + k) (puts-size n k at out mid e ek) (nameOf T o) last (at + k + n)
+        (puts-one (at + k) (nameOf T o) mid last (at + k + n) (g ∙ ap (λ (b : List ℕ). put (at + k) b mid) z) (omega arith)))
+
+  pub id-put-none : (at : ℕ) (out : List ℕ) → id ≡ false → Puts at (idField T o id) out out at
+  unfolding idField
+  id-put-none at out q = rw q (puts-none at out)

@@ -1,0 +1,30 @@
+-- The loop's invariant: the slices from the owner at hand on are still to be put. The measure is the owner, since a base is smaller. Assumes nothing.
+use borrow.Author.Needs.{needs}
+use mathlib.Core.Path.{_≡_, refl}
+use native.Mathlib.Omega.{arith}
+use lib.ListN.{length}
+use Rattle.writer.specs.Slices.{formatBy}
+use Rattle.writer.proofs.Walks.{Slicing, slicing-begin, slicing-end, slicing-next}
+use Rattle.writer.proofs.message.put_slices.Statement.{statement}
+use Rattle.writer.proofs.message.put_slices.Tie as tie
+
+abbrev Inv-loop : tie.InvT-loop
+Inv-loop table forms out₀ start t sliced count rows buffer at₀ o₀ id₀ i₀ out at o id i = (length out ≡ length out₀) × Slicing table rows buffer count t (formatBy sliced) start out₀ at o id i out
+
+abbrev μ-loop : tie.MeasureT-loop
+μ-loop table forms out₀ start t sliced count rows buffer at₀ o₀ id₀ i₀ out at o id i = o
+
+pub put-slices-spec : {M : Type 1} → statement M
+put-slices-spec =
+    tie.close
+    (tie.spec
+    Inv-loop
+    μ-loop
+    (λ c. (refl, search slicing-begin))  -- loop-holds
+    (λ c κs. search needs)  -- base-requires
+    (λ c κs. (c .before .before .before .before .before .before .before .pre .0, (omega (arith, c .before .before .loop .inv .1 .few, c .before .before .loop .inv .1 .within, c .before .before .loop .inv .1 .below), c .before .before .loop .inv .1 .within, omega arith, omega arith)))  -- put-slice-requires
+    (λ c. search needs)  -- same-length
+    (λ c. slicing-end _ _ _ _ _ (c .before .before .before .before .before .before .before .before .before .before .before .args .sliced) _ _ _ _ _ _ _ (c .before .before .before .before .before .before .loop .inv .1) _ (c .before .before .before .before .before .base .ensures .0) _ _ (c .before .before .before .put-slice .ensures) (c .if1 .taken))  -- returns
+    (λ c. omega arith)  -- sub-o
+    (λ c. omega arith)  -- loop-less
+    (λ c. (search needs, slicing-next _ _ _ _ _ (c .before .before .before .before .before .before .before .before .before .before .before .args .sliced) _ _ _ _ _ _ _ (c .before .before .before .before .before .before .loop .inv .1) _ (c .before .before .before .before .before .base .ensures .0) _ _ (c .before .before .before .put-slice .ensures) (c .if1 .left) (c .before .before .before .before .before .base .ensures .1))))  -- loop-again

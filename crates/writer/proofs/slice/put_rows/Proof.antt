@@ -1,0 +1,33 @@
+-- The loop's invariant: the rows from the next on give the pieces still to be put. The measure is the rows left. Assumes nothing.
+use borrow.Author.Needs.{needs}
+use Prim.Native.Nat.{_-_}
+use mathlib.Core.Path.{_≡_, refl}
+use native.Mathlib.Omega.{arith}
+use lib.ListN.{length}
+use Rattle.writer.proofs.Groups.{Grouping, grouping-begin, grouping-next, grouping-stop, grouping-end}
+use Rattle.writer.proofs.slice.put_rows.Statement.{statement}
+use Rattle.writer.proofs.slice.put_rows.Tie as tie
+
+abbrev Inv-loop : tie.InvT-loop
+Inv-loop table forms out₀ start o first count rows buffer from₀ at₀ i₀ optionals₀ out from at i optionals = (length out ≡ length out₀) × Grouping table rows buffer count o first start out₀ from at i optionals out
+
+abbrev μ-loop : tie.MeasureT-loop
+μ-loop table forms out₀ start o first count rows buffer from₀ at₀ i₀ optionals₀ out from at i optionals = count - i
+
+pub put-rows-spec : {M : Type 1} → statement M
+put-rows-spec =
+    tie.close
+    (tie.spec
+    Inv-loop
+    μ-loop
+    (λ c. (refl, search grouping-begin))  -- loop-holds
+    (λ c κs. search needs)  -- put-row-requires
+    (λ c. search needs)  -- enum-known-p
+    (λ c. omega arith)  -- add-i
+    (λ c. omega arith)  -- loop-less
+    (λ c. (search needs, grouping-next _ _ _ _ _ _ _ _ _ _ _ _ _ (c .before .before .before .before .before .before .before .before .loop .inv .1) _ _ (c .before .before .before .before .before .put-row .ensures) (c .before .before .before .before .before .before .before .loop-test .taken) _ _ _ (c .before .p .given .1)))  -- loop-again
+    (λ c. search needs)  -- enum-told
+    (λ c. search needs)  -- same-length
+    (λ c. grouping-stop _ _ _ _ _ _ _ _ _ _ _ _ _ (c .before .before .before .before .before .before .before .loop .inv .1) _ _ (c .before .before .before .before .put-row .ensures) (c .enum-told .given .1))  -- returns
+    (λ c. c .before .loop .inv .0)  -- same-length-2
+    (λ c. search grouping-end))  -- returns-2

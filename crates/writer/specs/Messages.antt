@@ -1,0 +1,37 @@
+-- The message that the rows make, as the code puts it.
+--
+--   contentsOf    the data of the encapsulation
+--   messageOf     the message
+--   written       what follows the judgements before the rows: the message or a refusal
+--   outcomeOf     the answer as the code gives it
+use mathlib.Core.List.{List, _∷_}
+use Prim.Native.Nat.{ℕ}
+use lib.ListN.{length}
+use lib.Dec.{eqb}
+use Rattle.encoding.specs.Result.{pick, concat}
+use Rattle.encoding.specs.Table.{kind, chain}
+use Rattle.encoding.specs.Optional.{pieceBytes}
+use Rattle.encoding.specs.Slice.{Format, first, slicesBytes}
+use Rattle.encoding.specs.Message.{encode, encapsulate}
+use Rattle.encoding.specs.Write.{Out, out, stop, next, begin, above, judgeAll, gathered, formatOf, bounded, rowsGiven}
+use Rattle.writer.specs.declared.Outcome.{Outcome}
+use Rattle.writer.specs.declared.Outcome.the-variants.{Made, Stopped}
+use Rattle.writer.specs.Slices.{groupOf, slicesFrom}
+
+-- a parameter list, a class instance behind its marker, or an exception
+unfoldable pub contentsOf : List ℕ → List ℕ → List ℕ → ℕ → Format → ℕ → List ℕ
+contentsOf T rows buffer count g type =
+    pick (eqb (kind T type) 15) (concat pieceBytes (groupOf T rows buffer count type 0))
+    (pick (eqb (kind T type) 14) (1 ∷ slicesBytes g first (slicesFrom T rows buffer count 0 (chain T type)))
+    (slicesBytes g first (slicesFrom T rows buffer count 0 (chain T type))))
+
+-- row bytes, each row 20 then 21, then 22
+unfoldable pub written : List ℕ → ℕ → ℕ → ℕ → List ℕ → List ℕ → ℕ → Out (List ℕ)
+written T type format count rows buffer room =
+    next (rowsGiven count rows) λ rs.
+    next (judgeAll T buffer (begin T type (above (chain T type))) 0 rs) λ gs.
+    bounded room (encapsulate (encode (formatOf format) (gathered T type gs)))
+
+unfoldable pub outcomeOf : Out (List ℕ) → Outcome
+outcomeOf (out m) = Made (length m)
+outcomeOf (stop n p) = Stopped n p

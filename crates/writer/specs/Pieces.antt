@@ -1,0 +1,65 @@
+-- One member as it is put, in numbers.
+--
+--   headerField    an optional's header of a tag and type bits
+--   formBits       the type bits in the header of a form's number
+--   lengthField    the length field in front of so many bytes, by a form's number
+--   Taken          the piece of a row, and where the rows stand behind it
+--   pieceAt        row i as a member of the owner where the rows stand, if it is one
+--   group          the pieces of that owner from row i on, at most k rows
+--   RowLaid        what is put of a row, and what the code answers of it
+--   RowPut         the same of every answer
+use mathlib.Core.Path.{_≡_}
+use mathlib.Core.Bool.{Bool}
+use mathlib.Core.Option.{Option, none, some}
+use mathlib.Core.List.{List, [], _∷_}
+use Prim.Native.Nat.{ℕ, zero, suc, _+_, _*_, _≤_}
+use lib.Dec.{eqb, ltb}
+use Rattle.encoding.specs.Result.{pick}
+use Rattle.encoding.specs.Number.{leBytes, sizeBytes}
+use Rattle.encoding.specs.Optional.{Piece, pieceBytes, isOptional}
+use Rattle.encoding.specs.Write.{State, Reached, reach, given, partOf, rowAt}
+use Rattle.writer.specs.declared.Cursor.{Cursor}
+use Rattle.writer.specs.declared.Placed.{Placed}
+use Rattle.writer.specs.declared.Placed.the-variants.{Row, Stop}
+use Rattle.writer.specs.Cursors.{stateOf, hereOf}
+use Rattle.writer.specs.Puts.{Puts}
+
+unfoldable pub headerField : ℕ → ℕ → List ℕ
+headerField t k = pick (ltb t 30) ((t * 8 + k) ∷ []) ((240 + k) ∷ sizeBytes t)
+
+unfoldable pub formBits : ℕ → ℕ
+formBits n = pick (ltb n 8) n (pick (ltb n 10) 5 6)
+
+unfoldable pub lengthField : ℕ → ℕ → List ℕ
+lengthField form n = pick (ltb form 9) [] (pick (eqb form 9) (sizeBytes n) (leBytes 4 n))
+
+pub record Taken : Type 0 where
+  pub piece : Piece
+  pub state : State
+
+unfoldable pub takenOf : List ℕ → Option Reached → Option Taken
+takenOf b none = none
+takenOf b (some z) = some (record { piece = given z b .piece; state = z .state })
+
+unfoldable pub pieceAt : List ℕ → List ℕ → List ℕ → State → ℕ → Option Taken
+pieceAt T rows buffer s i = takenOf (partOf buffer (rowAt rows i)) (hereOf (s .owner) (reach T (rowAt rows i .member) s))
+
+unfoldable pub grown : Option Taken → (State → List Piece) → List Piece
+grown none f = []
+grown (some x) f = x .piece ∷ f (x .state)
+
+unfoldable pub group : List ℕ → List ℕ → List ℕ → State → ℕ → ℕ → List Piece
+group T rows buffer s i zero = []
+group T rows buffer s i (suc k) = grown (pieceAt T rows buffer s i) (λ (z : State). group T rows buffer z (suc i) k)
+
+pub record RowLaid (T : List ℕ) (at : ℕ) (out last : List ℕ) (x : Option Taken) (c : Cursor) (end : ℕ) (optional : Bool) : Type 0 where
+  pub piece : Piece
+  pub is : x ≡ some (record { piece = piece; state = stateOf T c })
+  pub puts : Puts at (pieceBytes piece) out last end
+  pub flag : optional ≡ isOptional piece
+  pub near : c .passed ≤ 65536
+  pub few : end ≤ at + 66000
+
+abbrev pub RowPut : List ℕ → ℕ → List ℕ → List ℕ → Option Taken → Placed → Type 0
+RowPut T at out last x (Row c end optional) = RowLaid T at out last x c end optional
+RowPut T at out last x Stop = (x ≡ none) × (last ≡ out)

@@ -1,0 +1,73 @@
+-- The members of an owner and its slice as they are put.
+--
+--   start                  the cursor at the start of an owner
+--   groupOf                the pieces of an owner from row i on, of `count` rows
+--   sliceOf                its slice
+--   slicesFrom             the slices of owners, one after another, from row i on
+--   formatBy               sliced or compact
+--   idField, frontField    a slice's type ID, where one is due; all that stands before its data
+--   RowsLaid, DataLaid, SliceLaid   what is put of an owner's rows, of its slice's data, of its slice, and what the code answers of it
+use mathlib.Core.Path.{_≡_}
+use mathlib.Core.Bool.{Bool}
+use mathlib.Core.List.{List, [], _∷_, _++_}
+use Prim.Native.Nat.{ℕ, _+_, _-_, _*_, _≤_}
+use lib.ListN.{length}
+use Rattle.encoding.specs.Result.{pick, concat}
+use Rattle.encoding.specs.Number.{leBytes, stringBytes}
+use Rattle.encoding.specs.Table.{nameOf}
+use Rattle.encoding.specs.Optional.{Piece, pieceBytes}
+use Rattle.encoding.specs.Slice.{Format, compact, sliced, isSliced, Slice, known, anyOptional, dataBytes, flagBits}
+use Rattle.writer.specs.declared.Cursor.{Cursor}
+use Rattle.writer.specs.declared.Laid.{Laid}
+use Rattle.writer.specs.Cursors.{stateOf}
+use Rattle.writer.specs.Puts.{Puts}
+use Rattle.writer.specs.Pieces.{group}
+
+abbrev pub start : ℕ → Cursor
+start o = record { owner = o; passed = 0; least = 0 }
+
+unfoldable pub groupOf : List ℕ → List ℕ → List ℕ → ℕ → ℕ → ℕ → List Piece
+groupOf T rows buffer count o i = group T rows buffer (stateOf T (start o)) i (count - i)
+
+unfoldable pub sliceOf : List ℕ → List ℕ → List ℕ → ℕ → ℕ → ℕ → Slice
+sliceOf T rows buffer count o i = known (nameOf T o) (groupOf T rows buffer count o i)
+
+unfoldable pub slicesFrom : List ℕ → List ℕ → List ℕ → ℕ → ℕ → List ℕ → List Slice
+slicesFrom T rows buffer count i [] = []
+slicesFrom T rows buffer count i (t ∷ ts) =
+    sliceOf T rows buffer count t i ∷ slicesFrom T rows buffer count (i + length (groupOf T rows buffer count t i)) ts
+
+abbrev pub formatBy : Bool → Format
+formatBy b = pick b sliced compact
+
+unfoldable pub idField : List ℕ → ℕ → Bool → List ℕ
+idField T o id = pick id (stringBytes (nameOf T o)) []
+
+unfoldable pub frontField : List ℕ → ℕ → Format → Bool → Bool → Bool → ℕ → List ℕ
+frontField T o g id optionals last n = flagBits g id optionals last ∷ (idField T o id ++ pick (isSliced g) (leBytes 4 (4 + n)) [])
+
+pub record RowsLaid (T rows buffer : List ℕ) (count o i at : ℕ) (out last : List ℕ) (r : Laid) : Type 0 where
+  pub puts : Puts at (concat pieceBytes (groupOf T rows buffer count o i)) out last (r .end)
+  pub next : r .row ≡ i + length (groupOf T rows buffer count o i)
+  pub flag : r .optionals ≡ anyOptional (groupOf T rows buffer count o i)
+  pub within : r .row ≤ count
+  pub few : r .end ≤ at + 66000 * (r .row - i)
+
+pub record DataLaid (T rows buffer : List ℕ) (count o i at : ℕ) (out last : List ℕ) (r : Laid) : Type 0 where
+  pub puts : Puts at (dataBytes (sliceOf T rows buffer count o i)) out last (r .end)
+  pub next : r .row ≡ i + length (groupOf T rows buffer count o i)
+  pub flag : r .optionals ≡ anyOptional (groupOf T rows buffer count o i)
+  pub within : r .row ≤ count
+  pub few : r .end ≤ at + 66000 * (r .row - i) + 1
+
+-- the slice's front and data
+unfoldable pub sliceField : List ℕ → List ℕ → List ℕ → ℕ → Format → Bool → Bool → ℕ → ℕ → List ℕ
+sliceField T rows buffer count g id last o i =
+    frontField T o g id (anyOptional (groupOf T rows buffer count o i)) last (length (dataBytes (sliceOf T rows buffer count o i)))
+    ++ dataBytes (sliceOf T rows buffer count o i)
+
+pub record SliceLaid (T rows buffer : List ℕ) (count : ℕ) (g : Format) (id end : Bool) (o i at : ℕ) (out last : List ℕ) (r : Laid) : Type 0 where
+  pub puts : Puts at (sliceField T rows buffer count g id end o i) out last (r .end)
+  pub next : r .row ≡ i + length (groupOf T rows buffer count o i)
+  pub within : r .row ≤ count
+  pub few : r .end ≤ at + 66000 * (r .row - i) + 66000

@@ -1,0 +1,106 @@
+// Puts the slices of a chain, and a message.
+use crate::slice;
+ghost use mathlib.Core.Path.{_≡_};
+ghost use Prim.Native.Nat.{_+_, _*_, _≤_, _<_};
+ghost use lib.ListN.{length};
+ghost use Rattle.encoding.specs.Table.{chain};
+ghost use Rattle.encoding.specs.Slice.{first, slicesBytes};
+ghost use Rattle.encoding.specs.Message.{encapsulate};
+ghost use Rattle.table.specs.Forms.{formsOf};
+ghost use Rattle.writer.specs.Puts.{Puts};
+ghost use Rattle.writer.specs.Slices.{formatBy, slicesFrom};
+ghost use Rattle.writer.specs.Messages.{contentsOf};
+
+// Puts the slices of row t and its bases, and gives their end.
+fn put_slices(
+    table: &[u8],
+    forms: &[u8; 256],
+    out: &mut [u8],
+    start: usize,
+    t: usize,
+    sliced: bool,
+    count: usize,
+    rows: &[u8],
+    buffer: &[u8],
+) -> usize
+    requires { ⌜ now forms ≡ formsOf (now table) ⌝ }
+    requires { ⌜ (start ≤ 7) × (t < 65536) × (count ≤ 4294967296) × (length (now buffer) ≤ 65536) ⌝ }
+    ensures { λ r. ⌜ Puts start (slicesBytes (formatBy sliced) first (slicesFrom (now (table .entry)) (now (rows .entry)) (now (buffer .entry)) count 0 (chain (now (table .entry)) t))) (now (out .entry)) (now (out .exit)) r ⌝ }
+{
+    let mut at = start;
+    let mut o = t;
+    let mut id = true;
+    let mut i = 0;
+    loop {
+        let up = table::chain::base(table, o);
+        let d = slice::put_slice(
+            table,
+            forms,
+            out,
+            at,
+            o,
+            id,
+            sliced,
+            up == 0,
+            i,
+            count,
+            rows,
+            buffer,
+        );
+        if up == 0 {
+            return d.end;
+        }
+        at = d.end;
+        o = up - 1;
+        id = sliced;
+        i = d.row;
+    }
+}
+
+// Puts the data of an encapsulation, and gives their end: a parameter list, a class instance behind its marker, or an exception.
+fn put_contents(
+    table: &[u8],
+    forms: &[u8; 256],
+    out: &mut [u8],
+    t: usize,
+    sliced: bool,
+    count: usize,
+    rows: &[u8],
+    buffer: &[u8],
+) -> usize
+    requires { ⌜ now forms ≡ formsOf (now table) ⌝ }
+    requires { ⌜ (t < 65536) × (count ≤ 4294967296) × (length (now buffer) ≤ 65536) ⌝ }
+    ensures { λ r. ⌜ Puts 6 (contentsOf (now (table .entry)) (now (rows .entry)) (now (buffer .entry)) count (formatBy sliced) t) (now (out .entry)) (now (out .exit)) r ⌝ }
+{
+    let k = table::kind(table, t);
+    if k == 15 {
+        let d = slice::put_rows(table, forms, out, 6, t, 0, count, rows, buffer);
+        return d.end;
+    }
+    if k == 14 {
+        wire::put_number(out, 6, 1, 1);
+        return put_slices(table, forms, out, 7, t, sliced, count, rows, buffer);
+    }
+    put_slices(table, forms, out, 6, t, sliced, count, rows, buffer)
+}
+
+// Puts the message, and gives its length: the data, then the size and the version before them.
+pub fn put_message(
+    table: &[u8],
+    forms: &[u8; 256],
+    out: &mut [u8],
+    t: usize,
+    sliced: bool,
+    count: usize,
+    rows: &[u8],
+    buffer: &[u8],
+) -> usize
+    requires { ⌜ now forms ≡ formsOf (now table) ⌝ }
+    requires { ⌜ (t < 65536) × (count ≤ 4294967296) × (length (now buffer) ≤ 65536) ⌝ }
+    ensures { λ r. ⌜ Puts 0 (encapsulate (contentsOf (now (table .entry)) (now (rows .entry)) (now (buffer .entry)) count (formatBy sliced) t)) (now (out .entry)) (now (out .exit)) r ⌝ }
+{
+    let n = put_contents(table, forms, out, t, sliced, count, rows, buffer);
+    wire::put_number(out, 0, 4, n);
+    wire::put_number(out, 4, 2, 257);
+    n
+}

@@ -1,0 +1,189 @@
+// Puts the members of an owner, and its slice.
+use crate::Cursor;
+use crate::Laid;
+use crate::Placed;
+use crate::piece;
+ghost use mathlib.Core.Path.{_≡_};
+ghost use Prim.Native.Nat.{_+_, _*_, _≤_, _<_};
+ghost use lib.ListN.{length};
+ghost use Rattle.encoding.specs.Result.{pick};
+ghost use Rattle.encoding.specs.Table.{nameOf};
+ghost use Rattle.table.specs.Forms.{formsOf};
+ghost use Rattle.writer.specs.Puts.{Puts};
+ghost use Rattle.writer.specs.Slices.{formatBy, idField, frontField, RowsLaid, DataLaid, SliceLaid};
+
+// Puts the rows of owner o from row `first` on.
+pub fn put_rows(
+    table: &[u8],
+    forms: &[u8; 256],
+    out: &mut [u8],
+    start: usize,
+    o: usize,
+    first: usize,
+    count: usize,
+    rows: &[u8],
+    buffer: &[u8],
+) -> Laid
+    requires { ⌜ now forms ≡ formsOf (now table) ⌝ }
+    requires { ⌜ (start ≤ 576460752303423488) × (first ≤ count) × (count ≤ 4294967296) × (length (now buffer) ≤ 65536) ⌝ }
+    ensures { λ r. ⌜ RowsLaid (now (table .entry)) (now (rows .entry)) (now (buffer .entry)) count o first start (now (out .entry)) (now (out .exit)) r ⌝ }
+{
+    let mut from = Cursor {
+        owner: o,
+        passed: 0,
+        least: 0,
+    };
+    let mut at = start;
+    let mut i = first;
+    let mut optionals = false;
+    while i < count {
+        let p = piece::put_row(table, forms, out, at, from, rows, i, buffer);
+        match p {
+            Placed::Row(c, end, optional) => {
+                from = c;
+                at = end;
+                optionals = optionals | optional;
+                i += 1;
+            }
+            Placed::Stop => {
+                return Laid {
+                    end: at,
+                    row: i,
+                    optionals: optionals,
+                };
+            }
+        }
+    }
+    Laid {
+        end: at,
+        row: i,
+        optionals: optionals,
+    }
+}
+
+// How many bytes the name of owner o has: at most as many as its length says.
+fn name_len(table: &[u8], o: usize) -> usize
+    ensures { λ r. ⌜ (r ≡ length (nameOf (now (table .entry)) o)) × (r < 65536) ⌝ }
+{
+    let n = table::naming::name_length(table, o);
+    let most = table::field(table, o, 4);
+    if most < n {
+        return most;
+    }
+    n
+}
+
+// How many bytes the type ID of owner o takes, if it is due.
+fn id_len(table: &[u8], o: usize, id: bool) -> usize
+    ensures { λ r. ⌜ (r ≡ length (idField (now (table .entry)) o id)) × (r ≤ 65540) ⌝ }
+{
+    if id {
+        let n = name_len(table, o);
+        return wire::size_len(n) + n;
+    }
+    0
+}
+
+// Puts the type ID of owner o, if it is due, and gives its end.
+fn put_id(table: &[u8], out: &mut [u8], at: usize, o: usize, id: bool) -> usize
+    requires { ⌜ at ≤ 1152921504606846976 ⌝ }
+    ensures { λ r. ⌜ Puts at (idField (now (table .entry)) o id) (now (out .entry)) (now (out .exit)) r × (r ≤ at + 65540) ⌝ }
+{
+    if id {
+        let n = name_len(table, o);
+        let k = wire::size_len(n);
+        wire::put_size(out, at, n);
+        wire::put_part(out, at + k, table, table::naming::name_start(table, o), n);
+        return at + k + n;
+    }
+    at
+}
+
+// Puts a slice's data: the rows of owner o and, behind optionals, byte 255.
+fn put_data(
+    table: &[u8],
+    forms: &[u8; 256],
+    out: &mut [u8],
+    start: usize,
+    o: usize,
+    first: usize,
+    count: usize,
+    rows: &[u8],
+    buffer: &[u8],
+) -> Laid
+    requires { ⌜ now forms ≡ formsOf (now table) ⌝ }
+    requires { ⌜ (start ≤ 576460752303423488) × (first ≤ count) × (count ≤ 4294967296) × (length (now buffer) ≤ 65536) ⌝ }
+    ensures { λ r. ⌜ DataLaid (now (table .entry)) (now (rows .entry)) (now (buffer .entry)) count o first start (now (out .entry)) (now (out .exit)) r ⌝ }
+{
+    let d = put_rows(table, forms, out, start, o, first, count, rows, buffer);
+    if d.optionals {
+        wire::put_number(out, d.end, 1, 255);
+        return Laid {
+            end: d.end + 1,
+            row: d.row,
+            optionals: true,
+        };
+    }
+    d
+}
+
+// How many bytes stand before a slice's data: flags, type ID, size.
+fn front_len(table: &[u8], o: usize, id: bool, sliced: bool) -> usize
+    ensures { λ r. ⌜ (r ≡ 1 + length (idField (now (table .entry)) o id) + pick sliced 4 0) × (r ≤ 65545) ⌝ }
+{
+    let n = 1 + id_len(table, o, id);
+    if sliced {
+        return n + 4;
+    }
+    n
+}
+
+// Puts what stands before a slice's data of n bytes, and gives its end.
+fn put_front(
+    table: &[u8],
+    out: &mut [u8],
+    at: usize,
+    o: usize,
+    id: bool,
+    sliced: bool,
+    optionals: bool,
+    last: bool,
+    n: usize,
+) -> usize
+    requires { ⌜ (at ≤ 576460752303423488) × (n ≤ 576460752303423488) ⌝ }
+    ensures { λ r. ⌜ Puts at (frontField (now (table .entry)) o (formatBy sliced) id optionals last n) (now (out .entry)) (now (out .exit)) r ⌝ }
+{
+    wire::put_number(out, at, 1, wire::slice_flags(id, optionals, sliced, last));
+    let a = put_id(table, out, at + 1, o, id);
+    if sliced {
+        wire::put_number(out, a, 4, 4 + n);
+        return a + 4;
+    }
+    a
+}
+
+// Puts the slice of owner o: the data first, then what stands before them.
+pub fn put_slice(
+    table: &[u8],
+    forms: &[u8; 256],
+    out: &mut [u8],
+    at: usize,
+    o: usize,
+    id: bool,
+    sliced: bool,
+    last: bool,
+    first: usize,
+    count: usize,
+    rows: &[u8],
+    buffer: &[u8],
+) -> Laid
+    requires { ⌜ now forms ≡ formsOf (now table) ⌝ }
+    requires { ⌜ (at ≤ 288230376151711744) × (first ≤ count) × (count ≤ 4294967296) × (length (now buffer) ≤ 65536) ⌝ }
+    ensures { λ r. ⌜ SliceLaid (now (table .entry)) (now (rows .entry)) (now (buffer .entry)) count (formatBy sliced) id last o first at (now (out .entry)) (now (out .exit)) r ⌝ }
+{
+    let start = at + front_len(table, o, id, sliced);
+    let d = put_data(table, forms, out, start, o, first, count, rows, buffer);
+    let n = d.end - start;
+    put_front(table, out, at, o, id, sliced, d.optionals, last, n);
+    d
+}
