@@ -7,3 +7,4 @@ pub mod Names
 pub mod Fronts
 pub mod Walks
 pub mod Judges
+pub mod Writings

@@ -9,3 +9,4 @@ pub mod Slices
 pub mod Messages
 pub mod Judged
 pub mod Gathers
+pub mod MessagesLaws

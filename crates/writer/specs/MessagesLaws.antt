@@ -1,0 +1,77 @@
+-- Laws of `Messages`: what is written goes by the verdict on the rows. Assumes nothing.
+--
+--   written-wrong    a row that is wrong, or a member missing at the end
+--   written-right    the message that the rows make, or 22
+use mathlib.Core.Path.{_≡_, refl, sym, ap, _∙_}
+use mathlib.Core.Bool.{Bool, true, false, not}
+use mathlib.Core.List.{List, map}
+use Prim.Native.Nat.{ℕ, _*_}
+use native.Mathlib.Omega.{arith}
+use lib.ListN.{length}
+use lib.Dec.{eqb, leb}
+use Rattle.encoding.specs.Result.{pick}
+use Rattle.encoding.specs.Table.{base, upward, range, chain}
+use Rattle.encoding.specs.TableLaws.{chain-row}
+use Rattle.encoding.specs.Slice.{compact, sliced}
+use Rattle.encoding.specs.Message.{Row, encode, encapsulate}
+use Rattle.encoding.specs.Write.{Out, out, stop, next, State, begin, above, Given, judgeAll, gathered, formatOf, bounded, rowAt, rowsGiven}
+use Rattle.writer.specs.declared.Verdict.{Verdict}
+use Rattle.writer.specs.declared.Verdict.the-variants.{Right, Wrong}
+use Rattle.writer.specs.Cursors.{stateOf}
+use Rattle.writer.specs.Slices.{start, formatBy}
+use Rattle.writer.specs.Judged.{verdictOf}
+use Rattle.writer.specs.Messages.{contentsOf, written}
+use Rattle.writer.specs.Gathers.{begin-is, contents-are}
+
+module _ (T : List ℕ) (type format count : ℕ) (rows buffer : List ℕ) (room : ℕ) where
+  -- what the rows give
+  abbrev judged : Out (List Given)
+  judged = next (rowsGiven count rows) (judgeAll T buffer (begin T type (above (chain T type))) 0)
+
+  -- the message of what the rows give
+  abbrev message : List Given → Out (List ℕ)
+  message gs = bounded room (encapsulate (encode (formatOf format) (gathered T type gs)))
+
+  written-is : written T type format count rows buffer room ≡ next judged message
+  unfolding written rowsGiven next
+  written-is = go (leb (12 * count) (length rows))
+    where
+      go : (t : Bool) → next (pick t (out (map (rowAt rows) (range 0 count))) (stop 20 count)) (λ (rs : List Row). next (judgeAll T buffer (begin T type (above (chain T type))) 0 rs) message)
+          ≡ next (next (pick t (out (map (rowAt rows) (range 0 count))) (stop 20 count)) (judgeAll T buffer (begin T type (above (chain T type))) 0)) message
+      go true = refl
+      go false = refl
+
+  -- the rows that were judged right make the contents
+  judged-contents : (gs : List Given) → judged ≡ out gs → encode (formatOf format) (gathered T type gs) ≡ contentsOf T rows buffer count (formatOf format) type
+  unfolding rowsGiven next above
+  judged-contents gs e = go (leb (12 * count) (length rows)) e
+    where
+      go : (t : Bool) → next (pick t (out (map (rowAt rows) (range 0 count))) (stop 20 count)) (judgeAll T buffer (begin T type (above (chain T type))) 0) ≡ out gs
+          → encode (formatOf format) (gathered T type gs) ≡ contentsOf T rows buffer count (formatOf format) type
+      go true q = contents-are T rows buffer count type (formatOf format) gs (ap (λ (s : State). judgeAll T buffer s 0 (map (rowAt rows) (range 0 count))) (sym (rw (chain-row T type) (begin-is T type (upward (chain T) (base T type)) refl))) ∙ q)
+      go false q = let y : _≡_ {A = ℕ} 0 1 = cc in absurd (omega arith)
+
+  pub written-wrong : (n p : ℕ) → Wrong n p ≡ verdictOf judged → written T type format count rows buffer room ≡ stop n p
+  unfolding verdictOf next
+  written-wrong n p e = written-is ∙ go judged e
+    where
+      go : (w : Out (List Given)) → Wrong n p ≡ verdictOf w → next w message ≡ stop n p
+      go (out gs) q = let y : _≡_ {A = ℕ} 0 1 = cc in absurd (omega arith)
+      go (stop m r) q = let a : m ≡ n = cc in let b : r ≡ p = cc in rw (a, b)
+
+  pub written-right : Right ≡ verdictOf judged
+      → written T type format count rows buffer room ≡ bounded room (encapsulate (contentsOf T rows buffer count (formatOf format) type))
+  unfolding verdictOf next
+  written-right e = written-is ∙ go judged refl e
+    where
+      go : (w : Out (List Given)) → judged ≡ w → Right ≡ verdictOf w → next w message ≡ bounded room (encapsulate (contentsOf T rows buffer count (formatOf format) type))
+      go (out gs) f q = ap (λ (b : List ℕ). bounded room (encapsulate b)) (judged-contents gs f)
+      go (stop m r) f q = let y : _≡_ {A = ℕ} 0 1 = cc in absurd (omega arith)
+
+pub format-is : (n : ℕ) → formatOf n ≡ formatBy (not (eqb n 0))
+unfolding formatOf
+format-is n = go (eqb n 0)
+  where
+    go : (t : Bool) → pick t compact sliced ≡ formatBy (not t)
+    go true = refl
+    go false = refl
