@@ -11,6 +11,7 @@ pub mod OptionalExact
 pub mod SliceExact
 pub mod MessageExact
 pub mod Small
+pub mod RowsBack
 pub mod OptionalNewer
 pub mod RecordNewer
 pub mod SliceNewer

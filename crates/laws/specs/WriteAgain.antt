@@ -2,38 +2,35 @@
 --
 --   level-judged, follow-judged   the rows of an owner, of a chain, are judged right and give just these pieces
 --   Again, again                  the rows of a whole message
---   rows-listed                   rows are read from their bytes
 --   write-again                   demand 2: it is the same message
 --   one-message                   demand 2: members and bytes, type and format fix the message
 use mathlib.Core.Path.{_≡_, refl, sym, ap, ap₂, _∙_, subst}
 use mathlib.Core.Bool.{true, false}
 use mathlib.Core.Logic.{⊎-elim}
 use mathlib.Core.Option.{Option, some}
-use mathlib.Core.List.{List, [], _∷_, _++_, map, append-nil, append-assoc}
-use Prim.Native.Nat.{ℕ, zero, suc, _+_, _*_, _≤_, _<_, _^_}
+use mathlib.Core.List.{List, [], _∷_, _++_, map, append-nil}
+use Prim.Native.Nat.{ℕ, suc, _+_, _≤_}
 use native.Mathlib.Omega.{arith}
-use lib.ListN.{length, take, drop, length-append, length-take}
-use lib.Seq.{take-at, drop-at}
+use lib.ListN.{length}
 use borrow.Author.Tests.{ne-eqb}
 use Rattle.encoding.specs.Result.{concat}
-use Rattle.encoding.specs.Number.{val, leBytes}
-use Rattle.encoding.specs.NumberLaws.{Bytes, bytes-take, bytes-drop, length-leBytes, val-leBytes, val-below}
 use Rattle.encoding.specs.Types.{Form}
 use Rattle.encoding.specs.Value.{exact}
-use Rattle.encoding.specs.Table.{at, members, kind, isRecord, range, fine, faults, chain, Member, lookup}
+use Rattle.encoding.specs.Table.{kind, isRecord, fine, faults, chain, Member, lookup}
 use Rattle.encoding.specs.Table
-use Rattle.encoding.specs.RuleLaws.{record-kind, named-ok, rows-there}
+use Rattle.encoding.specs.RuleLaws.{record-kind, named-ok}
 use Rattle.encoding.specs.Optional.{Piece, required, optional, skipped, pieceBytes, frontBytes, contentBytes, isSkipped}
 use Rattle.encoding.specs.Slice.{Format, compact, sliced, formatNumber, Slice, known, passed, Stand, first, later, slicesBytes, dataBytes, sliceFront, isLast}
-use Rattle.encoding.specs.Message.{Pieces, list, exception, class, encode, encapsulate, noTop, limit, Row, listRow, pieceMember, pieceRows, sliceRows, orZero, firstIn, firstKnown, rows, rowBytes, skippedPieces, skippedIn, passedIn, optionalsSkipped, slicesSkipped}
-use Rattle.encoding.specs.Write.{Slot, rising, slot, slots, planOf, plan, out, Given, partOf, piecesOf, slicesOf, gathered, noFormat, formatOf, rowAt}
+use Rattle.encoding.specs.Message.{Pieces, list, exception, class, encode, encapsulate, noTop, Row, listRow, pieceMember, pieceRows, sliceRows, orZero, firstIn, firstKnown, rows, rowBytes, skippedPieces, skippedIn, passedIn, optionalsSkipped, slicesSkipped}
+use Rattle.encoding.specs.Write.{Slot, rising, slot, slots, planOf, plan, out, Given, partOf, piecesOf, slicesOf, gathered, noFormat, formatOf}
 use Rattle.encoding.specs.Conform.{Level, Owned, Follow, Slices, Conform}
-use Rattle.laws.specs.Demands.{Follows, All, end, more, SameMembers, same-member, Below, rowList, Complete, WriteAgain, OneMessage, judging}
+use Rattle.laws.specs.Demands.{Follows, All, more, SameMembers, same-member, Below, Complete, WriteAgain, OneMessage, judging}
 use Rattle.laws.specs.OptionalNewer.{lookup-key}
 use Rattle.laws.specs.RowsExact.{Stands, stands-first, stands-next, stands-inside, stands-there, stands-encapsulated, content-stands, others-stand, data-stand, slices-stand, Found, required-found}
 use Rattle.laws.specs.MessageExact.{exact-message}
+use Rattle.laws.specs.RowsBack.{length-rows, rows-back, accepted-rows-small}
 use Rattle.laws.specs.PlanLaws.{Pairs, alone, before, Ordered, from, from-zero, optional-spot, givenOf, Judged, over, taken, missed, SlotsDiffer, find-judged, judged-chosen, first-among, judged-step}
-use Rattle.laws.specs.PlanRules.{Owner, owner-ordered, Fit, slots-owner, Falls, plan-owner, chain-falls, chain-owners, chain-top, plan-fit, plan-differ, list-chain, top-owner, top-step, judging-slots}
+use Rattle.laws.specs.PlanRules.{Owner, owner-ordered, slots-owner, Falls, plan-owner, chain-falls, chain-owners, chain-top, plan-differ, list-chain, top-owner, top-step, judging-slots}
 use Rattle.laws.specs.GatherLaws.{piecesIn, judged-append, judged-owner, slices-own, owns-all}
 use Rattle.laws.specs.MessageWritten.{writing-step}
 
@@ -201,93 +198,6 @@ module _ (T : List ℕ) (right : faults T ≡ fine) (top : ℕ) (there : noTop T
   again f (class ss) (k, C) Z =
       slices-again f ss _ 7 C (Z .optionals) (Z .slices) (stands-next (1 ∷ []) _ (stands-encapsulated _) 7 refl) (class ss) (λ row gs e s. rw (e, k) (ap class s)) (λ e. omega arith)
 
--- ---- rows as bytes
-
--- each number of a row fits 32 bits
-record Small (r : Row) : Type 0 where
-  member : r .member < 65536
-  place : r .place ≤ limit
-  len : r .len ≤ limit
-
-number-at : (u w v : List ℕ) (i : ℕ) → length u ≡ i → length w ≡ 4 → at (u ++ (w ++ v)) 4 i ≡ val w
-unfolding at
-number-at u w v i e l = ap val (ap (take 4) (drop-at u (w ++ v) i e) ∙ take-at w v 4 l)
-
-row-at : (u v : List ℕ) (r : Row) (k : ℕ) → length u ≡ 12 * k → Small r → rowAt (u ++ (rowBytes r ++ v)) k ≡ r
-unfolding rowAt rowBytes
-row-at u v r k e S = ap₂ (λ (m p : ℕ). record { member = m; place = p; len = at x 4 (12 * k + 8) }) one two ∙ ap (λ (l : ℕ). record { member = r .member; place = r .place; len = l }) three
-  where
-    a : List ℕ
-    a = leBytes 4 (r .member)
-
-    b : List ℕ
-    b = leBytes 4 (r .place)
-
-    c : List ℕ
-    c = leBytes 4 (r .len)
-
-    x : List ℕ
-    x = u ++ (a ++ b ++ c ++ v)
-
-    one : at x 4 (12 * k) ≡ r .member
-    one =
-        ap (λ (z : List ℕ). at z 4 (12 * k)) (simp append-assoc)
-        ∙ number-at u a (b ++ (c ++ v)) (12 * k) e (length-leBytes 4 (r .member)) ∙ val-leBytes 4 (r .member) (omega (arith, S .member))
-
-    two : at x 4 (12 * k + 4) ≡ r .place
-    two =
-        ap (λ (z : List ℕ). at z 4 (12 * k + 4)) (simp append-assoc)
-        ∙ number-at (u ++ a) b (c ++ v) (12 * k + 4) (omega (arith, length-append u a, length-leBytes 4 (r .member))) (length-leBytes 4 (r .place)) ∙ val-leBytes 4 (r .place) (omega (arith, S .place))
-
-    three : at x 4 (12 * k + 8) ≡ r .len
-    three =
-        ap (λ (z : List ℕ). at z 4 (12 * k + 8)) (simp append-assoc)
-        ∙ number-at (u ++ (a ++ b)) c v (12 * k + 8) (omega (arith, length-append u (a ++ b), length-append a b, length-leBytes 4 (r .member), length-leBytes 4 (r .place))) (length-leBytes 4 (r .len)) ∙ val-leBytes 4 (r .len) (omega (arith, S .len))
-
-length-rowBytes : (r : Row) → length (rowBytes r) ≡ 12
-unfolding rowBytes
-length-rowBytes r =
-    let a : List ℕ = leBytes 4 (r .member) in
-    let b : List ℕ = leBytes 4 (r .place) in
-    let c : List ℕ = leBytes 4 (r .len) in
-    omega (arith, length-append (a ++ b) c, length-append a b, length-leBytes 4 (r .member), length-leBytes 4 (r .place), length-leBytes 4 (r .len))
-
-length-rows : (rs : List Row) → length (concat rowBytes rs) ≡ 12 * length rs
-unfolding concat
-length-rows [] = refl
-length-rows (r ∷ rs) = omega (arith, length-append (rowBytes r) (concat rowBytes rs), length-rowBytes r, length-rows rs)
-
-rows-behind : {rs : List Row} → All Small rs → (x u : List ℕ) (k : ℕ) → x ≡ u ++ concat rowBytes rs → length u ≡ 12 * k → map (rowAt x) (range k (length rs)) ≡ rs
-unfolding concat range
-rows-behind end x u k e l = refl
-rows-behind (more {a = r} {l = rs} S L) x u k e l =
-    ap₂ (λ (y : Row) (ys : List Row). y ∷ ys) (ap (λ (z : List ℕ). rowAt z k) e ∙ row-at u (concat rowBytes rs) r k l S)
-    (rows-behind L x (u ++ rowBytes r) (suc k) (e ∙ sym (append-assoc u (rowBytes r) (concat rowBytes rs))) (omega (arith, length-append u (rowBytes r), length-rowBytes r)))
-
-rows-listed : {rs : List Row} → All Small rs → rowList (length rs) (concat rowBytes rs) ≡ rs
-rows-listed {rs} L = rows-behind L (concat rowBytes rs) [] 0 refl refl
-
--- a table of bytes has few member rows
-members-few : (T : List ℕ) → Bytes T → members T < 65536
-unfolding members at
-members-few T y = go (take 2 (drop 7 T)) (bytes-take 2 (drop 7 T) (bytes-drop 7 T y)) (omega (arith, length-take 2 (drop 7 T)))
-  where
-    go : (w : List ℕ) → Bytes w → length w ≤ 2 → val w < 65536
-    go w y l = go₂ (length w) l (val-below w y)
-      where
-        go₂ : (n : ℕ) → n ≤ 2 → val w < 256 ^ n → val w < 65536
-        go₂ zero h b = omega arith
-        go₂ (suc zero) h b = omega arith
-        go₂ (suc (suc zero)) h b = omega arith
-        go₂ (suc (suc (suc n))) h b = absurd (omega arith)
-
-judged-small : (T : List ℕ) → faults T ≡ fine → Bytes T → {m : List ℕ} → length m ≤ limit → {ss : List Slot} {rs : List Row} {gs : List Given} → All (Fit T) ss → Judged m ss rs gs → All Small rs
-judged-small T right y h end over = end
-judged-small T right y h (more {a = s} F L) (taken {r = r} e i x K) =
-    let b : s .member .row < members T = rows-there T right (s .owner) (s .member .row) (F .owner-right .below) (F .owner-right .own) (F .place .to) in
-    more {a = r} (record { member = omega (arith, members-few T y); place = omega arith; len = omega arith }) (judged-small T right y h L K)
-judged-small T right y h (more F L) (missed d K) = judged-small T right y h L K
-
 -- ---- written again
 
 format-again : (f : Format) → formatOf (formatNumber f) ≡ f
@@ -306,7 +216,7 @@ write-again T top m f p n room y yM h Z fits =
     let A = follows-again T top m f p F Z in
     let type : ℕ = firstKnown T top p in
     let rs : List Row = rows T top f p in
-    let S = judged-small T (F .table) y (F .short) (plan-fit T (F .table) type (A .there)) (A .judged) in
+    let S = accepted-rows-small T top m f p n yM h in
     let right : judging T type m rs ≡ out (A .gives) = judging-slots T (F .table) type (A .there) m rs ∙ judged-step 0 (plan-differ T (F .table) type (A .there)) (A .judged) in
     writing-step T type (formatNumber f) (length rs) (concat rowBytes rs) m room (record {
       composed = record {
@@ -316,7 +226,7 @@ write-again T top m f p n room y yM h Z fits =
         short = F .short;
         enough = omega (arith, length-rows rs);
         given = A .gives;
-        judged = ap (judging T type m) (rows-listed S) ∙ right;
+        judged = ap (judging T type m) (rows-back S (concat rowBytes rs) [] (sym (append-nil (concat rowBytes rs)))) ∙ right;
         made = F .encoded ∙ ap₂ (λ (g : Format) (q : Pieces). encapsulate (encode g q)) (sym (format-again f)) (sym (A .same));
       };
       short = F .short;
