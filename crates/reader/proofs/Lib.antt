@@ -1,0 +1,2 @@
+-- Laws that the proofs of `reader` cite.
+pub mod Headings

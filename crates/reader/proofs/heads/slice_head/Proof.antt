@@ -1,0 +1,36 @@
+-- The flags, then an ID where one is due, then what they mean; the ID lies within the bytes at hand. Assumes nothing.
+use Rattle.reader.proofs.Headings.{id-order, id-within, id-start-fits, id-end-fits, id-place-fits, head-none, head-flags, head-bare, head-unread, head-named}
+use borrow.Author.Needs.{needs}
+use Rattle.reader.proofs.heads.slice_head.Statement.{statement}
+use Rattle.reader.proofs.heads.slice_head.Tie as tie
+
+pub slice-head-spec : {M : Type 1} → statement M
+slice-head-spec =
+    tie.close
+    (tie.spec
+    (λ c. search head-none)  -- returns
+    (λ c κs. search needs)  -- byte-at-requires
+    (λ c κs. search needs)  -- flag-form-requires
+    (λ c. search head-flags)  -- returns-2
+    (λ c κs. search needs)  -- due-requires
+    (λ c. search needs)  -- sub-text
+    (λ c. search needs)  -- part-text-start
+    (λ c. search needs)  -- part-text-end
+    (λ c κs. search needs)  -- text-requires
+    (λ c. search needs)  -- enum-known-id
+    (λ c. search (needs, id-start-fits))  -- add-heading
+    (λ c. search (needs, id-end-fits))  -- add-heading-2
+    (λ c. search id-order)  -- sub-heading
+    (λ c. search (needs, id-order))  -- part-heading-start
+    (λ c. search (needs, id-within))  -- part-heading-end
+    (λ c. search (needs, id-end-fits))  -- add-heading-3
+    (λ c κs. search needs)  -- heading-requires
+    (λ c. search needs)  -- enum-known-id-2
+    (λ c. search (needs, id-place-fits))  -- add-t28
+    (λ c. search needs)  -- sub-heading-2
+    (λ c. search needs)  -- part-heading-start-2
+    (λ c. search needs)  -- part-heading-end-2
+    (λ c κs. search needs)  -- heading-requires-2
+    (λ c. search head-named)  -- returns-3
+    (λ c. search head-unread)  -- returns-4
+    (λ c. search head-bare))  -- returns-5

@@ -1,0 +1,3 @@
+-- What the walk over a message answers.
+pub mod Stages
+pub mod Walks

@@ -1,0 +1,33 @@
+-- What the code answers of a walk over a message from a place on.
+--
+--   sliceWalk      of the slices of a record
+--   listWalk       of a parameter list
+--   bodyWalk       of a whole message: its first known type, format, rows, optionals and slices skipped, and its end; or a refusal
+use Prim.Native.Nat.{ℕ, _+_}
+use mathlib.Core.List.{List}
+use lib.ListN.{length}
+use Rattle.encoding.specs.Result.{Res, ok, bad}
+use Rattle.encoding.specs.Table.{chain}
+use Rattle.encoding.specs.Optional.{Piece}
+use Rattle.encoding.specs.Slice.{first, formatNumber, Chain}
+use Rattle.encoding.specs.Message.{Row, Read, pieceRows, sliceRows, firstIn, firstKnown, rows, skippedPieces, skippedIn, passedIn, optionalsSkipped, slicesSkipped}
+use Rattle.reader.specs.declared.Walk.{Walk}
+use Rattle.reader.specs.declared.Walk.the-variants.{Done, Stop}
+
+-- the rows of a chain of slices that begins at a place
+unfoldable pub chainRows : List ℕ → ℕ → Chain → List Row
+chainRows T at c = sliceRows T (c .format) first at (chain T (firstIn T (c .list))) (c .list)
+
+unfoldable pub sliceWalk : List ℕ → ℕ → Res Chain → Walk
+sliceWalk T at (ok c n) =
+    Done (firstIn T (c .list)) (formatNumber (c .format)) (length (chainRows T at c)) (skippedIn (c .list)) (passedIn (c .list)) (at + n)
+sliceWalk T at (bad c p) = Stop c (at + p)
+
+unfoldable pub listWalk : List ℕ → ℕ → ℕ → Res (List Piece) → Walk
+listWalk T top at (ok ps n) = Done top 1 (length (pieceRows T top at ps)) (skippedPieces ps) 0 (at + n)
+listWalk T top at (bad c p) = Stop c (at + p)
+
+unfoldable pub bodyWalk : List ℕ → ℕ → Res Read → Walk
+bodyWalk T top (ok r n) =
+    Done (firstKnown T top (r .pieces)) (formatNumber (r .format)) (length (rows T top (r .format) (r .pieces))) (optionalsSkipped (r .pieces)) (slicesSkipped (r .pieces)) n
+bodyWalk T top (bad c p) = Stop c p

@@ -1,0 +1,180 @@
+// Flags and type ID of a slice, and what they mean where the walk stands.
+ghost use mathlib.Core.Path.{_≡_};
+ghost use mathlib.Core.Bool.{_&&_, not};
+ghost use Rattle.encoding.specs.Result.{must, sameBytes};
+ghost use Rattle.encoding.specs.Number.{string};
+ghost use Rattle.encoding.specs.Table.{nameOf};
+ghost use Rattle.encoding.specs.Slice.{formatOf, mixed, due, flagForm, head, standOf, idForm, wrongLast, meaning, meaningForm};
+ghost use Rattle.reader.specs.Stages.{stageOf, textOf, seekHeading, followHeading, heading, headAnswer};
+use crate::Heading;
+use crate::Stage;
+use crate::Text;
+use table::Found;
+use wire::Sized;
+
+// The format is another than that of the slice before.
+fn mixed(stage: Stage, flags: usize) -> bool
+    ensures { λ r. ⌜ r ≡ mixed (standOf (stageOf stage)) flags ⌝ }
+{
+    let size = wire::has_size(flags);
+    match stage {
+        Stage::First => false,
+        Stage::Seeking => !size,
+        Stage::Following(sliced, b) => sliced != size,
+    }
+}
+
+// A type ID is due.
+fn due(stage: Stage, flags: usize) -> bool
+    ensures { λ r. ⌜ r ≡ due (standOf (stageOf stage)) (formatOf flags) ⌝ }
+{
+    let size = wire::has_size(flags);
+    match stage {
+        Stage::First => true,
+        Stage::Seeking => size,
+        Stage::Following(sliced, b) => size,
+    }
+}
+
+// 14 for bits 6-7, a mixed format, an ID missing or in the way; 13 for bit 3, ID form 2 or 3; or 0.
+fn flag_form(stage: Stage, flags: usize) -> usize
+    ensures { λ r. ⌜ r ≡ flagForm (standOf (stageOf stage)) flags ⌝ }
+{
+    if wire::has_unused(flags) {
+        return 14;
+    }
+    if mixed(stage, flags) {
+        return 14;
+    }
+    let id = wire::id_form(flags);
+    if due(stage, flags) == (id == 0) {
+        return 14;
+    }
+    if wire::has_table(flags) {
+        return 13;
+    }
+    if 1 < id {
+        return 13;
+    }
+    0
+}
+
+// A string: where its bytes begin and where they end.
+fn text(s: &[u8]) -> Text
+    ensures { λ r. ⌜ r ≡ textOf (string (now (s .entry))) ⌝ }
+{
+    let z = wire::read_size(s);
+    match z {
+        Sized::Is(n, k) => {
+            if n <= s.len() - k {
+                Text::Is(k, k + n)
+            } else {
+                Text::Isnt(4, 0)
+            }
+        }
+        Sized::Isnt(c, p) => Text::Isnt(c, 0),
+    }
+}
+
+// Bit 5 is set on a row with a base, or is not on one without.
+fn wrong_last(table: &[u8], t: usize, last: bool) -> bool
+    ensures { λ r. ⌜ r ≡ wrongLast (now (table .entry)) t last ⌝ }
+{
+    last != (table::chain::base(table, t) == 0)
+}
+
+// An ID while no slice was known yet: skipped, 15 or 16 if unknown; else the top or below it, or 17.
+fn seek_heading(table: &[u8], top: usize, flags: usize, id: &[u8], n: usize) -> Heading
+    ensures { λ r. ⌜ r ≡ seekHeading (now (table .entry)) top flags (now (id .entry)) n ⌝ }
+{
+    let size = wire::has_size(flags);
+    let last = wire::is_last(flags);
+    let found = table::naming::named(table, id);
+    match found {
+        Found::At(t) => {
+            if table::chain::in_chain(table, t, top) {
+                if wrong_last(table, t, last) {
+                    return Heading::Wrong(17, 0);
+                }
+                return Heading::Known(t, wire::has_optionals(flags), size, n);
+            }
+            Heading::Wrong(17, 0)
+        }
+        Found::Nothing => {
+            if size {
+                if last {
+                    return Heading::Wrong(16, 0);
+                }
+                return Heading::Skip(n);
+            }
+            Heading::Wrong(15, 1)
+        }
+    }
+}
+
+// An ID stands there that is not the name of row t.
+fn other_id(table: &[u8], sliced: bool, t: usize, id: &[u8]) -> bool
+    ensures { λ r. ⌜ r ≡ sliced && not (sameBytes (now (id .entry)) (nameOf (now (table .entry)) t)) ⌝ }
+{
+    if sliced {
+        return !table::naming::is_named(table, t, id);
+    }
+    false
+}
+
+// An ID behind a known slice: that of its base row, b - 1, or 17.
+fn follow_heading(
+    table: &[u8],
+    sliced: bool,
+    b: usize,
+    flags: usize,
+    id: &[u8],
+    n: usize,
+) -> Heading
+    ensures { λ r. ⌜ r ≡ followHeading (now (table .entry)) sliced b flags (now (id .entry)) n ⌝ }
+{
+    if b == 0 {
+        return Heading::Wrong(17, 0);
+    }
+    if other_id(table, sliced, b - 1, id) {
+        return Heading::Wrong(17, 0);
+    }
+    if wrong_last(table, b - 1, wire::is_last(flags)) {
+        return Heading::Wrong(17, 0);
+    }
+    Heading::Known(b - 1, wire::has_optionals(flags), wire::has_size(flags), n)
+}
+
+// What flags and ID mean where the walk stands, n bytes taken.
+fn heading(table: &[u8], top: usize, stage: Stage, flags: usize, id: &[u8], n: usize) -> Heading
+    ensures { λ r. ⌜ r ≡ heading (now (table .entry)) top stage flags (now (id .entry)) n ⌝ }
+{
+    match stage {
+        Stage::First => seek_heading(table, top, flags, id, n),
+        Stage::Seeking => seek_heading(table, top, flags, id, n),
+        Stage::Following(sliced, b) => follow_heading(table, sliced, b, flags, id, n),
+    }
+}
+
+// Flags and type ID of the slice in front: 14 and 13, the ID, 15 to 17.
+pub fn slice_head(table: &[u8], top: usize, stage: Stage, s: &[u8]) -> Heading
+    ensures { λ r. ⌜ r ≡ headAnswer (now (table .entry)) top (stageOf stage) (must (λ h. meaningForm (meaning (now (table .entry)) top (stageOf stage) h)) (head (standOf (stageOf stage)) (idForm (now (table .entry)) (stageOf stage))) (now (s .entry))) ⌝ }
+{
+    if s.len() < 1 {
+        return Heading::Wrong(4, 0);
+    }
+    let flags = wire::byte_at(s, 0);
+    let c = flag_form(stage, flags);
+    if c != 0 {
+        return Heading::Wrong(c, 0);
+    }
+    if due(stage, flags) {
+        let id = text(&s[1..]);
+        match id {
+            Text::Is(a, e) => heading(table, top, stage, flags, &s[1 + a..1 + e], 1 + e),
+            Text::Isnt(d, p) => Heading::Wrong(d, 1 + p),
+        }
+    } else {
+        heading(table, top, stage, flags, &s[1..1], 1)
+    }
+}
