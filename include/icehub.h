@@ -33,8 +33,9 @@ enum {
 };
 
 /* A row is three numbers of 32 bits, little-endian: the member row of the table, then the place and the length of
- * the member's bytes in the message (for the writer: in the buffer). An optional's bytes are those behind its
- * length field, if it has one; a string or a sequence begins with its own size. */
+ * the member's bytes in the message (for the writer: in the buffer). They are the value alone, without an optional's
+ * header and length field; a string, sequence or dictionary begins with its own size, also where that size serves as
+ * the length field (an optional string, or sequence of bool or byte). */
 
 /* The format of a record. A parameter list has ICEHUB_SLICED. */
 enum icehub_format {
@@ -144,9 +145,9 @@ uint32_t icehub_read_slices_skipped(const uint8_t *table, size_t table_len, uint
  *   type                the number of the row to write: an exception, a class or a parameter list
  *   format              ICEHUB_COMPACT or ICEHUB_SLICED; a parameter list takes ICEHUB_SLICED
  *   count               how many rows there are
- *   rows, rows_len      the rows, at least count * ICEHUB_ROW_SIZE bytes; what follows them is ignored.
- *                       The slices of the type from itself to its last base; in each its required members as declared,
- *                       then those of its optionals that are wanted, by rising tag
+ *   rows, rows_len      the rows: count * ICEHUB_ROW_SIZE bytes (fewer are an ICEHUB_BAD_ROW, more are ignored).
+ *                       They go through the slices of the type from itself to its last base: in each the required
+ *                       members as declared, then those optionals that are wanted, by rising tag
  *   buffer, buffer_len  what the places of the rows point into; rows may overlap there
  *   out, out_len        the lent output
  */
@@ -160,8 +161,8 @@ uint32_t icehub_write(const uint8_t *table, size_t table_len, uint32_t type, uin
 /* The other numbers of a writing. Each call judges the same input anew, as icehub_write does with an output of out_len
  * bytes, and changes nothing. */
 
-/* The place of the refusal; 0 where the message is written. With out_len 0 a right list is refused by
- * ICEHUB_OUTPUT_TOO_LONG, and the place is the length that the message needs. */
+/* The place of the refusal; 0 where the message is written. With an out_len of 0, rows that nothing else is wrong with
+ * are refused by ICEHUB_OUTPUT_TOO_LONG, and the place is the length that their message needs. */
 uint32_t icehub_write_place(const uint8_t *table, size_t table_len, uint32_t type, uint32_t format, uint32_t count,
                             const uint8_t *rows, size_t rows_len, const uint8_t *buffer, size_t buffer_len,
                             size_t out_len);

@@ -1,7 +1,7 @@
 //! The C functions of libicehub.a, as functions on slices. All that is unsafe in this crate stands here.
 //!
 //! What include/icehub.h asks of a caller holds of every call: a slice has a pointer that is not null, also where it is
-//! empty, and as many bytes as its length says; a `&mut` slice overlaps nothing else, and nobody else uses it meanwhile.
+//! empty, and as many bytes as its length says; a `&mut` slice overlaps nothing, and nobody else uses it meanwhile.
 
 extern "C" {
     fn icehub_read(

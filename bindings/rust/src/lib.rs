@@ -60,8 +60,9 @@ pub enum Format {
 
 /// A member of a message: where its bytes stand.
 ///
-/// The bytes of an optional are those behind its length field, if it has one; a string or a sequence begins with its
-/// own size.
+/// They are the value alone, without an optional's header and length field; a string, sequence or dictionary begins
+/// with its own size, also where that size serves as the length field (an optional string, or sequence of bool or
+/// byte).
 #[derive(Clone, Copy, Debug, PartialEq, Eq, Hash)]
 pub struct Row {
     /// The member row of the table.
@@ -142,8 +143,8 @@ impl<'r> Reading<'r> {
 
 /// Reads a message under a type table and the row of the wanted type, the top.
 ///
-/// The members that the table knows come to stand at the start of `rows`, [`ROW_SIZE`] bytes each; the bytes beyond them
-/// stay, and on a refusal all of them. A list of [`MOST_ROWS`] rows is always long enough.
+/// The members that the table knows come to stand at the start of `rows`, [`ROW_SIZE`] bytes each; the bytes beyond
+/// them stay, and on a refusal all of them. A list of [`MOST_ROWS`] rows is always long enough.
 ///
 /// The library reads the message once for the rows and once for each further number: six times in all.
 pub fn read<'r>(table: &[u8], top: u32, message: &[u8], rows: &'r mut [u8]) -> Result<Reading<'r>, Refusal> {
@@ -168,11 +169,12 @@ pub fn read<'r>(table: &[u8], top: u32, message: &[u8], rows: &'r mut [u8]) -> R
 /// Writes the message of a type in a format, and gives its length.
 ///
 /// `of` is the row of an exception, a class or a parameter list. `rows` has [`ROW_SIZE`] bytes for each row, a rest is
-/// ignored; their places point into `buffer`, where they may overlap. They hold the slices of the type from itself to its
-/// last base, in each its required members as declared, then those of its optionals that are wanted, by rising tag.
+/// ignored; their places point into `buffer`, where they may overlap. They go through the slices of the type from
+/// itself to its last base: in each the required members as declared, then those optionals that are wanted, by rising
+/// tag.
 ///
-/// The message comes to stand at the start of `out`; the bytes beyond it stay, and on a refusal all of them. Where `out`
-/// is too short, the place of the refusal is the length needed.
+/// The message comes to stand at the start of `out`; the bytes beyond it stay, and on a refusal all of them. Where
+/// `out` is too short, the place of the refusal is the length needed.
 ///
 /// The library judges the rows twice: once for the message and once for its length.
 pub fn write(

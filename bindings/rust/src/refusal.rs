@@ -10,7 +10,7 @@ use core::fmt;
 pub struct Refusal {
     /// The number, 1 to 23; each has a name here.
     pub number: u32,
-    /// A place in the message, in the table for [`Refusal::BAD_TABLE`], or the number that [`Refusal::place_text`] says.
+    /// A place in the message, in the table for [`Refusal::BAD_TABLE`], or what [`Refusal::place_text`] says.
     pub place: u32,
 }
 
