@@ -8,7 +8,7 @@
 --   row-due, row-may, row-stop             a row as a required member, as an optional one, as none of this owner
 use mathlib.Core.Path.{_≡_, refl, sym, ap, _∙_}
 use mathlib.Core.Bool.{Bool, true, false}
-use mathlib.Core.Option.{none, some}
+use mathlib.Core.Option.{none}
 use mathlib.Core.List.{List, [], _∷_, _++_, map}
 use Prim.Native.Nat.{ℕ, zero, suc, _+_, _-_, _*_, _≤_, _<_}
 use native.Mathlib.Omega.{arith}
@@ -33,7 +33,7 @@ use Rattle.writer.specs.declared.Reach.the-variants.{Due, May, Nothing}
 use Rattle.writer.specs.Cursors.{requiredIn, mayMember, stateOf, reachedOf, Near, hereOf}
 use Rattle.writer.specs.Puts.{Puts}
 use Rattle.writer.specs.PutsLaws.{puts-one, puts-none, puts-is, puts-number, puts-byte, puts-size, puts-then}
-use Rattle.writer.specs.Pieces.{headerField, formBits, lengthField, Taken, takenOf, pieceAt, RowLaid}
+use Rattle.writer.specs.Pieces.{headerField, formBits, lengthField, takenOf, pieceAt, RowLaid}
 use Rattle.writer.specs.PiecesLaws.{required-bytes, optional-bytes, header-short, header-long, length-none, length-size, length-int}
 use Rattle.writer.proofs.Reaches.{near-due, near-may}
 

@@ -6,15 +6,14 @@
 --   slice-laid                   the front put before the data
 use mathlib.Core.Path.{_≡_, refl, sym, ap, _∙_}
 use mathlib.Core.Bool.{Bool, true, false}
-use mathlib.Core.List.{List, [], _∷_, _++_, append-assoc}
-use Prim.Native.Nat.{ℕ, _+_, _-_, _*_, _≤_, _<_}
+use mathlib.Core.List.{List, [], _∷_, _++_}
+use Prim.Native.Nat.{ℕ, _+_, _-_, _≤_, _<_}
 use native.Mathlib.Omega.{arith}
 use native.Mathlib.Nat.{add-zero}
 use lib.ListN.{length, length-append}
-use Rattle.encoding.specs.Result.{pick, concat}
+use Rattle.encoding.specs.Result.{pick}
 use Rattle.encoding.specs.Number.{leBytes}
 use Rattle.encoding.specs.NumberLaws.{length-leBytes}
-use Rattle.encoding.specs.Optional.{pieceBytes}
 use Rattle.encoding.specs.Slice.{sliced, compact, isSliced, worth, flagBits, anyOptional, dataBytes}
 use Rattle.wire.specs.Put.{put}
 use Rattle.writer.specs.declared.Laid.{Laid}

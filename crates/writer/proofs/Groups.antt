@@ -4,8 +4,8 @@
 --   Grouping, grouping-..                what the loop keeps
 use mathlib.Core.Path.{_≡_, refl, sym, ap, _∙_}
 use mathlib.Core.Bool.{Bool, true, false, _||_}
-use mathlib.Core.Option.{Option, none, some}
-use mathlib.Core.List.{List, [], _∷_, _++_}
+use mathlib.Core.Option.{none, some}
+use mathlib.Core.List.{List, [], _∷_}
 use Prim.Native.Nat.{ℕ, zero, suc, _+_, _-_, _*_, _≤_, _<_}
 use native.Mathlib.Numerals.{add-one}
 use native.Mathlib.Omega.{arith}
@@ -18,9 +18,9 @@ use Rattle.writer.specs.declared.Cursor.{Cursor}
 use Rattle.writer.specs.declared.Placed.{Placed}
 use Rattle.writer.specs.declared.Placed.the-variants.{Row, Stop}
 use Rattle.writer.specs.Cursors.{stateOf}
-use Rattle.writer.specs.Puts.{Puts, Leaves}
+use Rattle.writer.specs.Puts.{Leaves}
 use Rattle.writer.specs.PutsLaws.{leaves-begin, leaves-step, leaves-end}
-use Rattle.writer.specs.Pieces.{Taken, pieceAt, grown, group, RowLaid, RowPut}
+use Rattle.writer.specs.Pieces.{pieceAt, grown, group, RowLaid, RowPut}
 use Rattle.writer.specs.Slices.{start, groupOf, RowsLaid}
 
 module _ (T rows buffer : List ℕ) (s : State) (i count : ℕ) where

@@ -3,10 +3,10 @@
 --   name-few            a name is at most as long as its length says
 --   id-long, id-none    how many bytes the type ID takes, where it is due and where not
 --   id-put, id-put-none its size, and the name behind it
-use mathlib.Core.Path.{_≡_, refl, sym, ap, _∙_}
+use mathlib.Core.Path.{_≡_, sym, ap, _∙_}
 use mathlib.Core.Bool.{Bool, true, false}
-use mathlib.Core.List.{List, [], _++_}
-use Prim.Native.Nat.{ℕ, _+_, _≤_, _<_}
+use mathlib.Core.List.{List}
+use Prim.Native.Nat.{ℕ, _+_, _≤_}
 use native.Mathlib.Omega.{arith}
 use native.Mathlib.Nat.{min-le-left}
 use lib.ListN.{length, take, drop, length-append}
@@ -16,7 +16,7 @@ use Rattle.table.specs.Names.{nameStart}
 use Rattle.table.specs.NamesLaws.{name-part, length-name}
 use Rattle.wire.specs.Put.{put}
 use Rattle.writer.specs.Puts.{Puts}
-use Rattle.writer.specs.PutsLaws.{puts-one, puts-none, puts-is, puts-size, puts-then}
+use Rattle.writer.specs.PutsLaws.{puts-one, puts-none, puts-size, puts-then}
 use Rattle.writer.specs.Slices.{idField}
 
 pub name-few : (T : List ℕ) (o n most : ℕ) → n ≡ length (nameOf T o) → most ≡ field T o 4 → n ≤ most

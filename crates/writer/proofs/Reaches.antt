@@ -7,15 +7,14 @@
 --   here-..                  what is reached in the same owner
 --   left-..                  the loop over owners that looks for what is still due
 use mathlib.Core.Path.{_≡_, refl, sym, ap, _∙_}
-use mathlib.Core.Bool.{Bool, true, false, _&&_, not}
-use mathlib.Core.Option.{Option, none, some}
+use mathlib.Core.Bool.{Bool, true, false}
+use mathlib.Core.Option.{Option, none}
 use mathlib.Core.List.{List, [], _∷_}
-use Prim.Native.Nat.{ℕ, zero, suc, _+_, _-_, _≤_, _<_}
-use native.Mathlib.Numerals.{add-one, sub-one}
+use Prim.Native.Nat.{ℕ, suc, _+_, _-_, _≤_, _<_}
+use native.Mathlib.Numerals.{add-one}
 use native.Mathlib.Omega.{arith}
-use lib.Dec.{eqb, leb}
+use lib.Dec.{leb}
 use borrow.Author.Tests.{eq-eqb, ne-eqb}
-use Rattle.encoding.specs.Result.{pick}
 use Rattle.encoding.specs.Table.{field, mark, tag, takes, optional, base}
 use Rattle.encoding.specs.Write.{Reached, optionalRow, reachDue, reach, stillDue}
 use Rattle.writer.specs.declared.Cursor.{Cursor}

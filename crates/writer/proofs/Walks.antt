@@ -5,15 +5,13 @@
 --   message-laid                                    size and version put before the data
 use mathlib.Core.Path.{_≡_, refl, sym, ap, _∙_}
 use mathlib.Core.Bool.{Bool, true, false}
-use mathlib.Core.List.{List, [], _∷_, _++_, append-assoc}
-use Prim.Native.Nat.{ℕ, zero, suc, _+_, _-_, _*_, _≤_, _<_}
-use native.Mathlib.Numerals.{sub-one}
+use mathlib.Core.List.{List, [], _∷_, _++_}
+use Prim.Native.Nat.{ℕ, zero, suc, _+_, _-_, _*_, _≤_}
 use native.Mathlib.Omega.{arith}
 use lib.ListN.{length}
 use lib.Dec.{eqb}
 use borrow.Author.Tests.{eq-eqb, ne-eqb}
-use Rattle.encoding.specs.Result.{pick, concat}
-use Rattle.encoding.specs.Number.{leBytes, stringBytes}
+use Rattle.encoding.specs.Number.{leBytes}
 use Rattle.encoding.specs.Table.{kind, base, upward, chain}
 use Rattle.encoding.specs.TableLaws.{chain-row}
 use Rattle.encoding.specs.Slice.{Format, isSliced, Stand, first, later, due, Slice, hasOptionals, idOf, isLast, sliceFront, slicesBytes}

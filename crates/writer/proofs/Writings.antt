@@ -3,20 +3,19 @@
 --   answer-wrong                 a row is wrong: a refusal, and the output stays
 --   answer-over, answer-room     22: the message is too long, or longer than the output
 --   answer-made                  the message stands at the output's start
-use mathlib.Core.Path.{_≡_, refl, sym, ap, subst, _∙_}
+use mathlib.Core.Path.{_≡_, refl, sym, ap, _∙_}
 use mathlib.Core.Bool.{Bool, true, false, _&&_, not}
-use mathlib.Core.List.{List, _++_}
-use Prim.Native.Nat.{ℕ, _+_, _≤_, _<_}
+use mathlib.Core.List.{List}
+use Prim.Native.Nat.{ℕ, _≤_, _<_}
 use native.Mathlib.Nat.{zero-add}
 use native.Mathlib.Omega.{arith}
-use lib.ListN.{length, drop}
+use lib.ListN.{length}
 use lib.Dec.{eqb, leb}
 use borrow.Author.Tests.{le-leb, lt-leb}
 use Rattle.encoding.specs.Result.{pick}
 use Rattle.encoding.specs.Slice.{Format}
 use Rattle.encoding.specs.Message.{encapsulate}
-use Rattle.encoding.specs.Write.{Out, out, stop, bounded, output, formatOf}
-use Rattle.wire.specs.Put.{put}
+use Rattle.encoding.specs.Write.{Out, out, stop, bounded, output}
 use Rattle.wire.specs.PutLaws.{put-front}
 use Rattle.writer.specs.declared.Outcome.the-variants.{Made, Stopped}
 use Rattle.writer.specs.declared.Verdict.{Verdict}

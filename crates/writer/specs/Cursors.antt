@@ -2,6 +2,7 @@
 --
 --   requiredIn       how many of some member rows are required
 --   dueFrom          the required members of an owner still due, where so many of its member rows are passed
+--   bases            the bases of a row, one after another
 --   stateOf          the state of a cursor
 --   mayRow           a member row is an optional one of an owner, its tag at least so much
 --   dueMember        a required member, by its owner and how many member rows stand before it; mayMember an optional one
@@ -30,13 +31,16 @@ requiredIn T a (suc k) = requiredIn T a k + pick (eqb (mark T (a + k)) 0) 1 0
 unfoldable pub dueFrom : List ℕ → ℕ → ℕ → List Member
 dueFrom T o k = requiredOf T (trees T) (requiredIn T (field T o 0) k) (range (field T o 0 + k) (field T o 1 - k))
 
+abbrev pub bases : List ℕ → ℕ → List ℕ
+bases T o = upward (chain T) (base T o)
+
 -- the owners above are the bases of the owner
 unfoldable pub stateOf : List ℕ → Cursor → State
 stateOf T c = record {
   owner = c .owner;
   due = dueFrom T (c .owner) (c .passed);
   least = c .least;
-  above = upward (chain T) (base T (c .owner));
+  above = bases T (c .owner);
 }
 
 abbrev pub mayRow : List ℕ → ℕ → ℕ → ℕ → Bool

@@ -13,14 +13,14 @@ use native.Mathlib.Nat.{add-zero}
 use native.Mathlib.Numerals.{add-one}
 use native.Mathlib.Omega.{arith}
 use lib.Dec.{eqb, leb, ltb}
-use borrow.Author.Tests.{leb-true, leb-false, ltb-true, ltb-false, eqb-true, eqb-false, le-leb, lt-leb, lt-ltb, le-ltb, eq-eqb, ne-eqb}
+use borrow.Author.Tests.{leb-true, leb-false, ltb-true, ltb-false, eqb-true, eqb-false, eq-eqb, ne-eqb}
 use Rattle.encoding.specs.Result.{pick}
 use Rattle.encoding.specs.Types.{Ty}
-use Rattle.encoding.specs.Table.{field, mark, tag, takes, range, Member, ownRows, trees, memberTy, requiredOf, required, optionalOf, optional, any, base, upward, chain}
+use Rattle.encoding.specs.Table.{field, mark, tag, takes, range, Member, ownRows, trees, memberTy, requiredOf, required, optionalOf, optional, any, base, upward}
 use Rattle.encoding.specs.TableLaws.{chain-row}
-use Rattle.encoding.specs.Write.{State, Reached, optionalRow, orAbove, entered, reachDue, reachMay, reach, anyOf, stillDue}
+use Rattle.encoding.specs.Write.{optionalRow, orAbove, entered, reachDue, reachMay, reach, anyOf, stillDue}
 use Rattle.writer.specs.declared.Cursor.{Cursor}
-use Rattle.writer.specs.Cursors.{requiredIn, dueFrom, stateOf, mayRow, dueMember, mayMember}
+use Rattle.writer.specs.Cursors.{requiredIn, dueFrom, bases, stateOf, mayRow, dueMember, mayMember}
 
 -- ---- required members
 
@@ -131,10 +131,6 @@ module _ (T : List ℕ) (m least : ℕ) where
       go false u e f = let g = leb-false (field T o 0) m e in optional-out (field T o 0) (field T o 1) (λ i h l q. omega arith)
 
 -- ---- what is reached
-
--- the bases of a row
-abbrev pub bases : List ℕ → ℕ → List ℕ
-bases T o = upward (chain T) (base T o)
 
 module _ (T : List ℕ) (m : ℕ) (c : Cursor) where
   pub reach-due : (d : Member) (ds : List Member) → dueFrom T (c .owner) (c .passed) ≡ d ∷ ds

@@ -1,17 +1,16 @@
 -- Rows that were judged right make the message owner by owner, each owner's rows one after another. Assumes nothing.
 --
---   Under, under-bases       bases are smaller, one after another
---   bases-more               the bases of a row, if there are some
---   reach-where              what is reached is of the same owner, or is reached from the base's start
---   Judged-one, judged-one   a first row that was judged right
---   Split, split             the pieces of the owner are those of the first rows, the slices above are made of the rest
---   contents-are             the data of the encapsulation
-use mathlib.Core.Path.{_≡_, refl, sym, ap, ap₂, subst, _∙_}
+--   Under, under-bases         bases are smaller, one after another
+--   begin-is                   the state at the start of an owner is that of a cursor
+--   Where, reach-where         what is reached is of the same owner, or is reached from the base's start
+--   reach-low                  its owner is this one or a base
+--   contents-are               rows that were judged right make the data of the encapsulation
+-- On the way: First, a first row that was judged right; Split, the pieces of the owner are those of the first rows, the slices above are made of the rest.
+use mathlib.Core.Path.{_≡_, refl, sym, ap, ap₂, _∙_}
 use mathlib.Core.Bool.{Bool, true, false}
 use mathlib.Core.Option.{Option, none, some}
-use mathlib.Core.List.{List, [], _∷_, _++_, map}
+use mathlib.Core.List.{List, [], _∷_, map}
 use Prim.Native.Nat.{ℕ, zero, suc, _+_, _-_, _≤_, _<_}
-use native.Mathlib.Nat.{add-zero}
 use native.Mathlib.Omega.{arith}
 use lib.ListN.{length}
 use lib.Dec.{eqb, leb}
@@ -24,15 +23,15 @@ use Rattle.encoding.specs.Optional.{Piece, pieceBytes}
 use Rattle.encoding.specs.Slice.{Format, first, Slice, known, slicesBytes}
 use Rattle.encoding.specs.Message.{Row, list, exception, class, encode}
 use Rattle.encoding.specs.Write.{Out, out, stop, next, State, above, begin, Reached, reachDue, optionalRow, orAbove, entered, reachMay, reach, stillDue, Given, given, partOf, judge, prepend, judgeAll, piecesOf, slicesOf, gathered, rowAt}
-use Rattle.writer.specs.Cursors.{stateOf, hereOf}
-use Rattle.writer.specs.CursorsLaws.{bases, due-begin}
-use Rattle.writer.specs.Pieces.{Taken, takenOf, pieceAt, grown, group}
+use Rattle.writer.specs.Cursors.{bases, stateOf, hereOf}
+use Rattle.writer.specs.CursorsLaws.{due-begin}
+use Rattle.writer.specs.Pieces.{takenOf, pieceAt, grown, group}
 use Rattle.writer.specs.Slices.{start, groupOf, sliceOf, slicesFrom}
 use Rattle.writer.specs.Messages.{contentsOf}
 
 -- ---- bases
 
-abbrev Under : ℕ → List ℕ → Type 0
+abbrev pub Under : ℕ → List ℕ → Type 0
 Under o [] = Unit {0}
 Under o (t ∷ ts) = (t < o) × Under t ts
 
@@ -49,7 +48,7 @@ module _ (T : List ℕ) where
           let p : ts ≡ bases T r = cc in
           (omega arith, p ∙ ap (bases T) (sym q))
 
-  under-bases : (ts : List ℕ) (o : ℕ) → ts ≡ bases T o → Under o ts
+  pub under-bases : (ts : List ℕ) (o : ℕ) → ts ≡ bases T o → Under o ts
   under-bases [] o e = tt
   under-bases (t ∷ ts) o e = let m = bases-more o t ts e in (m .0, under-bases ts t (m .1))
 
@@ -61,7 +60,7 @@ module _ (T : List ℕ) where
 -- ---- what is reached
 
 -- of the same owner, or what is reached from the base's start
-data Where (T : List ℕ) (m o : ℕ) (ts : List ℕ) (w : Option Reached) (z : Reached) : Type 0 where
+pub data Where (T : List ℕ) (m o : ℕ) (ts : List ℕ) (w : Option Reached) (z : Reached) : Type 0 where
   here : z .state .owner ≡ o → z .state .above ≡ ts → Where T m o ts w z
   up : (t : ℕ) (us : List ℕ) → ts ≡ t ∷ us → w ≡ reach T m (begin T t us) → Where T m o ts w z
 
@@ -89,7 +88,7 @@ module _ (T : List ℕ) (m : ℕ) where
       go none q = up t ts refl refl
       go (some d) q = where-same T m o (t ∷ ts) _ _ z refl refl q
 
-  reach-where : (s : State) (z : Reached) → reach T m s ≡ some z → Where T m (s .owner) (s .above) (reach T m s) z
+  pub reach-where : (s : State) (z : Reached) → reach T m s ≡ some z → Where T m (s .owner) (s .above) (reach T m s) z
   unfolding reach entered reachDue
   reach-where s z e = go (s .due) e
     where
@@ -105,7 +104,7 @@ module _ (T : List ℕ) (m : ℕ) where
       go (d ∷ ds) q = due d ds (eqb m (d .row)) _ q
 
   -- its owner is this one or a base
-  reach-low : (ts : List ℕ) (s : State) (z : Reached) → s .above ≡ ts → Under (s .owner) ts → reach T m s ≡ some z → z .state .owner ≤ s .owner
+  pub reach-low : (ts : List ℕ) (s : State) (z : Reached) → s .above ≡ ts → Under (s .owner) ts → reach T m s ≡ some z → z .state .owner ≤ s .owner
   unfolding begin
   reach-low [] s z e u r = go (reach-where s z r)
     where

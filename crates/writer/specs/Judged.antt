@@ -4,7 +4,6 @@
 --   stateFrom      where the rows stand behind a row that was judged
 --   turnOf         the same of the code's answer
 --   verdictOf      whether every row is right
-use mathlib.Core.Bool.{Bool}
 use mathlib.Core.List.{List}
 use Prim.Native.Nat.{ℕ, _+_, _≤_}
 use lib.ListN.{length}
@@ -14,7 +13,6 @@ use Rattle.encoding.specs.Types.{Ty}
 use Rattle.encoding.specs.Value.{exact}
 use Rattle.encoding.specs.Message.{Row}
 use Rattle.encoding.specs.Write.{Out, out, stop, State, Reached, Given, partOf}
-use Rattle.writer.specs.declared.Cursor.{Cursor}
 use Rattle.writer.specs.declared.Turn.{Turn}
 use Rattle.writer.specs.declared.Turn.the-variants.{Next, Refused}
 use Rattle.writer.specs.declared.Verdict.{Verdict}

@@ -10,3 +10,4 @@ pub mod Messages
 pub mod Judged
 pub mod Gathers
 pub mod MessagesLaws
+pub mod Small

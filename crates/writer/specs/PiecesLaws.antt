@@ -4,14 +4,14 @@
 --   header-short, header-long         a header, by its tag
 --   length-none, length-size, length-int   a length field, by its form
 --   form-plain, form-sized, form-other     the type bits of a form
-use mathlib.Core.Path.{_≡_, refl, sym, ap, _∙_}
-use mathlib.Core.List.{List, [], _∷_, _++_, append-assoc}
-use Prim.Native.Nat.{ℕ, _+_, _*_, _%_, _≤_, _<_}
+use mathlib.Core.Path.{_≡_, refl}
+use mathlib.Core.List.{List, [], _∷_, _++_}
+use Prim.Native.Nat.{ℕ, _+_, _*_, _≤_, _<_}
 use native.Mathlib.Omega.{arith}
 use lib.ListN.{length}
-use borrow.Author.Tests.{lt-ltb, le-ltb, eq-eqb, ne-eqb}
+use borrow.Author.Tests.{lt-ltb, le-ltb, ne-eqb}
 use Rattle.encoding.specs.Number.{leBytes, sizeBytes}
-use Rattle.encoding.specs.Types.{Bits, f1, f2, f4, f8, size, vsize, fsize, class, bits, Form, bare, own, counted, sized, bitsOf}
+use Rattle.encoding.specs.Types.{f1, f2, f4, f8, size, vsize, fsize, class, bits, Form, bare, own, counted, sized, bitsOf}
 use Rattle.encoding.specs.Optional.{required, optional, headerBytes, lengthBytes, frontBytes, contentBytes, pieceBytes}
 use Rattle.table.specs.Forms.{formNumber}
 use Rattle.writer.specs.Pieces.{headerField, formBits, lengthField}

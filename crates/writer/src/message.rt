@@ -1,7 +1,7 @@
 // Puts the slices of a chain, and a message.
 use crate::slice;
 ghost use mathlib.Core.Path.{_≡_};
-ghost use Prim.Native.Nat.{_+_, _*_, _≤_, _<_};
+ghost use Prim.Native.Nat.{_≤_, _<_};
 ghost use lib.ListN.{length};
 ghost use Rattle.encoding.specs.Table.{chain};
 ghost use Rattle.encoding.specs.Slice.{first, slicesBytes};
