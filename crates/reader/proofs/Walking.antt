@@ -1,27 +1,27 @@
 -- The walk over slices: what holds at the heads of its loops, and what each step makes of it. Assumes nothing.
 --
---   Small, credit           a table is of bytes; how many owners may still come
---   Ends                    an answer and a lent list are the walk's
+--   ends-says, ends-gives   an outcome's answer and list are those of the walk
+--   credit                  how many owners may still come
 --   Outer, outer-..         at the head of the loop over slices
 --   Inner, inner-..         at the head of the loop over optionals
-use mathlib.Core.Path.{_≡_, refl, sym, ap, ap₂, _∙_, subst}
+use mathlib.Core.Path.{_≡_, refl, sym, ap, ap₂, _∙_}
 use mathlib.Core.Bool.{Bool, true, false, _&&_, not}
 use mathlib.Core.Option.{none, some}
 use mathlib.Core.Logic.{_⊎_, inl, inr}
-use mathlib.Core.List.{List, [], _∷_}
+use mathlib.Core.List.{List}
 use Prim.Native.Nat.{ℕ, zero, suc, _+_, _-_, _*_, _^_, _≤_, _<_}
-use native.Mathlib.Nat.{add-zero, sub-zero}
+use native.Mathlib.Nat.{add-zero}
 use native.Mathlib.Numerals.{add-one}
 use native.Mathlib.Omega.{arith}
-use lib.ListN.{length, take, drop, getD, length-drop}
-use lib.Seq.{take-nil, take-all, drop-drop, length-take-le}
+use lib.ListN.{length, take, drop, length-drop}
+use lib.Seq.{drop-drop}
 use lib.Dec.{eqb}
 use borrow.Author.Tests.{ne-eqb}
 use mir.Syntax.{w64}
 use mir.Val.{Fits}
 use Rattle.encoding.specs.Result.{Res, ok, bad, pick, atMark}
 use Rattle.encoding.specs.ResultLaws.{both-true, held-took}
-use Rattle.encoding.specs.Table.{at as number-at, types, field, base}
+use Rattle.encoding.specs.Table.{base}
 use Rattle.encoding.specs.Table
 use Rattle.encoding.specs.TableLaws.{base-below}
 use Rattle.encoding.specs.Optional.{Piece, requireds, optionalOf}
@@ -29,7 +29,6 @@ use Rattle.encoding.specs.OptionalLaws.{held-optional, eats-optional}
 use Rattle.encoding.specs.Slice.{compact, sliced, first, seek, later, follow, finished, fields, slices, Chain, formatNumber, slice}
 use Rattle.encoding.specs.SliceLaws.{held-slice, eats-slice}
 use Rattle.encoding.specs.Message.{pieceRows, rowBytes, sliceRows, skippedIn, passedIn}
-use Rattle.wire.specs.At.{at-more, at-byte}
 use Rattle.wire.specs.Put.{put}
 use Rattle.level.specs.Fill.{fill}
 use Rattle.level.specs.Answers.{membersOf}
@@ -47,36 +46,14 @@ use Rattle.reader.specs.declared.Walk.the-variants.{Done, Stop}
 use Rattle.reader.specs.Stages.{stageOf}
 use Rattle.reader.specs.Openings.{opening, turnOf, firstOr}
 use Rattle.reader.specs.Walks.{chainRows, sliceWalk}
-use Rattle.reader.specs.Left.{Outcome, listed, refused, answerOf, recallTo, firstFrom, onward, rowsFrom, left, closing, recalling, optionalsFrom, finish, amid}
+use Rattle.reader.specs.Left.{Outcome, answerOf, recallTo, firstFrom, onward, rowsFrom, left, closing, recalling, optionalsFrom, finish, amid}
 use Rattle.reader.specs.LeftLaws.{left-whole, left-listed, left-refused, left-skipped, left-known, onward-ended, fields-required, fields-refused, finish-end, finish-early, finish-wrong, finish-known, finish-skipped}
 use Rattle.reader.specs.OpeningLaws.{Opened, Skipped, opening-wrong, opening-place, opening-skip, opening-known, opened-eats, opened-sized, row-below, row-base, passed-never}
 use Rattle.reader.specs.MemberLaws.{required-few, optional-two}
 use Rattle.reader.specs.TurnLaws.{mark-byte, turn-end, turn-known, turn-skipped, Early, turn-wrong, turn-place}
+use Rattle.reader.proofs.Endings.{Ends, ends-refused, ends-listed, ends-answer, ends-list, Small, types-below, members-below, rest-of, part-on, part-length}
 
--- ---- how a walk ends
-
--- an answer is the walk's, and so is the lent list where the walk accepts
-pub data Ends : Outcome → Walk → List ℕ → Type 0 where
-  accepted : {w : Walk} {out : List ℕ} → Ends (listed w out) w out
-  stopped : {c p : ℕ} {out : List ℕ} → Ends (refused c p) (Stop c p) out
-
-ends-refused : (whole : Outcome) (c p : ℕ) (v : Walk) (out : List ℕ) → whole ≡ refused c p → v ≡ Stop c p → Ends whole v out
-ends-refused whole c p v out e h = rw (e, h) stopped
-
-ends-listed : (whole : Outcome) (w : Walk) (out : List ℕ) → whole ≡ listed w out → Ends whole w out
-ends-listed whole w out e = rw e accepted
-
-pub ends-same : {whole other : Outcome} {v : Walk} {out : List ℕ} → whole ≡ other → Ends other v out → Ends whole v out
-ends-same {v = v} {out = out} e E = subst (λ (x : Outcome). Ends x v out) (sym e) E
-
-ends-answer : {o : Outcome} {v : Walk} {out : List ℕ} → Ends o v out → v ≡ answerOf o
-unfolding answerOf
-ends-answer accepted = refl
-ends-answer stopped = refl
-
-ends-list : {o : Outcome} {v : Walk} {out : List ℕ} → Ends o v out → (w : Walk) (l : List ℕ) → o ≡ listed w l → out ≡ l
-ends-list accepted w l e = cc
-ends-list stopped w l e = let z : _≡_ {A = ℕ} 0 1 = cc in absurd (omega arith)
+-- ---- the whole walk
 
 module _ (T : List ℕ) (at : ℕ) (out₀ : List ℕ) (r : Res Chain) (v : Walk) (out : List ℕ) (E : Ends (left T (seek first) at 0 0 0 0 out₀ r) v out) where
   pub ends-says : v ≡ sliceWalk T at r
@@ -86,52 +63,11 @@ module _ (T : List ℕ) (at : ℕ) (out₀ : List ℕ) (r : Res Chain) (v : Walk
   unfolding left
   ends-gives c n e = ends-list E _ _ (ap (left T (seek first) at 0 0 0 0 out₀) e) ∙ left-listed T at out₀ c n _ _ refl
 
--- ---- numbers that stay small
-
--- a table is of bytes
-abbrev pub Small : List ℕ → Type 0
-Small T = (i : ℕ) → getD T i 0 < 256
-
-short-below : (T : List ℕ) → Small T → (i : ℕ) → number-at T 2 i < 65536
-short-below T S i = omega (arith, at-more T 1 i, at-byte T (suc i), S i, S (suc i))
-
-types-below : (T : List ℕ) → Small T → types T < 65536
-unfolding types
-types-below T S = short-below T S 5
-
-members-below : (T : List ℕ) → Small T → (t : ℕ) → field T t 1 < 65536
-unfolding field
-members-below T S t = short-below T S _
-
 -- how many owners may still come
 unfoldable pub credit : Stage → ℕ
 credit First = 65536
 credit Seeking = 65536
 credit (Following z b) = b
-
--- ---- parts
-
-rest-of : (m : List ℕ) (pos : ℕ) → take (length m - pos) (drop pos m) ≡ drop pos m
-rest-of m pos = take-all (length m - pos) (drop pos m) (omega (arith, length-drop pos m))
-
-take-none : (l : List ℕ) → take 0 l ≡ []
-take-none [] = refl
-take-none (x ∷ l) = refl
-
-drop-take : (n k : ℕ) (l : List ℕ) → drop n (take k l) ≡ take (k - n) (drop n l)
-drop-take zero k l = ap (λ (i : ℕ). take i l) (sym (sub-zero k))
-drop-take (suc n) zero l = let z : 0 - suc n ≡ 0 = omega arith in rw (z, take-none l, take-none (drop (suc n) l))
-drop-take (suc n) (suc k) [] = sym (take-nil (suc k - suc n))
-drop-take (suc n) (suc k) (x ∷ l) = let z : k - n ≡ suc k - suc n = omega arith in drop-take n k l ∙ ap (λ (i : ℕ). take i (drop n l)) z
-
--- one step further in a part
-part-on : (m : List ℕ) (at n end : ℕ) → drop n (take (end - at) (drop at m)) ≡ take (end - (at + n)) (drop (at + n) m)
-part-on m at n end =
-    let z : end - at - n ≡ end - (at + n) = omega arith in
-    drop-take n (end - at) (drop at m) ∙ ap₂ (λ (i : ℕ) (l : List ℕ). take i l) z (drop-drop n at m)
-
-part-length : (m : List ℕ) (at end : ℕ) → at ≤ end → end ≤ length m → length (take (end - at) (drop at m)) ≡ end - at
-part-length m at end h k = length-take-le (end - at) (drop at m) (omega (arith, length-drop at m))
 
 -- ---- the loop over slices
 

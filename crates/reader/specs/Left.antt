@@ -10,14 +10,14 @@
 --   recalling            a refusal inside a slice
 --   closing              the outcome behind a known slice's members: 11 for bytes left over, else by the slices ahead
 --   amid                 the outcome inside a known slice
---   listClose            the outcome at the end of a parameter list
+--   listClose, listing   the outcome at the end of a parameter list, and at its optionals
 use mathlib.Core.Bool.{Bool, true, false, _&&_, not}
 use mathlib.Core.Option.{Option}
 use mathlib.Core.List.{List, [], _∷_}
 use Prim.Native.Nat.{ℕ, _+_, _-_}
 use lib.ListN.{length, take, drop}
 use lib.Dec.{eqb}
-use Rattle.encoding.specs.Result.{Res, ok, bad, Parser, pick, many, atMark}
+use Rattle.encoding.specs.Result.{Res, ok, bad, Parser, pick, many, atMark, atEnd}
 use Rattle.encoding.specs.Table.{Member, optional, base, chain, upward}
 use Rattle.encoding.specs.Optional.{Piece, optionalOf}
 use Rattle.encoding.specs.Slice.{compact, sliced, formatNumber, Slice, Stage, seek, follow, standOf, Chain, walk}
@@ -98,3 +98,7 @@ amid T top m st pos t z from end s first at least k o more out =
 
 unfoldable pub listClose : ℕ → (at k o : ℕ) → List ℕ → Outcome
 listClose top at k o out = listed (Done top 1 k o 0 at) out
+
+-- at the optionals of a parameter list
+unfoldable pub listing : List ℕ → ℕ → List ℕ → (at least k o : ℕ) → List ℕ → Outcome
+listing T top m at least k o out = finish T top (listClose top) refused false at k o out (optionalsFrom atEnd (optional T top) least (drop at m))

@@ -2,15 +2,20 @@
 --
 --   sliceWalk      of the slices of a record
 --   listWalk       of a parameter list
+--   capsule        an encapsulation's size and version
+--   endedWalk      the same where a message ends at a place: 18 for bytes behind
+--   readWalk       of what an encapsulation holds
 --   bodyWalk       of a whole message: its first known type, format, rows, optionals and slices skipped, and its end; or a refusal
 use Prim.Native.Nat.{ℕ, _+_}
 use mathlib.Core.List.{List}
 use lib.ListN.{length}
-use Rattle.encoding.specs.Result.{Res, ok, bad}
+use lib.Dec.{eqb}
+use Rattle.encoding.specs.Result.{Res, ok, bad, Parser, pick, _>>=_, must}
+use Rattle.encoding.specs.Number.{number}
 use Rattle.encoding.specs.Table.{chain}
 use Rattle.encoding.specs.Optional.{Piece}
 use Rattle.encoding.specs.Slice.{first, formatNumber, Chain}
-use Rattle.encoding.specs.Message.{Row, Read, pieceRows, sliceRows, firstIn, firstKnown, rows, skippedPieces, skippedIn, passedIn, optionalsSkipped, slicesSkipped}
+use Rattle.encoding.specs.Message.{sizeForm, versionForm, Row, Read, pieceRows, sliceRows, firstIn, firstKnown, rows, skippedPieces, skippedIn, passedIn, optionalsSkipped, slicesSkipped}
 use Rattle.reader.specs.declared.Walk.{Walk}
 use Rattle.reader.specs.declared.Walk.the-variants.{Done, Stop}
 
@@ -27,7 +32,24 @@ unfoldable pub listWalk : List ℕ → ℕ → ℕ → Res (List Piece) → Walk
 listWalk T top at (ok ps n) = Done top 1 (length (pieceRows T top at ps)) (skippedPieces ps) 0 (at + n)
 listWalk T top at (bad c p) = Stop c (at + p)
 
+unfoldable pub capsule : Parser ℕ
+capsule m = (must (sizeForm (length m)) (number 4) >>= λ _. must versionForm (number 2)) m
+
+-- no bytes after the record
+unfoldable pub endedWalk : ℕ → Walk → Walk
+endedWalk l (Done t g k o s e) = pick (eqb e l) (Done t g k o s e) (Stop 18 e)
+endedWalk l (Stop c p) = Stop c p
+
+-- what was read, with its end
+unfoldable pub readDone : List ℕ → ℕ → Read → ℕ → Walk
+readDone T top r e =
+    Done (firstKnown T top (r .pieces)) (formatNumber (r .format)) (length (rows T top (r .format) (r .pieces))) (optionalsSkipped (r .pieces)) (slicesSkipped (r .pieces)) e
+
+-- contents that begin at a place
+unfoldable pub readWalk : List ℕ → ℕ → ℕ → Res Read → Walk
+readWalk T top at (ok r n) = readDone T top r (at + n)
+readWalk T top at (bad c p) = Stop c (at + p)
+
 unfoldable pub bodyWalk : List ℕ → ℕ → Res Read → Walk
-bodyWalk T top (ok r n) =
-    Done (firstKnown T top (r .pieces)) (formatNumber (r .format)) (length (rows T top (r .format) (r .pieces))) (optionalsSkipped (r .pieces)) (slicesSkipped (r .pieces)) n
+bodyWalk T top (ok r n) = readDone T top r n
 bodyWalk T top (bad c p) = Stop c p

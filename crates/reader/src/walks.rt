@@ -1,18 +1,21 @@
 // The walk over the slices of a record, and over a parameter list.
 ghost use mathlib.Core.Path.{_≡_};
 ghost use mathlib.Core.Bool.{_&&_, not};
+ghost use mathlib.Core.List.{List};
 ghost use Prim.Native.Nat.{ℕ, _≤_};
 ghost use lib.Dec.{eqb};
 ghost use lib.ListN.{length, drop};
 ghost use Rattle.encoding.specs.Result.{ok, pick};
 ghost use Rattle.encoding.specs.Table.{optional};
+ghost use Rattle.encoding.specs.Optional.{Piece};
+ghost use Rattle.encoding.specs.Message.{parameters, pieceRows};
 ghost use Rattle.encoding.specs.Slice.{sliced as in-slices, compact, formatNumber, Chain, slices};
 ghost use Rattle.table.specs.Forms.{formsOf};
 ghost use Rattle.level.specs.Fill.{fill};
 ghost use Rattle.reader.specs.Stages.{stageOf};
 ghost use Rattle.reader.specs.Openings.{opening, turnOf, firstOr};
 ghost use Rattle.reader.specs.Left.{answerOf, recalling};
-ghost use Rattle.reader.specs.Walks.{chainRows, sliceWalk};
+ghost use Rattle.reader.specs.Walks.{chainRows, sliceWalk, listWalk};
 use crate::Heading;
 use crate::Opening;
 use crate::Stage;
@@ -204,4 +207,51 @@ pub fn slices(
         }
     }
     answer
+}
+
+// A parameter list from a place on: required members as declared, then optionals to the end, with a row for each known member.
+pub fn list(
+    table: &[u8],
+    forms: &[u8; 256],
+    top: usize,
+    m: &[u8],
+    start: usize,
+    out: &mut [u8],
+) -> Walk
+    requires { ⌜ start ≤ length (now m) ⌝ }
+    requires { ⌜ now forms ≡ formsOf (now table) ⌝ }
+    ensures { λ r. ⌜ r ≡ listWalk (now (table .entry)) top start (parameters (now (table .entry)) top (drop start (now (m .entry)))) ⌝ }
+    ensures { λ _. ⌜ length (now (out .exit)) ≡ length (now (out .entry)) ⌝ }
+    ensures { λ _. ⌜ ((ps : List Piece) (n : ℕ) → parameters (now (table .entry)) top (drop start (now (m .entry))) ≡ ok ps n → now (out .exit) ≡ fill 0 (pieceRows (now (table .entry)) top start ps) (now (out .entry))) ⌝ }
+{
+    let members = level::required(table, top, &m[start..], start, 0, out);
+    match members {
+        Members::Read(n, k) => {
+            let mut at = start + n;
+            let mut count = k;
+            let mut skipped = 0;
+            let mut least = 0;
+            while at < m.len() {
+                let o = level::optionals::optional(table, forms, top, least, &m[at..]);
+                match o {
+                    Optional::Known(member, tag, b, l) => {
+                        level::put_row(out, count, member, at + b, l - b);
+                        count += 1;
+                        at += l;
+                        least = tag + 1;
+                    }
+                    Optional::Skipped(tag, l) => {
+                        skipped += 1;
+                        at += l;
+                        least = tag + 1;
+                    }
+                    Optional::Wrong(c, p) => {
+                        return Walk::Stop(c, at + p);
+                    }
+                }
+            }
+            Walk::Done(top, 1, count, skipped, 0, at)
+        }
+        Members::Refused(c, p) => Walk::Stop(c, start + p),
+    }
 }

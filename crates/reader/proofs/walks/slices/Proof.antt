@@ -8,7 +8,8 @@ use Rattle.encoding.specs.Slice.{first, seek, slices}
 use Rattle.wire.specs.PutLaws.{put-length}
 use Rattle.reader.specs.Stages.{stageOf}
 use Rattle.reader.specs.Left.{left, amid}
-use Rattle.reader.proofs.Walking.{ends-same, ends-says, ends-gives, Outer, Inner, outer-begin, outer-wrong, wrong-fits, skip-some, skip-within, skip-fits, skip-count, outer-skip, known-order, known-within, from-fits, end-fits, asks-place, asks-count, known-refused, refused-fits, at-fits, outer-same, outer-in, end-within, end-mark-fits, inner-end, known-two, known-ends, known-starts, place-fits, next-fits, tag-fits, count-fits, inner-known, skipped-some, skipped-ends, skipped-fits, skipped-tag-fits, skipped-count, inner-skipped, stop-fits, inner-wrong, size-place, inner-over, inner-done, inner-out, outer-join}
+use Rattle.reader.proofs.Endings.{ends-same}
+use Rattle.reader.proofs.Walking.{ends-says, ends-gives, Outer, Inner, outer-begin, outer-wrong, wrong-fits, skip-some, skip-within, skip-fits, skip-count, outer-skip, known-order, known-within, from-fits, end-fits, asks-place, asks-count, known-refused, refused-fits, at-fits, outer-same, outer-in, end-within, end-mark-fits, inner-end, known-two, known-ends, known-starts, place-fits, next-fits, tag-fits, count-fits, inner-known, skipped-some, skipped-ends, skipped-fits, skipped-tag-fits, skipped-count, inner-skipped, stop-fits, inner-wrong, size-place, inner-over, inner-done, inner-out, outer-join}
 use Rattle.reader.proofs.walks.slices.Statement.{statement}
 use Rattle.reader.proofs.walks.slices.Tie as tie
 

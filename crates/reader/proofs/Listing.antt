@@ -1,0 +1,220 @@
+-- The walk over a parameter list: what holds at the head of its loop, and what each step makes of it. Assumes nothing.
+--
+--   list-says, list-gives      an outcome's answer and list are those of the walk
+--   list-refused               a required member is refused
+--   listing, Listing           the outcome by the optionals ahead; what holds at the loop's head
+--   listing-..                 what each step makes of it
+use mathlib.Core.Path.{_≡_, refl, sym, ap, ap₂, _∙_}
+use mathlib.Core.Bool.{false}
+use mathlib.Core.Option.{none, some}
+use mathlib.Core.List.{List, [], _∷_}
+use Prim.Native.Nat.{ℕ, suc, _+_, _-_, _*_, _^_, _≤_, _<_}
+use native.Mathlib.Nat.{add-zero, zero-add}
+use native.Mathlib.Numerals.{add-one}
+use native.Mathlib.Omega.{arith}
+use lib.ListN.{length, take, drop, length-drop}
+use lib.Seq.{drop-drop}
+use mir.Syntax.{w64}
+use mir.Val.{Fits}
+use Rattle.encoding.specs.Result.{Res, ok, bad, atEnd}
+use Rattle.encoding.specs.Table
+use Rattle.encoding.specs.Optional.{Piece, requireds, optionalOf}
+use Rattle.encoding.specs.Message.{rowBytes, pieceRows, parameters}
+use Rattle.wire.specs.Put.{put}
+use Rattle.level.specs.Fill.{fill}
+use Rattle.level.specs.Answers.{membersOf, optionalAnswer}
+use Rattle.level.specs.AnswersLaws.{KnownRead, known-read, skipped-read, wrong-read, known-within, known-start, known-tag, skipped-some, skipped-within, skipped-tag, wrong-within, members-read, members-refused, members-within, refused-within}
+use Rattle.level.specs.declared.Members.{Members}
+use Rattle.level.specs.declared.Members.the-variants.{Read, Refused}
+use Rattle.level.specs.declared.Optional.{Optional}
+use Rattle.level.specs.declared.Optional.the-variants.{Known, Skipped, Wrong}
+use Rattle.reader.specs.declared.Walk.{Walk}
+use Rattle.reader.specs.declared.Walk.the-variants.{Done, Stop}
+use Rattle.reader.specs.Walks.{listWalk}
+use Rattle.reader.specs.Left.{Outcome, listed, refused, answerOf, optionalsFrom, finish, listClose, listing}
+use Rattle.reader.specs.LeftLaws.{parameters-required, parameters-refused, finish-end, finish-wrong, finish-known, finish-skipped}
+use Rattle.reader.specs.MemberLaws.{required-few, optional-two}
+use Rattle.reader.proofs.Endings.{Ends, ends-refused, ends-listed, ends-answer, ends-list, Small, members-below, rest-of}
+
+-- ---- the whole walk
+
+abbrev pub inList : List ℕ → ℕ → ℕ → List ℕ → Res (List Piece) → Outcome
+inList T top at out r = finish T top (listClose top) refused false at 0 0 out r
+
+list-whole : (T : List ℕ) (top at : ℕ) (out : List ℕ) (r : Res (List Piece)) → answerOf (inList T top at out r) ≡ listWalk T top at r
+unfolding finish listClose answerOf listWalk
+list-whole T top at out (ok ps n) = ap₂ (λ (i j : ℕ). Done top 1 i j 0 (at + n)) (zero-add _) (zero-add _)
+list-whole T top at out (bad c p) = refl
+
+module _ (T : List ℕ) (top at : ℕ) (out₀ : List ℕ) (r : Res (List Piece)) (v : Walk) (out : List ℕ) (E : Ends (inList T top at out₀ r) v out) where
+  pub list-says : v ≡ listWalk T top at r
+  list-says = ends-answer E ∙ list-whole T top at out₀ r
+
+  pub list-gives : (ps : List Piece) (n : ℕ) → r ≡ ok ps n → out ≡ fill 0 (pieceRows T top at ps) out₀
+  unfolding finish listClose
+  list-gives ps n e = ends-list E _ _ (ap (inList T top at out₀) e)
+
+-- ---- the loop over optionals
+
+at-end : (m : List ℕ) (at : ℕ) → length m ≤ at → atEnd (drop at m) ≡ some 0
+unfolding atEnd
+at-end m at h = go (drop at m) (omega (arith, length-drop at m))
+  where
+    go : (l : List ℕ) → length l ≤ 0 → atEnd l ≡ some 0
+    go [] h = refl
+    go (x ∷ l) h = absurd (omega arith)
+
+not-end : (m : List ℕ) (at : ℕ) → at < length m → atEnd (drop at m) ≡ none
+unfolding atEnd
+not-end m at h = go (drop at m) (omega (arith, length-drop at m))
+  where
+    go : (l : List ℕ) → 0 < length l → atEnd l ≡ none
+    go [] h = absurd (omega arith)
+    go (x ∷ l) h = refl
+
+pub record Listing (T : List ℕ) (top : ℕ) (m : List ℕ) (whole : Outcome) (at least k o : ℕ) (out : List ℕ) : Type 0 where
+  pub room : length m < 2 ^ 63
+  pub inside : at ≤ length m
+  pub few : 2 * k ≤ 131072 + at
+  pub fewer : o ≤ at
+  pub rest : whole ≡ listing T top m at least k o out
+
+-- what is left fits
+pub list-asks : (m : List ℕ) (start : ℕ) → start ≤ length m → length m < 2 ^ 63 → start + length (take (length m - start) (drop start m)) < 2 ^ 63
+list-asks m start h l = omega (arith, ap length (rest-of m start), length-drop start m)
+
+-- the required members
+module _ (T : List ℕ) (top : ℕ) (m : List ℕ) (start : ℕ) (h : start ≤ length m) (ms : Members)
+    (em : ms ≡ membersOf 0 (requireds (Table.required T top) (take (length m - start) (drop start m)))) where
+  reads : ms ≡ membersOf 0 (requireds (Table.required T top) (drop start m))
+  reads = em ∙ ap (λ (l : List ℕ). membersOf 0 (requireds (Table.required T top) l)) (rest-of m start)
+
+  pub list-refused : (c p : ℕ) → ms ≡ Refused c p → (out out′ : List ℕ) → Ends (inList T top start out (parameters T top (drop start m))) (Stop c (start + p)) out′
+  list-refused c p q out out′ =
+      ends-refused _ c (start + p) (Stop c (start + p)) out′
+      (parameters-refused T top (listClose top) refused (drop start m) c p (members-refused (Table.required T top) 0 (drop start m) ms reads c p q) start 0 0 out) refl
+
+  pub list-place : (c p : ℕ) → ms ≡ Refused c p → length m < 2 ^ 63 → Fits w64 (start + p)
+  list-place c p q l = omega (arith, refused-within (Table.required T top) 0 (drop start m) ms reads c p q, length-drop start m)
+
+  module _ (n j : ℕ) (q : ms ≡ Read n j) where
+    list-within : start + n ≤ length m
+    list-within = omega (arith, members-within (Table.required T top) 0 (drop start m) ms reads n j q, length-drop start m)
+
+    pub list-at : length m < 2 ^ 63 → Fits w64 (start + n)
+    list-at l = omega (arith, list-within)
+
+    pub list-same : (out out′ : List ℕ) → ((ps : List Piece) (n : ℕ) → requireds (Table.required T top) (take (length m - start) (drop start m)) ≡ ok ps n → out′ ≡ fill 0 (pieceRows T top start ps) out)
+        → inList T top start out (parameters T top (drop start m)) ≡ listing T top m (start + n) 0 j 0 out′
+    unfolding listing
+    list-same out out′ fills = go (members-read (Table.required T top) 0 (drop start m) ms reads n j q)
+      where
+        go : (ps : List Piece) × (requireds (Table.required T top) (drop start m) ≡ ok ps n) × (j ≡ 0 + length ps)
+            → inList T top start out (parameters T top (drop start m)) ≡ finish T top (listClose top) refused false (start + n) j 0 out′ (optionalsFrom atEnd (Table.optional T top) 0 (drop (start + n) m))
+        go R =
+            let e : requireds (Table.required T top) (take (length m - start) (drop start m)) ≡ ok (R .0) n = ap (requireds (Table.required T top)) (rest-of m start) ∙ R .1 in
+            parameters-required T top (listClose top) refused (drop start m) (R .0) n (R .1) start 0 0 out
+            ∙ ap₂ (λ (i : ℕ) (l : List ℕ). finish T top (listClose top) refused false (start + n) i 0 l (optionalsFrom atEnd (Table.optional T top) 0 (drop n (drop start m)))) (sym (R .2)) (sym (fills (R .0) n e))
+            ∙ ap (λ (l : List ℕ). finish T top (listClose top) refused false (start + n) j 0 out′ (optionalsFrom atEnd (Table.optional T top) 0 l)) (drop-drop n start m)
+
+    pub list-in : (out′ : List ℕ) → Small T → length m < 2 ^ 63 → Listing T top m (listing T top m (start + n) 0 j 0 out′) (start + n) 0 j 0 out′
+    list-in out′ S l =
+        let R = members-read (Table.required T top) 0 (drop start m) ms reads n j q in
+        record {
+          room = l;
+          inside = list-within;
+          few = omega (arith, R .2, required-few T top (drop start m) (R .0) n (R .1), members-below T S top);
+          fewer = omega arith;
+          rest = refl;
+        }
+
+module _ {T : List ℕ} {top : ℕ} {m : List ℕ} {whole : Outcome} {at least k o : ℕ} {out : List ℕ} (inv : Listing T top m whole at least k o out) where
+  -- the end of the list
+  pub listing-end : length m ≤ at → Ends whole (Done top 1 k o 0 at) out
+  unfolding listing listClose
+  listing-end h =
+      ends-listed whole (Done top 1 k o 0 at) out
+      (inv .rest ∙ finish-end T top (listClose top) refused atEnd false least (drop at m) at k o out 0 (at-end m at h) refl ∙ ap (λ (i : ℕ). listed (Done top 1 k o 0 i) out) (add-zero at))
+
+  module _ (on : at < length m) {r : Optional} (e : r ≡ optionalAnswer (Table.optional T top) (optionalOf (Table.optional T top) least (take (length m - at) (drop at m)))) where
+    answers : r ≡ optionalAnswer (Table.optional T top) (optionalOf (Table.optional T top) least (drop at m))
+    answers = e ∙ ap (λ (l : List ℕ). optionalAnswer (Table.optional T top) (optionalOf (Table.optional T top) least l)) (rest-of m at)
+
+    -- a known optional
+    module _ {i tag a n : ℕ} (q : r ≡ Known i tag a n) where
+      reading : KnownRead (Table.optional T top) least (drop at m) i tag a n
+      reading = known-read (Table.optional T top) least (drop at m) r answers i tag a n q
+
+      pub listing-two : 2 ≤ n
+      listing-two = optional-two (Table.optional T top) least (drop at m) _ n (reading .read)
+
+      pub listing-within : at + n ≤ length m
+      listing-within = omega (arith, known-within (Table.optional T top) least (drop at m) r answers i tag a n q, length-drop at m)
+
+      pub listing-start : a ≤ n
+      listing-start = known-start (Table.optional T top) least (drop at m) r answers i tag a n q
+
+      pub listing-place : Fits w64 (at + a)
+      listing-place = omega (arith, inv .room, listing-start, listing-within)
+
+      pub listing-fits : Fits w64 (at + n)
+      listing-fits = omega (arith, inv .room, listing-within)
+
+      pub listing-count : Fits w64 (k + 1)
+      listing-count = omega (arith, inv .room, inv .few, inv .inside)
+
+      pub listing-tag : Fits w64 (tag + 1)
+      listing-tag = omega (arith, known-tag (Table.optional T top) least (drop at m) r answers i tag a n q)
+
+      pub listing-known : {out′ : List ℕ} → out′ ≡ put (12 * k) (rowBytes (record { member = i; place = at + a; len = n - a })) out → Listing T top m whole (at + n) (tag + 1) (k + 1) o out′
+      unfolding listing
+      listing-known {out′} w = record {
+        room = inv .room;
+        inside = listing-within;
+        few = omega (arith, inv .few, listing-two);
+        fewer = omega (arith, inv .fewer);
+        rest = inv .rest ∙ finish-known T top (listClose top) refused atEnd false least (drop at m) at k o out (not-end m at on) i tag a n reading
+            ∙ ap₂ (λ (y : List ℕ) (l : List ℕ). finish T top (listClose top) refused false (at + n) (k + 1) o y (optionalsFrom atEnd (Table.optional T top) (suc tag) l)) (sym w) (drop-drop n at m)
+            ∙ rw (add-one tag);
+      }
+
+    -- a skipped one
+    module _ {tag n : ℕ} (q : r ≡ Skipped tag n) where
+      pub listing-some : 1 ≤ n
+      listing-some = skipped-some (Table.optional T top) least (drop at m) r answers tag n q
+
+      pub listing-past : at + n ≤ length m
+      listing-past = omega (arith, skipped-within (Table.optional T top) least (drop at m) r answers tag n q, length-drop at m)
+
+      pub listing-past-fits : Fits w64 (at + n)
+      listing-past-fits = omega (arith, inv .room, listing-past)
+
+      pub listing-skips : Fits w64 (o + 1)
+      listing-skips = omega (arith, inv .room, inv .fewer, listing-some, listing-past)
+
+      pub listing-past-tag : Fits w64 (tag + 1)
+      listing-past-tag = omega (arith, skipped-tag (Table.optional T top) least (drop at m) r answers tag n q)
+
+      pub listing-skipped : Listing T top m whole (at + n) (tag + 1) k (o + 1) out
+      unfolding listing
+      listing-skipped = record {
+        room = inv .room;
+        inside = listing-past;
+        few = omega (arith, inv .few);
+        fewer = omega (arith, inv .fewer, listing-some);
+        rest = inv .rest
+            ∙ finish-skipped T top (listClose top) refused atEnd false least (drop at m) at k o out (not-end m at on) tag n (skipped-read (Table.optional T top) least (drop at m) r answers tag n q)
+            ∙ ap (λ (l : List ℕ). finish T top (listClose top) refused false (at + n) k (o + 1) out (optionalsFrom atEnd (Table.optional T top) (suc tag) l)) (drop-drop n at m)
+            ∙ rw (add-one tag);
+      }
+
+    -- a refusal
+    module _ {c p : ℕ} (q : r ≡ Wrong c p) where
+      pub listing-stop : Fits w64 (at + p)
+      listing-stop = omega (arith, inv .room, wrong-within (Table.optional T top) least (drop at m) r answers c p q, length-drop at m, inv .inside)
+
+      pub listing-wrong : (out′ : List ℕ) → Ends whole (Stop c (at + p)) out′
+      unfolding listing
+      listing-wrong out′ =
+          ends-refused whole c (at + p) (Stop c (at + p)) out′
+          (inv .rest ∙ finish-wrong T top (listClose top) refused atEnd false least (drop at m) at k o out (not-end m at on) c p (wrong-read (Table.optional T top) least (drop at m) r answers c p q)) refl
