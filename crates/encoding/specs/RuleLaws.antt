@@ -6,11 +6,13 @@
 --   kind-known                     a kind is at most 15
 --   record-kind, owns-record       a record is an exception or a class, and takes member rows
 --   base-right                     a base is a smaller row of the same kind
+--   AboveRecord, base-record       what stands above a record, as a base row + 1, is none or a record
 --   named-ok, named-at             the record of a name is a record of that name; a record is the one of its name
 --   named-short                    a record's name is at most 255 bytes long
 --   names-differ                   records of one name are one
 --   climb-enough, chain-node       a chain is the row, then the chain of its base
 --   Own, own-later, required-own, optional-own  where a member stands among the rows of its owner
+--   length-range, own-sum          the required and optional members of an owner are as many as its member rows
 --   taken-rises, taken-next        the member rows that the rows before one take
 --   taken-at, taken-whole          an owner's member rows begin where those of the rows before it end; all are taken
 --   rows-apart                     a member row has one owner
@@ -237,6 +239,27 @@ module _ (T : List ℕ) (t k : ℕ) (m : Member) where
   unfolding optional ownRows
   optional-own h = optional-among T (trees T) k (field T t 0) (field T t 1) m h
 
+-- each member row is required or optional
+marked-sum : (T : List ℕ) (l : List Ty) (i : ℕ) (rs : List ℕ) → length (requiredOf T l i rs) + length (optionalOf T l rs) ≡ length rs
+unfolding requiredOf optionalOf
+marked-sum T l i [] = omega arith
+marked-sum T l i (m ∷ rs) = go (eqb (mark T m) 0) (marked-sum T l (suc i) rs) (marked-sum T l i rs)
+  where
+    go : (b : Bool) → length (requiredOf T l (suc i) rs) + length (optionalOf T l rs) ≡ length rs → length (requiredOf T l i rs) + length (optionalOf T l rs) ≡ length rs
+        → length (pick b (record { row = m; key = i; ty = memberTy T l m } ∷ requiredOf T l (suc i) rs) (requiredOf T l i rs))
+        + length (pick b (optionalOf T l rs) (record { row = m; key = tag T m; ty = memberTy T l m } ∷ optionalOf T l rs)) ≡ suc (length rs)
+    go true h k = omega arith
+    go false h k = omega arith
+
+pub length-range : (i k : ℕ) → length (range i k) ≡ k
+unfolding range
+length-range i zero = refl
+length-range i (suc k) = ap suc (length-range (suc i) k)
+
+pub own-sum : (T : List ℕ) (t : ℕ) → length (required T t) + length (optional T t) ≡ field T t 1
+unfolding required optional ownRows
+own-sum T t = marked-sum T (trees T) 0 (ownRows T t) ∙ length-range (field T t 0) (field T t 1)
+
 -- ---- a header that breaks no rule
 
 module _ (T : List ℕ) (right : headerRules T ≡ fine) where
@@ -253,6 +276,11 @@ module _ (T : List ℕ) (right : headerRules T ≡ fine) where
   members-few = ltb-false 1024 (members T) (header-test 3)
 
 -- ---- what no broken rule gives
+
+-- a base row + 1: none, or that of a record
+abbrev pub AboveRecord : List ℕ → ℕ → Type 0
+AboveRecord T zero = Unit {0}
+AboveRecord T (suc r) = (r < types T) × (isRecord (kind T r) ≡ true)
 
 module _ (T : List ℕ) (right : faults T ≡ fine) where
   header-right : headerRules T ≡ fine
@@ -333,6 +361,12 @@ module _ (T : List ℕ) (right : faults T ≡ fine) where
         let a = both-false (isRecord (kind T t)) (alike T t) (type-test t below 10) rec in
         let b = any-none (λ r. isRecord (kind T r) && sameBytes (nameOf T r) (nameOf T t)) 0 t a r (omega arith) (omega arith) in
         true≢false (sym (sameBytes-same (nameOf T r) (nameOf T t) n) ∙ both-false (isRecord (kind T r)) (sameBytes (nameOf T r) (nameOf T t)) b e)
+
+  pub base-record : (r : ℕ) → AboveRecord T (suc r) → (b : ℕ) → base T r ≡ b → (b ≤ r) × AboveRecord T b
+  base-record r R zero e = (omega arith, tt)
+  base-record r R (suc q) e =
+      let B = base-right r (R .0) (R .1) q e in
+      (omega (arith, B .0), (omega (arith, B .0, R .0), ap (λ (k : ℕ). isRecord k) (B .1) ∙ R .1))
 
   pub names-differ : (t r : ℕ) → t < types T → r < types T → isRecord (kind T t) ≡ true → isRecord (kind T r) ≡ true → nameOf T t ≡ nameOf T r → t ≡ r
   names-differ t r lt lr rt rr n = elim (ℕ-discrete t r) [ yes e ↦ e | no e ↦ go (ltb t r) refl e ]

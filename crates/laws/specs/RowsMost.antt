@@ -3,7 +3,7 @@
 --
 --   pieceRows-most      the rows of one owner are at most the member rows that it takes
 --   rows-most           the rows of pieces that conform are at most 1,024
-use mathlib.Core.Path.{_≡_, refl, ap, _∙_, subst}
+use mathlib.Core.Path.{_≡_, refl, ap, subst}
 use mathlib.Core.Bool.{Bool, true, false}
 use mathlib.Core.Option.{Option, none, some}
 use mathlib.Core.List.{List, [], _∷_}
@@ -14,10 +14,9 @@ use lib.Dec.{eqb, leb}
 use borrow.Author.Tests.{eqb-true, leb-true, le-leb, lt-leb}
 use Rattle.encoding.specs.Result.{pick}
 use Rattle.encoding.specs.ResultLaws.{some≢none}
-use Rattle.encoding.specs.Types.{Ty}
-use Rattle.encoding.specs.Table.{types, members, kind, field, mark, isRecord, owns, range, ownRows, fine, faults, taken, Member, memberTy, trees, requiredOf, optionalOf, lookup, base, upward, chain}
+use Rattle.encoding.specs.Table.{types, members, kind, field, owns, fine, faults, taken, Member, lookup, base, upward, chain}
 use Rattle.encoding.specs.Table
-use Rattle.encoding.specs.RuleLaws.{owns-record, named-ok, chain-node, base-right, taken-rises, taken-next, taken-whole, members-most}
+use Rattle.encoding.specs.RuleLaws.{own-sum, owns-record, named-ok, chain-node, AboveRecord, base-record, taken-rises, taken-next, taken-whole, members-most}
 use Rattle.encoding.specs.Optional.{Piece, required, optional, skipped, frontBytes, contentBytes, pieceBytes}
 use Rattle.encoding.specs.Slice.{Format, Slice, known, passed, Stand, first, later, isLast, sliceFront, dataBytes}
 use Rattle.encoding.specs.Message.{Pieces, list, exception, class, Row, listRow, pieceMember, pieceRows, sliceRows, orZero, firstIn, rows}
@@ -92,44 +91,14 @@ module _ (T : List ℕ) where
   level-most t (x ∷ ms) least (optional k f b ∷ ps) L at = absurd L
   level-most t (x ∷ ms) least (skipped k f b ∷ ps) L at = absurd L
 
-  -- each member row is required or optional
-  marked-sum : (l : List Ty) (i : ℕ) (rs : List ℕ) → length (requiredOf T l i rs) + length (optionalOf T l rs) ≡ length rs
-  unfolding requiredOf optionalOf
-  marked-sum l i [] = omega arith
-  marked-sum l i (m ∷ rs) = go (eqb (mark T m) 0) (marked-sum l (suc i) rs) (marked-sum l i rs)
-    where
-      go : (b : Bool) → length (requiredOf T l (suc i) rs) + length (optionalOf T l rs) ≡ length rs → length (requiredOf T l i rs) + length (optionalOf T l rs) ≡ length rs
-          → length (pick b (record { row = m; key = i; ty = memberTy T l m } ∷ requiredOf T l (suc i) rs) (requiredOf T l i rs))
-          + length (pick b (optionalOf T l rs) (record { row = m; key = Table.tag T m; ty = memberTy T l m } ∷ optionalOf T l rs)) ≡ suc (length rs)
-      go true h k = omega arith
-      go false h k = omega arith
-
-  length-range : (i k : ℕ) → length (range i k) ≡ k
-  unfolding range
-  length-range i zero = refl
-  length-range i (suc k) = ap suc (length-range (suc i) k)
-
   pub pieceRows-most : (t : ℕ) (ps : List Piece) → Owned T t ps → (at : ℕ) → length (pieceRows T t at ps) ≤ field T t 1
-  unfolding Table.required Table.optional ownRows
-  pieceRows-most t ps L at =
-      omega (arith, level-most t (Table.required T t) 0 ps L at, above-most 0 (Table.optional T t), marked-sum (trees T) 0 (ownRows T t), length-range (field T t 0) (field T t 1))
+  pieceRows-most t ps L at = omega (arith, level-most t (Table.required T t) 0 ps L at, above-most 0 (Table.optional T t), own-sum T t)
 
 -- ---- a chain, and a message
 
 module _ (T : List ℕ) (right : faults T ≡ fine) where
-  -- a base row + 1 is that of a record
-  abbrev Record : ℕ → Type 0
-  Record zero = Unit {0}
-  Record (suc r) = (r < types T) × (isRecord (kind T r) ≡ true)
-
-  base-record : (r : ℕ) → Record (suc r) → (b : ℕ) → base T r ≡ b → (b ≤ r) × Record b
-  base-record r R zero e = (omega arith, tt)
-  base-record r R (suc q) e =
-      let B = base-right T right r (R .0) (R .1) q e in
-      (omega (arith, B .0), (omega (arith, B .0, R .0), ap (λ (k : ℕ). isRecord k) (B .1) ∙ R .1))
-
   -- the slices of a record and its bases, one after another: the first number is fuel, since a base is smaller
-  upward-most : (f b : ℕ) → b ≤ f → Record b → (g : Format) (ss : List Slice) → Follow T (upward (chain T) b) ss → (s : Stand) (at : ℕ)
+  upward-most : (f b : ℕ) → b ≤ f → AboveRecord T b → (g : Format) (ss : List Slice) → Follow T (upward (chain T) b) ss → (s : Stand) (at : ℕ)
       → length (sliceRows T g s at (upward (chain T) b) ss) ≤ taken T b
   unfolding upward sliceRows
   upward-most zero zero h R g [] F s at = omega arith
@@ -138,7 +107,7 @@ module _ (T : List ℕ) (right : faults T ≡ fine) where
   upward-most (suc f) zero h R g [] F s at = omega arith
   upward-most (suc f) zero h R g (sl ∷ ss) F s at = absurd F
   upward-most (suc f) (suc r) h R g ss F s at =
-      let B = base-record r R (base T r) refl in
+      let B = base-record T right r R (base T r) refl in
       rw (chain-node T r) (go ss (subst (λ (ts : List ℕ). Follow T ts ss) (chain-node T r) F)
       (λ ss F s at. omega (arith, upward-most f (base T r) (omega (arith, B .0)) (B .1) g ss F s at, taken-rises T (base T r) r (B .0))))
     where

@@ -19,10 +19,10 @@ use borrow.Author.Tests.{eqb-true, eqb-false, leb-true, le-leb, lt-leb}
 use Rattle.encoding.specs.Result.{pick, concat}
 use Rattle.encoding.specs.Number.{leBytes, sizeBytes, stringBytes}
 use Rattle.encoding.specs.NumberLaws.{length-leBytes}
-use Rattle.encoding.specs.Types.{Ty, formOf}
-use Rattle.encoding.specs.Table.{types, kind, field, mark, tag, isRecord, owns, range, ownRows, fine, faults, taken, nameOf, Member, memberTy, trees, requiredOf, optionalOf, required, optional, base, upward, chain}
+use Rattle.encoding.specs.Types.{formOf}
+use Rattle.encoding.specs.Table.{types, kind, field, isRecord, owns, range, fine, faults, taken, nameOf, Member, required, optional, base, upward, chain}
 use Rattle.encoding.specs.TableLaws.{chain-row}
-use Rattle.encoding.specs.RuleLaws.{owns-record, base-right, taken-rises, taken-next, taken-whole, members-most, types-most, kind-known, named-at, named-short}
+use Rattle.encoding.specs.RuleLaws.{length-range, own-sum, owns-record, AboveRecord, base-record, taken-rises, taken-next, taken-whole, members-most, types-most, kind-known, named-at, named-short}
 use Rattle.encoding.specs.Optional.{Piece, pieceBytes}
 use Rattle.encoding.specs.Optional
 use Rattle.encoding.specs.Slice.{Format, isSliced, Stand, first, later, due, idOf, anyOptional, dataBytes, isLast, sliceFront, slicesBytes}
@@ -177,32 +177,14 @@ module _ (T rows buffer : List ℕ) where
           let f : cap T st ≡ cap T (M .z .state) = ap (cap T) (M .state) in
           omega (arith, ap length e, ih st (member-based s i p st M b))
 
-  -- each member row is required or optional
-  marked-sum : (l : List Ty) (i : ℕ) (rs : List ℕ) → length (requiredOf T l i rs) + length (optionalOf T l rs) ≡ length rs
-  unfolding requiredOf optionalOf
-  marked-sum l i [] = omega arith
-  marked-sum l i (m ∷ rs) = go (eqb (mark T m) 0) (marked-sum l (suc i) rs) (marked-sum l i rs)
-    where
-      go : (b : Bool) → length (requiredOf T l (suc i) rs) + length (optionalOf T l rs) ≡ length rs → length (requiredOf T l i rs) + length (optionalOf T l rs) ≡ length rs
-          → length (pick b (record { row = m; key = i; ty = memberTy T l m } ∷ requiredOf T l (suc i) rs) (requiredOf T l i rs))
-          + length (pick b (optionalOf T l rs) (record { row = m; key = tag T m; ty = memberTy T l m } ∷ optionalOf T l rs)) ≡ suc (length rs)
-      go true h k = omega arith
-      go false h k = omega arith
-
-  length-range : (i k : ℕ) → length (range i k) ≡ k
-  unfolding range
-  length-range i zero = refl
-  length-range i (suc k) = ap suc (length-range (suc i) k)
-
   group-few : (count o i : ℕ) → length (groupOf T rows buffer count o i) ≤ field T o 1
-  unfolding groupOf stateOf required optional ownRows
+  unfolding groupOf stateOf
   group-few count o i = omega (
     arith,
     group-cap (count - i) (stateOf T (start o)) i refl,
     cap-most T o 0 (stateOf T (start o) .due),
     ap length (due-begin T o),
-    marked-sum (trees T) 0 (ownRows T o),
-    length-range (field T o 0) (field T o 1),
+    own-sum T o,
   )
 
   -- ---- their bytes
@@ -303,25 +285,14 @@ module _ (T rows buffer : List ℕ) (right : faults T ≡ fine) (h : length buff
           size-int true = omega (arith, length-leBytes 4 size)
           size-int false = omega arith
 
-  -- a base row + 1 is that of a record
-  abbrev Record : ℕ → Type 0
-  Record zero = Unit {0}
-  Record (suc r) = (r < types T) × (isRecord (kind T r) ≡ true)
-
-  base-record : (r : ℕ) → Record (suc r) → (b : ℕ) → base T r ≡ b → (b ≤ r) × Record b
-  base-record r R zero e = (omega arith, tt)
-  base-record r R (suc q) e =
-      let B = base-right T right r (R .0) (R .1) q e in
-      (omega (arith, B .0), (omega (arith, B .0, R .0), ap (λ (k : ℕ). isRecord k) (B .1) ∙ R .1))
-
   -- the slices of a record and its bases: the first number is fuel, since a base is smaller
-  slices-long : (f b : ℕ) → b ≤ f → Record b → (st : Stand) (i : ℕ) → length (slicesBytes g st (slicesFrom T rows buffer count i (upward (chain T) b))) ≤ 65547 * taken T b + 266 * b
+  slices-long : (f b : ℕ) → b ≤ f → AboveRecord T b → (st : Stand) (i : ℕ) → length (slicesBytes g st (slicesFrom T rows buffer count i (upward (chain T) b))) ≤ 65547 * taken T b + 266 * b
   unfolding upward slicesBytes slicesFrom
   slices-long zero zero l R st i = omega arith
   slices-long zero (suc r) l R st i = absurd (omega arith)
   slices-long (suc f) zero l R st i = omega arith
   slices-long (suc f) (suc r) l R st i =
-      let B = base-record r R (base T r) refl in
+      let B = base-record T right r R (base T r) refl in
       let sl = sliceOf T rows buffer count r i in
       let ss = slicesFrom T rows buffer count (i + length (groupOf T rows buffer count r i)) (bases T r) in
       let n = named-short T right (nameOf T r) r (named-at T right r (R .0) (R .1)) in
@@ -418,7 +389,7 @@ written-small T type format count rows buffer room right l k h c = subst Small (
     all : (w : Out (List Given)) → next (out rs) (judgeAll T buffer st 0) ≡ w → leb (12 * count) (length rows) ≡ true
         → Small (next w (λ (gs : List Given). bounded room (encapsulate (encode (formatOf format) (gathered T type gs)))))
     all (out gs) q e = message-small gs (judged-contents T type format count rows buffer room gs (rw e q))
-    all (stop n p) q e = let z = judged-small T buffer rs st 0 n p q in (z .0, omega (arith, z .1, length-map (range 0 count) (rowAt rows), length-range T rows buffer 0 count))
+    all (stop n p) q e = let z = judged-small T buffer rs st 0 n p q in (z .0, omega (arith, z .1, length-map (range 0 count) (rowAt rows), length-range 0 count))
 
     given-rows : (t : Bool) → leb (12 * count) (length rows) ≡ t
         → Small (next (next (pick t (out rs) (stop 20 count)) (judgeAll T buffer st 0)) (λ (gs : List Given). bounded room (encapsulate (encode (formatOf format) (gathered T type gs)))))
