@@ -23,6 +23,7 @@ pub mod PlanRules
 pub mod MessageWritten
 pub mod GatherLaws
 pub mod WriteBack
+pub mod WriteSmall
 pub mod WriteAgain
 pub mod RightLists
 pub mod Promises

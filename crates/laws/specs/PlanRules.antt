@@ -8,7 +8,7 @@
 --   optional-fit, slots-fit   the slots of an owner
 --   top-step                  a row of a kind from 13 on is a top; top-owner: it takes member rows
 --   base-record, list-chain   only a record has a base; a parameter list is its own chain
---   Rung, Falls               a chain has rows of one kind, each smaller than the one before: chain-falls, chain-owners, chain-above
+--   Rung, Falls               a chain has rows of one kind, each smaller than the one before: chain-rungs, chain-falls, chain-owners, chain-above
 --   chain-top                 a top from which a type descends is a row of the type's chain
 --   plan-fit, plan-differ     the slots of a plan
 --   judging-slots             judging rows for a type is the walk over the slots of its plan
@@ -302,7 +302,7 @@ module _ (T : List ℕ) where
           let t = top-there T type there in
           record { below = t .0; own = top-owns (kind T type) (t .1) (kind-known T right type (t .0)) }
 
-      chain-rungs : All (Rung type) (chain T type)
+      pub chain-rungs : All (Rung type) (chain T type)
       chain-rungs = line (suc type) type (omega arith) (top-owner .below) .0
 
       pub chain-falls : Pairs Falls (chain T type)

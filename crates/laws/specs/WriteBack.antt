@@ -134,7 +134,7 @@ pub record Gathers (T buffer : List ℕ) (top type : ℕ) (f : Format) (rs : Lis
 
 module _ (T buffer : List ℕ) (right : faults T ≡ fine) (short : length buffer ≤ limit) (type : ℕ) (there : noTop T type ≡ false) (top : ℕ) (below : Below T top type)
     {rs : List Row} {gs : List Given} (K : Judged buffer (plan T type) rs gs) where
-  abbrev Makes : Format → Pieces → Type 0
+  abbrev pub Makes : Format → Pieces → Type 0
   Makes f p = Gathers T buffer top type f rs p
 
   list-top : kind T type ≡ 15 → type ≡ top
@@ -197,7 +197,7 @@ module _ (T buffer : List ℕ) (right : faults T ≡ fine) (short : length buffe
             (carries .listed _ f first 6 (stands-encapsulated _));
       }
 
-  gathers : (format : ℕ) → noFormat (kind T type) format ≡ false → Makes (formatOf format) (gathered T type gs) × (formatNumber (formatOf format) ≡ format)
+  pub gathers : (format : ℕ) → noFormat (kind T type) format ≡ false → Makes (formatOf format) (gathered T type gs) × (formatNumber (formatOf format) ≡ format)
   unfolding gathered noFormat formatOf
   gathers format h =
       let s = either-false (ltb 1 format) (eqb format 0 && eqb (kind T type) 15) h in

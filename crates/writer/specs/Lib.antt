@@ -10,4 +10,3 @@ pub mod Messages
 pub mod Judged
 pub mod Gathers
 pub mod MessagesLaws
-pub mod Small
