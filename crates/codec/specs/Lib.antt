@@ -1,0 +1,2 @@
+-- What the calls answer of an outcome.
+pub mod Tell
