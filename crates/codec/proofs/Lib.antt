@@ -1,2 +1,5 @@
 -- Laws that the proofs of the calls cite.
+pub mod Walking
+pub mod Telling
+pub mod Seeing
 pub mod Outcomes

@@ -1,10 +1,79 @@
-// The public calls, for the layers above. No call asks anything of its input.
+// The public calls, for the layers above: what document 01 says under "What a call gives". No call asks anything of its input.
+// reading.rt has what the reader's calls are made of, viewing.rt what the member view is, writing.rt what the writer's calls are.
+mod reading;
+mod viewing;
 mod writing;
 
 ghost use mathlib.Core.Path.{_≡_};
 ghost use lib.ListN.{length};
+ghost use Rattle.encoding.specs.Message.{reading, listed, readingOf};
+ghost use Rattle.encoding.specs.View.{viewing, seenBytes};
 ghost use Rattle.encoding.specs.Write.{writing, output, writingOf};
+use encoding::Reading;
 use encoding::Writing;
+
+// What the member view hands back: a part of the message, its place and length; the whole fallback; an empty part of the fallback.
+pub enum View {
+    Part(usize, usize),
+    Fallback,
+    Nothing,
+}
+
+// The reader's answer with a lent list of `room` bytes; no list is touched.
+// Wrong and ruled out: an answer that is the same for every room; one that takes the bytes of the list for its rows.
+pub fn answer(table: &[u8], top: u32, message: &[u8], room: usize) -> Reading
+    ensures { λ r. ⌜ r ≡ readingOf (reading (now (table .entry)) top (now (message .entry)) room) ⌝ }
+{
+    let mut none = [0u8; 12];
+    let w = reading::walk(table, top as usize, message, &mut none);
+    reading::told(w, room / 12)
+}
+
+// The reader: the answer, and the rows in the lent list, 12 bytes each; bytes beyond the rows stay, and on a refusal all of them.
+// A message with few rows is walked once, into a list of the call's own; one with more a second time, into the lent list, once it is known to be accepted and to fit.
+// Wrong and ruled out: a reader that writes the list on a refusal; one that takes the bytes of the list for its rows.
+pub fn read(table: &[u8], top: u32, message: &[u8], rows: &mut [u8]) -> Reading
+    ensures { λ r. ⌜ r ≡ readingOf (reading (now (table .entry)) top (now (message .entry)) (length (now (rows .entry)))) ⌝ }
+    ensures { λ _. ⌜ now (rows .exit) ≡ listed (reading (now (table .entry)) top (now (message .entry)) (length (now (rows .entry)))) (now (rows .entry)) ⌝ }
+{
+    let t = top as usize;
+    let mut few = [0u8; 768];
+    let w = reading::walk(table, t, message, &mut few);
+    let n = reading::row_count(w);
+    let k = rows.len() / 12;
+    let answer = reading::told(w, k);
+    if k < n {
+        return answer;
+    }
+    if n <= 64 {
+        wire::put_part(rows, 0, &few, 0, 12 * n);
+        return answer;
+    }
+    reading::walk(table, t, message, rows);
+    answer
+}
+
+// The member view: the very bytes of the message, or the whole fallback where the accepted message lacks the member; else an empty part of the fallback.
+// Wrong and ruled out: a view that returns the fallback on a refusal; one that returns the part one byte short.
+pub fn member<'a, 't>(
+    table: &'t [u8],
+    top: u32,
+    message: &'a [u8],
+    row: u32,
+    fallback: &'a [u8],
+) -> &'a [u8]
+    ensures { λ r. ⌜ now r ≡ seenBytes (now (message .entry)) (now (fallback .entry)) (viewing (now (table .entry)) top (now (message .entry)) row) ⌝ }
+{
+    let v = viewing::look(table, top as usize, message, row as usize);
+    match v {
+        View::Part(p, n) => {
+            let e = p + n;
+            &message[p..e]
+        }
+        View::Fallback => fallback,
+        View::Nothing => &fallback[..0],
+    }
+}
 
 // The writer: rows and a buffer to a message of a type and format at the output's start; bytes of the output beyond the message stay, and on a refusal all of them.
 // Wrong and ruled out: a writer that answers right and puts nothing; one that lets format 0 pass for a parameter list.

@@ -1,10 +1,115 @@
-// The calls of the firmware in C, with numbers and byte slices only: 0 or the refusal number comes back, place and length by further calls on the same input.
-// `room` is the length in bytes of the output, so that a further call judges what the first one judged.
+// The calls of the firmware in C, with numbers and byte slices only: 0 or the refusal number comes back, place and other numbers by further calls on the same input.
+// `room` is the length in bytes of the lent list or output, so that a further call judges what the first one judged.
 ghost use mathlib.Core.Path.{_≡_};
 ghost use lib.ListN.{length, getD};
+ghost use Rattle.encoding.specs.Message.{reading, listed, readingNumbers};
 ghost use Rattle.encoding.specs.Write.{writing, output};
+ghost use Rattle.icehub.specs.Numbers.{readNumber};
 ghost use Rattle.icehub.specs.WriteNumbers.{writingNumbers, writeNumber};
+use encoding::Reading;
 use encoding::Writing;
+
+// Number i of an answer.
+fn number(a: Reading, i: usize) -> u32
+    ensures { λ r. ⌜ r ≡ getD (readingNumbers a) i 0 ⌝ }
+{
+    match a {
+        Reading::Accepted(first, format, n, optionals, slices) => match i {
+            2 => first,
+            3 => format,
+            4 => n,
+            5 => optionals,
+            6 => slices,
+            _ => 0,
+        },
+        Reading::Refused(c, p) => match i {
+            0 => c,
+            1 => p,
+            _ => 0,
+        },
+    }
+}
+
+// Number i of the reader's answer with a lent list of `room` bytes.
+fn told(table: &[u8], top: u32, message: &[u8], room: usize, i: usize) -> u32
+    ensures { λ r. ⌜ r ≡ readNumber (now (table .entry)) top (now (message .entry)) room i ⌝ }
+{
+    number(codec::answer(table, top, message, room), i)
+}
+
+// The reader: 0 or the refusal number, and the rows in the lent list.
+// Wrong and ruled out: a call that gives 0 for a list too short; one that leaves the list as it was.
+#[no_mangle]
+pub extern "C" fn icehub_read(table: &[u8], top: u32, message: &[u8], rows: &mut [u8]) -> u32
+    ensures { λ r. ⌜ r ≡ readNumber (now (table .entry)) top (now (message .entry)) (length (now (rows .entry))) 0 ⌝ }
+    ensures { λ _. ⌜ now (rows .exit) ≡ listed (reading (now (table .entry)) top (now (message .entry)) (length (now (rows .entry)))) (now (rows .entry)) ⌝ }
+{
+    number(codec::read(table, top, message, rows), 0)
+}
+
+// The refusal's place; 0 if accepted.
+// Wrong and ruled out: the refusal's number in place of its place; the place of a message that is refused for another list.
+#[no_mangle]
+pub extern "C" fn icehub_read_place(table: &[u8], top: u32, message: &[u8], room: usize) -> u32
+    ensures { λ r. ⌜ r ≡ readNumber (now (table .entry)) top (now (message .entry)) room 1 ⌝ }
+{
+    told(table, top, message, room, 1)
+}
+
+// The first known type.
+// Wrong and ruled out: the top in its place; a type where the message is refused.
+#[no_mangle]
+pub extern "C" fn icehub_read_type(table: &[u8], top: u32, message: &[u8], room: usize) -> u32
+    ensures { λ r. ⌜ r ≡ readNumber (now (table .entry)) top (now (message .entry)) room 2 ⌝ }
+{
+    told(table, top, message, room, 2)
+}
+
+// The format: 0 compact, 1 sliced or a parameter list.
+// Wrong and ruled out: 1 for every message; 1 where the message is refused.
+#[no_mangle]
+pub extern "C" fn icehub_read_format(table: &[u8], top: u32, message: &[u8], room: usize) -> u32
+    ensures { λ r. ⌜ r ≡ readNumber (now (table .entry)) top (now (message .entry)) room 3 ⌝ }
+{
+    told(table, top, message, room, 3)
+}
+
+// The row count.
+// Wrong and ruled out: the count where the list is too short; the rows that the list has room for.
+#[no_mangle]
+pub extern "C" fn icehub_read_count(table: &[u8], top: u32, message: &[u8], room: usize) -> u32
+    ensures { λ r. ⌜ r ≡ readNumber (now (table .entry)) top (now (message .entry)) room 4 ⌝ }
+{
+    told(table, top, message, room, 4)
+}
+
+// How many optionals were skipped.
+// Wrong and ruled out: the slices skipped in their place; 0 for every message.
+#[no_mangle]
+pub extern "C" fn icehub_read_optionals_skipped(
+    table: &[u8],
+    top: u32,
+    message: &[u8],
+    room: usize,
+) -> u32
+    ensures { λ r. ⌜ r ≡ readNumber (now (table .entry)) top (now (message .entry)) room 5 ⌝ }
+{
+    told(table, top, message, room, 5)
+}
+
+// How many slices were skipped.
+// Wrong and ruled out: the optionals skipped in their place; 0 for every message.
+#[no_mangle]
+pub extern "C" fn icehub_read_slices_skipped(
+    table: &[u8],
+    top: u32,
+    message: &[u8],
+    room: usize,
+) -> u32
+    ensures { λ r. ⌜ r ≡ readNumber (now (table .entry)) top (now (message .entry)) room 6 ⌝ }
+{
+    told(table, top, message, room, 6)
+}
 
 // Number i of the writer's answer.
 fn written_number(a: Writing, i: usize) -> u32

@@ -26,11 +26,12 @@ use Rattle.encoding.specs.MessageLaws.{ended-ok, held-contents}
 use Rattle.wire.specs.declared.Step.{Step}
 use Rattle.wire.specs.declared.Step.the-variants.{Took, Fault}
 use Rattle.wire.specs.Steps.{stepOf}
+use Rattle.wire.specs.StepLaws.{rest-is, step-fault, shift-shift}
+use Rattle.level.proofs.Told.{step-took}
 use Rattle.level.specs.Fill.{fill}
 use Rattle.reader.specs.declared.Walk.{Walk}
 use Rattle.reader.specs.declared.Walk.the-variants.{Done, Stop}
 use Rattle.reader.specs.Walks.{chainRows, sliceWalk, listWalk, capsule, endedWalk, readDone, readWalk, bodyWalk}
-use Rattle.reader.proofs.Endings.{rest-of}
 
 -- ---- size and version
 
@@ -110,16 +111,6 @@ read-ended T top at m (bad c p) h k = refl
 
 -- ---- the contents
 
-step-took : (r : Res ℕ) (k : ℕ) → Took k ≡ stepOf r → (v : ℕ) × (r ≡ ok v k)
-unfolding stepOf
-step-took (ok v n) k e = (v, cc)
-step-took (bad c p) k e = let z : _≡_ {A = ℕ} 0 1 = cc in absurd (omega arith)
-
-step-fault : (r : Res ℕ) (c p : ℕ) → Fault c p ≡ stepOf r → r ≡ bad c p
-unfolding stepOf
-step-fault (ok v n) c p e = let z : _≡_ {A = ℕ} 0 1 = cc in absurd (omega arith)
-step-fault (bad d q) c p e = cc
-
 ok-same : {A : Type 0} {a b : A} {n k : ℕ} → ok a n ≡ ok b k → a ≡ b
 ok-same e = cc
 
@@ -154,10 +145,10 @@ module _ (T : List ℕ) (top : ℕ) (xs : List ℕ) where
     contents-unmarked k c p e = contents-marked k ∙ bind-bad (must markerForm byte) _ xs e
 
   -- what the walks answer of them
-  walk-list : (at : ℕ) (r : Res (List Piece)) → at ≡ 6 → readWalk T top at (made asList r) ≡ listWalk T top at r
+  walk-list : (r : Res (List Piece)) → readWalk T top 6 (made asList r) ≡ listWalk T top 6 r
   unfolding readWalk readDone made asList listWalk firstKnown rows optionalsSkipped slicesSkipped
-  walk-list at (ok ps n) h = rw h
-  walk-list at (bad c p) h = refl
+  walk-list (ok ps n) = refl
+  walk-list (bad c p) = refl
 
   walk-exception : (r : Res Chain) → readWalk T top 6 (made asException r) ≡ sliceWalk T 6 r
   unfolding readWalk readDone made asException sliceWalk chainRows firstKnown rows optionalsSkipped slicesSkipped
@@ -197,11 +188,6 @@ marker-one : (xs : List ℕ) (i : ℕ) → (b : ℕ) × (must markerForm byte xs
 marker-one xs i K = (K .0, K .1 ∙ ap (ok (K .0)) (byte-canonical xs (must-ok byte xs markerForm (K .1) .0) .1))
 
 -- ---- the message
-
-shift-shift : {A : Type 0} (k n : ℕ) (r : Res A) → shift k (shift n r) ≡ shift (k + n) r
-unfolding shift
-shift-shift k n (ok a m) = ap (ok a) (omega arith)
-shift-shift k n (bad c p) = ap (bad c) (omega arith)
 
 shift-ok : {A : Type 0} (n : ℕ) (r : Res A) (a : A) (k : ℕ) → shift n r ≡ ok a k → (j : ℕ) × (r ≡ ok a j)
 unfolding shift
@@ -294,7 +280,7 @@ module _ (T : List ℕ) (top : ℕ) (m : List ℕ) where
 
           pub body-list : (w v : Walk) → w ≡ listWalk T top 6 (parameters T top (drop 6 m)) → v ≡ endedWalk (length m) w → v ≡ bodyWalk T top (body T top m)
           body-list w v ew ev =
-              ev ∙ ap (endedWalk (length m)) (ew ∙ sym (ap (readWalk T top 6) lists ∙ walk-list T top (drop 6 m) 6 (parameters T top (drop 6 m)) refl)) ∙ by-contents
+              ev ∙ ap (endedWalk (length m)) (ew ∙ sym (ap (readWalk T top 6) lists ∙ walk-list T top (drop 6 m) (parameters T top (drop 6 m)))) ∙ by-contents
 
           pub body-list-gives : (out l : List ℕ) → ((ps : List Piece) (n : ℕ) → parameters T top (drop 6 m) ≡ ok ps n → out ≡ fill 0 (pieceRows T top 6 ps) l)
               → (r : Read) (n : ℕ) → body T top m ≡ ok r n → out ≡ fill 0 (rows T top (r .format) (r .pieces)) l
@@ -324,7 +310,7 @@ module _ (T : List ℕ) (top : ℕ) (m : List ℕ) where
           -- a class instance
           module _ (h : k ≡ 14) (mark : Step) (em : mark ≡ stepOf (must markerForm byte (take (length m - 6) (drop 6 m)))) where
             marks : mark ≡ stepOf (must markerForm byte (drop 6 m))
-            marks = em ∙ ap (λ (l : List ℕ). stepOf (must markerForm byte l)) (rest-of m 6)
+            marks = em ∙ ap (λ (l : List ℕ). stepOf (must markerForm byte l)) (rest-is m 6)
 
             module _ (c p : ℕ) (g : mark ≡ Fault c p) where
               unmarked : body T top m ≡ bad c (6 + p)

@@ -2,14 +2,14 @@
 --
 --   Ends, ends-..                 an answer and a lent list are those of an outcome
 --   Small, types-below, members-below   a table is of bytes, so that it has few types and members
---   rest-of, part-on, part-length       what is left of a message, and of a part of it
+--   part-on, part-length                what is left of a part of a message
 use mathlib.Core.Path.{_≡_, refl, sym, ap, ap₂, _∙_, subst}
 use mathlib.Core.List.{List, [], _∷_}
 use Prim.Native.Nat.{ℕ, zero, suc, _+_, _-_, _≤_, _<_}
 use native.Mathlib.Nat.{sub-zero}
 use native.Mathlib.Omega.{arith}
 use lib.ListN.{length, take, drop, getD, length-drop}
-use lib.Seq.{take-nil, take-all, drop-drop, length-take-le}
+use lib.Seq.{take-nil, drop-drop, length-take-le}
 use Rattle.encoding.specs.Table.{at as number-at, types, field}
 use Rattle.encoding.specs.Table
 use Rattle.wire.specs.At.{at-more, at-byte}
@@ -60,9 +60,6 @@ unfolding field
 members-below T S t = short-below T S _
 
 -- ---- parts
-
-pub rest-of : (m : List ℕ) (pos : ℕ) → take (length m - pos) (drop pos m) ≡ drop pos m
-rest-of m pos = take-all (length m - pos) (drop pos m) (omega (arith, length-drop pos m))
 
 take-none : (l : List ℕ) → take 0 l ≡ []
 take-none [] = refl

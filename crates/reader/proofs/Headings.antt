@@ -13,7 +13,7 @@ use Prim.Native.Nat.{ℕ, zero, suc, _+_, _-_, _%_, _≤_, _<_}
 use native.Mathlib.Numerals.{sub-one}
 use native.Mathlib.Omega.{arith}
 use lib.ListN.{length, take, drop, length-drop}
-use lib.Seq.{length-take-le, take-all, drop-drop}
+use lib.Seq.{length-take-le, drop-drop}
 use lib.Dec.{eqb, ltb}
 use mir.Syntax.{w64}
 use mir.Val.{Fits}
@@ -28,6 +28,7 @@ use Rattle.encoding.specs.Slice
 use Rattle.wire.specs.declared.Sized.{Sized}
 use Rattle.wire.specs.declared.Sized.the-variants.{Is as Size, Isnt as Unsized}
 use Rattle.wire.specs.Steps.{sizedOf}
+use Rattle.wire.specs.StepLaws.{rest-is, sized-is, sized-isnt}
 use Rattle.table.specs.declared.Found.{Found}
 use Rattle.table.specs.declared.Found.the-variants.{At, Nothing}
 use Rattle.table.specs.Found.{foundOf}
@@ -108,16 +109,6 @@ module _ (stage : Stage) (f : ℕ) where
           flags-fine q l = rw (sym eu ∙ nu, sym em ∙ nm, gone, sym et ∙ q, ← ei, le-ltb 1 i l)
 
 -- ---- a string, by its size
-
-sized-is : (r : Res ℕ) (n k : ℕ) → Size n k ≡ sizedOf r → r ≡ ok n k
-unfolding sizedOf
-sized-is (ok a m) n k h = cc
-sized-is (bad c p) n k h = let z : _≡_ {A = ℕ} 0 1 = cc in absurd (omega arith)
-
-sized-isnt : (r : Res ℕ) (c p : ℕ) → Unsized c p ≡ sizedOf r → r ≡ bad c p
-unfolding sizedOf
-sized-isnt (ok a m) c p h = let z : _≡_ {A = ℕ} 0 1 = cc in absurd (omega arith)
-sized-isnt (bad d q) c p h = cc
 
 module _ (s : List ℕ) (r : Sized) (e : r ≡ sizedOf (size s)) where
   pub text-within : (n k : ℕ) → r ≡ Size n k → k ≤ length s
@@ -292,13 +283,9 @@ ends-string : Ends string
 unfolding string
 ends-string xs d n h = ends-item _ (ends-bind _ _ (λ n. ends-chunk n)) xs d n (must-ok _ xs Content h .0)
 
--- what stands behind the flags
-rest-of : (s : List ℕ) → take (length s - 1) (drop 1 s) ≡ drop 1 s
-rest-of s = take-all (length s - 1) (drop 1 s) (omega (arith, length-drop 1 s))
-
 module _ (s : List ℕ) (r : Text) (e : r ≡ textOf (string (take (length s - 1) (drop 1 s)))) where
   string-text : r ≡ textOf (string (drop 1 s))
-  string-text = e ∙ ap (λ (z : List ℕ). textOf (string z)) (rest-of s)
+  string-text = e ∙ ap (λ (z : List ℕ). textOf (string z)) (rest-is s 1)
 
   module _ (h : 1 ≤ length s) where
     pub id-order : (a b : ℕ) → r ≡ Is a b → 1 + a ≤ 1 + b

@@ -21,6 +21,7 @@ use Rattle.encoding.specs.Table
 use Rattle.encoding.specs.Optional.{Piece, requireds, optionalOf}
 use Rattle.encoding.specs.Message.{rowBytes, pieceRows, parameters}
 use Rattle.wire.specs.Put.{put}
+use Rattle.wire.specs.StepLaws.{rest-is}
 use Rattle.level.specs.Fill.{fill}
 use Rattle.level.specs.Answers.{membersOf, optionalAnswer}
 use Rattle.level.specs.AnswersLaws.{KnownRead, known-read, skipped-read, wrong-read, known-within, known-start, known-tag, skipped-some, skipped-within, skipped-tag, wrong-within, members-read, members-refused, members-within, refused-within}
@@ -34,7 +35,7 @@ use Rattle.reader.specs.Walks.{listWalk}
 use Rattle.reader.specs.Left.{Outcome, listed, refused, answerOf, optionalsFrom, finish, listClose, listing}
 use Rattle.reader.specs.LeftLaws.{parameters-required, parameters-refused, finish-end, finish-wrong, finish-known, finish-skipped}
 use Rattle.reader.specs.MemberLaws.{required-few, optional-two}
-use Rattle.reader.proofs.Endings.{Ends, ends-refused, ends-listed, ends-answer, ends-list, Small, members-below, rest-of}
+use Rattle.reader.proofs.Endings.{Ends, ends-refused, ends-listed, ends-answer, ends-list, Small, members-below}
 
 -- ---- the whole walk
 
@@ -81,13 +82,13 @@ pub record Listing (T : List ℕ) (top : ℕ) (m : List ℕ) (whole : Outcome) (
 
 -- what is left fits
 pub list-asks : (m : List ℕ) (start : ℕ) → start ≤ length m → length m < 2 ^ 63 → start + length (take (length m - start) (drop start m)) < 2 ^ 63
-list-asks m start h l = omega (arith, ap length (rest-of m start), length-drop start m)
+list-asks m start h l = omega (arith, ap length (rest-is m start), length-drop start m)
 
 -- the required members
 module _ (T : List ℕ) (top : ℕ) (m : List ℕ) (start : ℕ) (h : start ≤ length m) (ms : Members)
     (em : ms ≡ membersOf 0 (requireds (Table.required T top) (take (length m - start) (drop start m)))) where
   reads : ms ≡ membersOf 0 (requireds (Table.required T top) (drop start m))
-  reads = em ∙ ap (λ (l : List ℕ). membersOf 0 (requireds (Table.required T top) l)) (rest-of m start)
+  reads = em ∙ ap (λ (l : List ℕ). membersOf 0 (requireds (Table.required T top) l)) (rest-is m start)
 
   pub list-refused : (c p : ℕ) → ms ≡ Refused c p → (out out′ : List ℕ) → Ends (inList T top start out (parameters T top (drop start m))) (Stop c (start + p)) out′
   list-refused c p q out out′ =
@@ -112,7 +113,7 @@ module _ (T : List ℕ) (top : ℕ) (m : List ℕ) (start : ℕ) (h : start ≤ 
         go : (ps : List Piece) × (requireds (Table.required T top) (drop start m) ≡ ok ps n) × (j ≡ 0 + length ps)
             → inList T top start out (parameters T top (drop start m)) ≡ finish T top (listClose top) refused false (start + n) j 0 out′ (optionalsFrom atEnd (Table.optional T top) 0 (drop (start + n) m))
         go R =
-            let e : requireds (Table.required T top) (take (length m - start) (drop start m)) ≡ ok (R .0) n = ap (requireds (Table.required T top)) (rest-of m start) ∙ R .1 in
+            let e : requireds (Table.required T top) (take (length m - start) (drop start m)) ≡ ok (R .0) n = ap (requireds (Table.required T top)) (rest-is m start) ∙ R .1 in
             parameters-required T top (listClose top) refused (drop start m) (R .0) n (R .1) start 0 0 out
             ∙ ap₂ (λ (i : ℕ) (l : List ℕ). finish T top (listClose top) refused false (start + n) i 0 l (optionalsFrom atEnd (Table.optional T top) 0 (drop n (drop start m)))) (sym (R .2)) (sym (fills (R .0) n e))
             ∙ ap (λ (l : List ℕ). finish T top (listClose top) refused false (start + n) j 0 out′ (optionalsFrom atEnd (Table.optional T top) 0 l)) (drop-drop n start m)
@@ -138,7 +139,7 @@ module _ {T : List ℕ} {top : ℕ} {m : List ℕ} {whole : Outcome} {at least k
 
   module _ (on : at < length m) {r : Optional} (e : r ≡ optionalAnswer (Table.optional T top) (optionalOf (Table.optional T top) least (take (length m - at) (drop at m)))) where
     answers : r ≡ optionalAnswer (Table.optional T top) (optionalOf (Table.optional T top) least (drop at m))
-    answers = e ∙ ap (λ (l : List ℕ). optionalAnswer (Table.optional T top) (optionalOf (Table.optional T top) least l)) (rest-of m at)
+    answers = e ∙ ap (λ (l : List ℕ). optionalAnswer (Table.optional T top) (optionalOf (Table.optional T top) least l)) (rest-is m at)
 
     -- a known optional
     module _ {i tag a n : ℕ} (q : r ≡ Known i tag a n) where

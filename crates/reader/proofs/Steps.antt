@@ -10,12 +10,11 @@ use mathlib.Core.List.{List, [], _∷_}
 use Prim.Native.Nat.{ℕ, _+_, _-_, _≤_}
 use native.Mathlib.Omega.{arith}
 use lib.ListN.{length, take, drop, length-drop}
-use lib.Seq.{take-all}
 use lib.Dec.{eqb}
 use borrow.Author.Tests.{eq-eqb, ne-eqb}
 use mir.Syntax.{w64}
 use mir.Val.{Fits}
-use Rattle.encoding.specs.Result.{Res, ok, bad, atMark}
+use Rattle.encoding.specs.Result.{ok, bad, atMark}
 use Rattle.encoding.specs.ResultLaws.{held-took, held-refused}
 use Rattle.encoding.specs.Number.{declared}
 use Rattle.encoding.specs.NumberLaws.{held-declared}
@@ -28,6 +27,8 @@ use Rattle.wire.specs.At.{at-byte}
 use Rattle.wire.specs.declared.Step.{Step}
 use Rattle.wire.specs.declared.Step.the-variants.{Took, Fault}
 use Rattle.wire.specs.Steps.{stepOf}
+use Rattle.wire.specs.StepLaws.{rest-is, step-fault}
+use Rattle.level.proofs.Told.{step-took}
 use Rattle.level.specs.declared.Optional.{Optional}
 use Rattle.level.specs.declared.Optional.the-variants.{Known as KnownOptional, Skipped as SkippedOptional, Wrong as WrongOptional}
 use Rattle.level.specs.Answers.{optionalAnswer}
@@ -47,20 +48,10 @@ use Rattle.reader.specs.Left.{answerOf, recallTo, recalling}
 
 -- ---- a slice up to its data
 
-step-took : (r : Res (List ℕ)) (k : ℕ) → Took k ≡ stepOf r → (d : List ℕ) × (r ≡ ok d k)
-unfolding stepOf
-step-took (ok d n) k e = (d, cc)
-step-took (bad c p) k e = let z : _≡_ {A = ℕ} 0 1 = cc in absurd (omega arith)
-
-step-fault : (r : Res (List ℕ)) (c p : ℕ) → Fault c p ≡ stepOf r → r ≡ bad c p
-unfolding stepOf
-step-fault (ok d n) c p e = let z : _≡_ {A = ℕ} 0 1 = cc in absurd (omega arith)
-step-fault (bad d q) c p e = cc
-
 -- the declared length behind n bytes
 module _ (s : List ℕ) (n : ℕ) (l : n ≤ length s) (step : Step) (f : step ≡ stepOf (declared 4 4 (take (length s - n) (drop n s)))) where
   declares : step ≡ stepOf (declared 4 4 (drop n s))
-  declares = f ∙ ap (λ (z : List ℕ). stepOf (declared 4 4 z)) (take-all (length s - n) (drop n s) (omega (arith, length-drop n s)))
+  declares = f ∙ ap (λ (z : List ℕ). stepOf (declared 4 4 z)) (rest-is s n)
 
   took : (k : ℕ) → step ≡ Took k → (d : List ℕ) × (declared 4 4 (drop n s) ≡ ok d k)
   took k q = step-took (declared 4 4 (drop n s)) k (sym q ∙ declares)

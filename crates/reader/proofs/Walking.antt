@@ -30,6 +30,7 @@ use Rattle.encoding.specs.Slice.{compact, sliced, first, seek, later, follow, f
 use Rattle.encoding.specs.SliceLaws.{held-slice, eats-slice}
 use Rattle.encoding.specs.Message.{pieceRows, rowBytes, sliceRows, skippedIn, passedIn}
 use Rattle.wire.specs.Put.{put}
+use Rattle.wire.specs.StepLaws.{rest-is}
 use Rattle.level.specs.Fill.{fill}
 use Rattle.level.specs.Answers.{membersOf}
 use Rattle.level.specs.AnswersLaws.{KnownRead, SkippedRead, members-read, members-refused, members-within, refused-within}
@@ -49,9 +50,9 @@ use Rattle.reader.specs.Walks.{chainRows, sliceWalk}
 use Rattle.reader.specs.Left.{Outcome, answerOf, recallTo, firstFrom, onward, rowsFrom, left, closing, recalling, optionalsFrom, finish, amid}
 use Rattle.reader.specs.LeftLaws.{left-whole, left-listed, left-refused, left-skipped, left-known, onward-ended, fields-required, fields-refused, finish-end, finish-early, finish-wrong, finish-known, finish-skipped}
 use Rattle.reader.specs.OpeningLaws.{Opened, Skipped, opening-wrong, opening-place, opening-skip, opening-known, opened-eats, opened-sized, row-below, row-base, passed-never}
-use Rattle.reader.specs.MemberLaws.{required-few, optional-two}
-use Rattle.reader.specs.TurnLaws.{mark-byte, turn-end, turn-known, turn-skipped, Early, turn-wrong, turn-place}
-use Rattle.reader.proofs.Endings.{Ends, ends-refused, ends-listed, ends-answer, ends-list, Small, types-below, members-below, rest-of, part-on, part-length}
+use Rattle.reader.specs.MemberLaws.{required-few, optional-two, mark-byte}
+use Rattle.reader.specs.TurnLaws.{turn-end, turn-known, turn-skipped, Early, turn-wrong, turn-place}
+use Rattle.reader.proofs.Endings.{Ends, ends-refused, ends-listed, ends-answer, ends-list, Small, types-below, members-below, part-on, part-length}
 
 -- ---- the whole walk
 
@@ -103,7 +104,7 @@ module _ (T : List ℕ) (top : ℕ) (m : List ℕ) (at : ℕ) (out : List ℕ) w
 module _ {T : List ℕ} {top : ℕ} {m : List ℕ} {whole : Outcome} {stage : Stage} {pos k o s fst : ℕ} {out : List ℕ} (inv : Outer T top m whole stage pos k o s fst out)
     {r : Opening} (e : r ≡ opening T top (stageOf stage) (take (length m - pos) (drop pos m))) where
   opens : r ≡ opening T top (stageOf stage) (drop pos m)
-  opens = e ∙ ap (opening T top (stageOf stage)) (rest-of m pos)
+  opens = e ∙ ap (opening T top (stageOf stage)) (rest-is m pos)
 
   -- a refusal before the data
   pub outer-wrong : {c p : ℕ} → r ≡ WrongSlice c p → {v : Walk} → v ≡ answerOf (recalling pos c (pos + p)) → Ends whole v out

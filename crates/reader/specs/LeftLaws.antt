@@ -1,9 +1,11 @@
--- The walk's outcome, step by step: what a slice or an optional that was read makes of it.
+-- The walk's outcome, step by step: what a slice or a member that was read makes of it.
 --
---   onward-..               the walk over the slices ahead: ended, refused, one slice further
---   optionals-..            the optionals ahead: ended, refused, one further
---   head-weight, fields-weight    the bytes taken by flags and ID, and by the members of a slice
---   optional-two            an optional takes at least two bytes
+--   onward-..                  the walk over the slices ahead: ended, refused, one slice further
+--   optionals-..               the optionals ahead: ended, refused, one further
+--   left-whole, left-listed    the whole walk, from its start: its answer and its rows
+--   left-refused, -skipped, -known       what the slice in front makes of the outcome
+--   fields-.., parameters-..   what the required members of a slice or a list make of it
+--   finish-..                  what the next optional makes of it
 use mathlib.Core.Path.{_≡_, refl, sym, ap, ap₂, _∙_}
 use mathlib.Core.Bool.{Bool, true, false, _&&_, not}
 use mathlib.Core.Option.{Option, none, some}
@@ -273,6 +275,11 @@ module _ (T : List ℕ) (top : ℕ) (st : Stage) (m : List ℕ) (pos t : ℕ) (o
 
 -- ---- members, one behind another
 
+-- where there is a piece, none is missing
+never : (b : Bool) (x y : Outcome) → pick (b && false) x y ≡ y
+never true x y = refl
+never false x y = refl
+
 module _ (T : List ℕ) (t : ℕ) (go : (at k o : ℕ) → List ℕ → Outcome) (refuse : ℕ → ℕ → Outcome) where
   -- required members, then what was read behind them
   module _ (xs : List ℕ) (ps : List Piece) (n : ℕ) (e : requireds (Table.required T t) xs ≡ ok ps n) (at k o : ℕ) (out : List ℕ) where
@@ -367,10 +374,6 @@ module _ (T : List ℕ) (t : ℕ) (go : (at k o : ℕ) → List ℕ → Outcome)
           r : Row
           r = record { member = m; place = at + a; len = n - a }
 
-          never : (b : Bool) (x y : Outcome) → pick (b && false) x y ≡ y
-          never true x y = refl
-          never false x y = refl
-
           by : (y : Res (List Piece)) → finish T t go refuse due at k o out (shift n (made (λ l _. piece ∷ l) y)) ≡ finish T t go refuse false (at + n) (k + 1) o (put (12 * k) (rowBytes r) out) y
           by (ok ps l) =
               let R : pieceRows T t at (piece ∷ ps) ≡ r ∷ pieceRows T t (at + n) ps = known-rows T t least xs at ps m tag a n K in
@@ -390,10 +393,6 @@ module _ (T : List ℕ) (t : ℕ) (go : (at k o : ℕ) → List ℕ → Outcome)
         where
           piece : Piece
           piece = skipped tag (K .type) (K .bytes)
-
-          never : (b : Bool) (x y : Outcome) → pick (b && false) x y ≡ y
-          never true x y = refl
-          never false x y = refl
 
           by : (y : Res (List Piece)) → finish T t go refuse due at k o out (shift n (made (λ l _. piece ∷ l) y)) ≡ finish T t go refuse false (at + n) k (o + 1) out y
           by (ok ps l) =

@@ -4,6 +4,7 @@
 --   required-few            they are at most as many as the owner names
 --   optional-is             an optional that was read is an optional piece
 --   optional-two            it takes at least two bytes
+--   mark-byte               an end marker takes one byte
 --   fields-weight           the members of a slice take as many bytes as their encoding has
 --   length-pieces, rows-append, skipped-append   of pieces behind pieces
 use mathlib.Core.Path.{_≡_, refl, sym, ap, _∙_}
@@ -171,14 +172,15 @@ optional-two ms least xs r n e = go (bind-ok (header ms least) _ xs e)
 
 -- ---- the members of a slice
 
-mark-one : (xs : List ℕ) (k : ℕ) → atMark xs ≡ some k → k ≡ 1
+-- a marker takes one byte
+pub mark-byte : (xs : List ℕ) (j : ℕ) → atMark xs ≡ some j → (j ≡ 1) × (1 ≤ length xs)
 unfolding atMark
-mark-one [] k h = absurd (some≢none h refl)
-mark-one (x ∷ xs) k h = go (eqb x 255) h
+mark-byte [] j e = absurd (some≢none e refl)
+mark-byte (x ∷ xs) j e = (go (eqb x 255) e, omega arith)
   where
-    go : (t : Bool) → pick t (some 1) none ≡ some k → k ≡ 1
-    go true h = cc
-    go false h = absurd (some≢none h refl)
+    go : (b : Bool) → pick b (some 1) none ≡ some j → j ≡ 1
+    go true e = cc
+    go false e = absurd (some≢none e refl)
 
 some-optional : (ms : List Member) {f s : ℕ} {xs : List ℕ} {ps : List Piece} {n : ℕ} → Run atMark (optionalOf ms) f s xs ps n → someForm ps ≡ 0 → anyOptional ps ≡ true
 unfolding someForm anyOptional
@@ -209,7 +211,7 @@ module _ (T : List ℕ) (t : ℕ) (o : List ℕ) where
             B .sum,
             requireds-weight (Table.required T t) xs (B .first),
             W .2,
-            mark-one _ _ (W .1),
+            mark-byte _ _ (W .1) .0,
           ))
       go false B =
           let Q = pure-ok (B .fst) (drop (B .n) xs) (B .next) in

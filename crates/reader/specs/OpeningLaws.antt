@@ -1,12 +1,14 @@
 -- One slice, by its opening: what its reading gives, and what it weighs.
 --
---   Opened, opening-known     a slice of a known row, and the part that its data lie in
---   Passed, opening-skip      a skipped slice
---   opening-wrong             a refusal before the data
---   opened-slice              the slice, by its members
---   Marks, format-kept        the format that a stage fixes is that of the chain
---   owners-known, known-place, known-end    whose rows a known slice has, where its data begin and end
---   passed-end                where a skipped slice ends
+--   skip-head-within, known-head-within   flags and ID lie within the bytes at hand
+--   opening-wrong, opening-place          a refusal before the data, and its place
+--   Skipped, opening-skip                 a skipped slice
+--   Opened, opening-known                 a slice of a known row, and the part that its data lie in
+--   Marks, format-kept                    the format that a stage fixes is that of the chain
+--   owners-known, first-known             whose rows a known slice has, and the first known type behind it
+--   row-below, row-base                   its row is one of the table, or the base that was due
+--   known-place, opened-eats, -sized      where its data begin
+--   passed-end, passed-never              where a skipped slice ends; none is behind a known one
 use mathlib.Core.Path.{_≡_, refl, sym, ap, _∙_, subst}
 use mathlib.Core.Bool.{Bool, true, false, _&&_, _||_, not}
 use mathlib.Core.Option.{Option, none, some}

@@ -8,13 +8,13 @@ use mathlib.Core.Path.{_≡_, refl, sym, ap, _∙_}
 use mathlib.Core.Bool.{Bool, true, false}
 use mathlib.Core.Option.{Option, none, some}
 use mathlib.Core.Logic.{_⊎_, inl, inr}
-use mathlib.Core.List.{List, [], _∷_}
+use mathlib.Core.List.{List}
 use Prim.Native.Nat.{ℕ, _≤_}
 use native.Mathlib.Omega.{arith}
 use lib.ListN.{length}
 use lib.Dec.{eqb}
 use Rattle.encoding.specs.Result.{bad, pick, atMark}
-use Rattle.encoding.specs.ResultLaws.{some≢none, held-refused}
+use Rattle.encoding.specs.ResultLaws.{held-refused}
 use Rattle.encoding.specs.Table.{Member}
 use Rattle.encoding.specs.Optional.{optionalOf}
 use Rattle.encoding.specs.OptionalLaws.{held-optional}
@@ -25,16 +25,7 @@ use Rattle.level.specs.AnswersLaws.{KnownRead, SkippedRead, known-read, skipped
 use Rattle.reader.specs.declared.Turn.{Turn}
 use Rattle.reader.specs.declared.Turn.the-variants.{End, Known, Skipped, Wrong}
 use Rattle.reader.specs.Openings.{turnAnswer, turnBy, turnOf}
-
--- a marker takes one byte
-pub mark-byte : (xs : List ℕ) (j : ℕ) → atMark xs ≡ some j → (j ≡ 1) × (1 ≤ length xs)
-unfolding atMark
-mark-byte [] j e = absurd (some≢none e refl)
-mark-byte (x ∷ xs) j e = (go (eqb x 255) e, omega arith)
-  where
-    go : (b : Bool) → pick b (some 1) none ≡ some j → j ≡ 1
-    go true e = cc
-    go false e = absurd (some≢none e refl)
+use Rattle.reader.specs.MemberLaws.{mark-byte}
 
 answer-known : (r : Optional) (m k a n : ℕ) → Known m k a n ≡ turnAnswer r → r ≡ KnownOptional m k a n
 unfolding turnAnswer

@@ -229,7 +229,7 @@ pub fn list(
         Members::Read(n, k) => {
             let mut at = start + n;
             let mut count = k;
-            let mut skipped = 0;
+            let mut optionals = 0;
             let mut least = 0;
             while at < m.len() {
                 let o = level::optionals::optional(table, forms, top, least, &m[at..]);
@@ -241,7 +241,7 @@ pub fn list(
                         least = tag + 1;
                     }
                     Optional::Skipped(tag, l) => {
-                        skipped += 1;
+                        optionals += 1;
                         at += l;
                         least = tag + 1;
                     }
@@ -250,7 +250,7 @@ pub fn list(
                     }
                 }
             }
-            Walk::Done(top, 1, count, skipped, 0, at)
+            Walk::Done(top, 1, count, optionals, 0, at)
         }
         Members::Refused(c, p) => Walk::Stop(c, start + p),
     }

@@ -12,11 +12,11 @@ use Rattle.reader.proofs.walks.list.Statement.{statement}
 use Rattle.reader.proofs.walks.list.Tie as tie
 
 abbrev Inv-loop : tie.InvT-loop
-Inv-loop table forms top m start out₀ n k at₀ count₀ skipped₀ least₀ out at count skipped least =
-    (length out ≡ length out₀) × Listing table top m (listing table top m at₀ least₀ count₀ skipped₀ out₀) at least count skipped out
+Inv-loop table forms top m start out₀ n k at₀ count₀ optionals₀ least₀ out at count optionals least =
+    (length out ≡ length out₀) × Listing table top m (listing table top m at₀ least₀ count₀ optionals₀ out₀) at least count optionals out
 
 abbrev μ-loop : tie.MeasureT-loop
-μ-loop table forms top m start out₀ n k at₀ count₀ skipped₀ least₀ out at count skipped least = length m - at
+μ-loop table forms top m start out₀ n k at₀ count₀ optionals₀ least₀ out at count optionals least = length m - at
 
 pub list-spec : {M : Type 1} → statement M
 list-spec =
@@ -45,7 +45,7 @@ list-spec =
     (λ c. omega (arith, listing-two (c .before .before .before .before .before .before .before .before .before .before .loop .inv .1) (c .before .before .before .before .before .before .before .before .before .loop-test .taken) (c .before .before .before .before .before .before .before .optional .ensures) (c .before .before .before .before .before .o .given .1), listing-within (c .before .before .before .before .before .before .before .before .before .before .loop .inv .1) (c .before .before .before .before .before .before .before .before .before .loop-test .taken) (c .before .before .before .before .before .before .before .optional .ensures) (c .before .before .before .before .before .o .given .1)))  -- loop-less
     (λ c. (ap length (c .before .before .put-row .ensures) ∙ put-length _ _ _ ∙ c .before .before .before .before .before .before .before .before .before .before .loop .inv .0, listing-known (c .before .before .before .before .before .before .before .before .before .before .loop .inv .1) (c .before .before .before .before .before .before .before .before .before .loop-test .taken) (c .before .before .before .before .before .before .before .optional .ensures) (c .before .before .before .before .before .o .given .1) (c .before .before .put-row .ensures)))  -- loop-again
     (λ c. search needs)  -- enum-known-o-2
-    (λ c. listing-skips (c .before .before .before .before .before .before .loop .inv .1) (c .before .before .before .before .before .loop-test .taken) (c .before .before .before .optional .ensures) (c .before .o2 .given .1))  -- add-skipped
+    (λ c. listing-skips (c .before .before .before .before .before .before .loop .inv .1) (c .before .before .before .before .before .loop-test .taken) (c .before .before .before .optional .ensures) (c .before .o2 .given .1))  -- add-optionals
     (λ c. listing-past-fits (c .before .before .before .before .before .before .loop .inv .1) (c .before .before .before .before .before .loop-test .taken) (c .before .before .before .optional .ensures) (c .before .o2 .given .1))  -- add-at-3
     (λ c. listing-past-tag (c .before .before .before .before .before .before .loop .inv .1) (c .before .before .before .before .before .loop-test .taken) (c .before .before .before .optional .ensures) (c .before .o2 .given .1))  -- add-least-2
     (λ c. omega (arith, listing-some (c .before .before .before .before .before .before .loop .inv .1) (c .before .before .before .before .before .loop-test .taken) (c .before .before .before .optional .ensures) (c .before .o2 .given .1), listing-past (c .before .before .before .before .before .before .loop .inv .1) (c .before .before .before .before .before .loop-test .taken) (c .before .before .before .optional .ensures) (c .before .o2 .given .1)))  -- loop-less-2

@@ -1,0 +1,51 @@
+-- What the calls answer of a walk over a message.
+--
+--   Walked         the walk that a message has by the rules, and what it leaves in a lent list
+--   low x          the low 32 bits of a number
+--   toldOf k w     the answer of a walk where the list has room for k rows
+--   rowCount w     the rows of an accepted message, none of a refused one
+--   viewOf         what the member view hands back, as the code has it
+--   Within l v     a part lies in l bytes
+use mathlib.Core.Path.{_≡_}
+use mathlib.Core.List.{List}
+use Prim.Native.Nat.{ℕ, _+_, _≤_, _%_, _^_}
+use lib.ListN.{length}
+use lib.Dec.{leb}
+use Rattle.encoding.specs.Result.{ok, pick}
+use Rattle.encoding.specs.NumberLaws.{Bytes}
+use Rattle.encoding.specs.Message.{Read, rules, rows}
+use Rattle.encoding.specs.View.{Seen, part, fallback, nothing}
+use Rattle.encoding.specs.declared.Reading.{Reading}
+use Rattle.encoding.specs.declared.Reading.the-variants.{Accepted, Refused}
+use Rattle.level.specs.Fill.{fill}
+use Rattle.reader.specs.Walks.{bodyWalk}
+use Rattle.reader.specs.declared.Walk.{Walk}
+use Rattle.reader.specs.declared.Walk.the-variants.{Done, Stop}
+use Rattle.codec.specs.declared.View.{View}
+use Rattle.codec.specs.declared.View.the-variants.{Part, Fallback, Nothing}
+
+-- the list is left with the rows of an accepted message, those that fit
+pub record Walked (T : List ℕ) (top : ℕ) (m : List ℕ) (w : Walk) (out last : List ℕ) : Type 0 where
+  pub bytes : Bytes m
+  pub says : w ≡ bodyWalk T top (rules T top m)
+  pub kept : length last ≡ length out
+  pub lays : (rd : Read) (n : ℕ) → rules T top m ≡ ok rd n → last ≡ fill 0 (rows T top (rd .format) (rd .pieces)) out
+
+abbrev pub low : ℕ → ℕ
+low x = x % 2 ^ 32
+
+unfoldable pub toldOf : ℕ → Walk → Reading
+toldOf k (Done t g n o s e) = pick (leb n k) (Accepted (low t) (low g) (low n) (low o) (low s)) (Refused 19 (low n))
+toldOf k (Stop c p) = Refused (low c) (low p)
+
+unfoldable pub rowCount : Walk → ℕ
+rowCount (Done t g n o s e) = n
+rowCount (Stop c p) = 0
+
+unfoldable pub viewOf : Seen → View
+viewOf (part p l) = Part p l
+viewOf fallback = Fallback
+viewOf nothing = Nothing
+
+pub record Within (l : ℕ) (v : View) : Type 0 where
+  pub inside : (p n : ℕ) → v ≡ Part p n → p + n ≤ l

@@ -1,0 +1,13 @@
+-- The number is that of the reader's answer. Assumes nothing.
+use borrow.Author.Needs.{needs}
+use Rattle.icehub.proofs.Numbering.{number-same}
+use Rattle.icehub.proofs.told.Statement.{statement}
+use Rattle.icehub.proofs.told.Tie as tie
+
+pub told-spec : {M : Type 1} → statement M
+told-spec =
+    tie.close
+    (tie.spec
+    (λ c κs. search needs)  -- answer-requires
+    (λ c κs. search needs)  -- number-requires
+    (λ c. search number-same))  -- returns
