@@ -1,8 +1,10 @@
 // Runs recorded calls of the reader and of the member view and prints a line for each. Of the reader: the refusal's number, its place, the first known type, the format,
-// the row count, the optionals and the slices skipped, then each row's three numbers, and `touched` if a byte beyond the rows is not as it was. Of the view: the bytes that it hands back, in hex.
+// the row count, the optionals and the slices skipped, then each row's three numbers, `touched` if a byte beyond the rows is not as it was,
+// and `again` where an accepted message with nothing skipped, written again from its own rows in its own format, is the same message. Of the view: the bytes that it hands back, in hex.
 // Standard input has records, each a head of 16 bytes and its bytes. The head, little-endian: two bytes 0 for a table that holds for the records after it, 1 for a call of the reader, 2 for one of the view;
 // two bytes with the length of the fallback; four each with the top, the bytes of the lent list or the member row, and the length of the table or message. The fallback stands behind the message.
 use encoding::Reading;
+use encoding::Writing;
 use libc::STDIN_FILENO;
 use libc::STDOUT_FILENO;
 
@@ -39,10 +41,9 @@ fn show_rows(rows: &[u8], n: usize) {
         let e = 12 * n;
         numbers(&rows[0..e]);
         if is_touched(&rows[e..]) {
-            io::write_all(STDOUT_FILENO, b"touched");
+            io::write_all(STDOUT_FILENO, b"touched ");
         }
     }
-    io::write_all(STDOUT_FILENO, b"\n");
 }
 
 fn show(a: Reading, rows: &[u8]) {
@@ -74,11 +75,50 @@ fn fresh(rows: &mut [u8]) {
     }
 }
 
+// The message written is this one.
+fn is_written(w: Writing, message: &[u8], out: &[u8]) -> bool {
+    match w {
+        Writing::Written(k) => {
+            let n = k as usize;
+            if n <= out.len() {
+                return table::naming::same(message, &out[0..n]);
+            }
+            false
+        }
+        Writing::Rejected(c, p) => false,
+    }
+}
+
+// Writes a message again from its own rows, as the type and in the format read.
+fn again(table: &[u8], first: u32, format: u32, n: u32, message: &[u8], rows: &[u8]) {
+    let mut out = io::large_buffer();
+    let w = codec::write(table, first, format, n, rows, message, &mut out);
+    if is_written(w, message, &out) {
+        io::write_all(STDOUT_FILENO, b"again");
+    }
+}
+
+// An accepted message with nothing skipped is written again.
+fn show_again(a: Reading, table: &[u8], message: &[u8], rows: &[u8]) {
+    match a {
+        Reading::Accepted(first, format, n, optionals, slices) => {
+            if optionals == 0 {
+                if slices == 0 {
+                    again(table, first, format, n, message, rows);
+                }
+            }
+        }
+        Reading::Refused(c, p) => {}
+    }
+}
+
 // A call of the reader with a list of just the bytes given.
 fn read_call(table: &[u8], top: u32, message: &[u8], rows: &mut [u8]) {
     fresh(rows);
     let a = codec::read(table, top, message, rows);
     show(a, rows);
+    show_again(a, table, message, rows);
+    io::write_all(STDOUT_FILENO, b"\n");
 }
 
 // A call of the view.
