@@ -1,0 +1,25 @@
+-- The list as row records: a lent list of rows, each a record of three numbers.
+--
+--   recordOf    a row as a record
+--   records     rows of the row bytes, as records
+--   overlay     a lent list after rows are laid over its front
+use mathlib.Core.List.{List, [], _∷_, map}
+use Prim.Native.Nat.{ℕ}
+use Rattle.encoding.specs.declared.Row.{Row}
+use Rattle.encoding.specs.Table.{range}
+use Rattle.encoding.specs.Message as Message
+use Rattle.encoding.specs.Write.{rowAt}
+
+-- member row, place, length
+unfoldable pub recordOf : Message.Row → Row
+recordOf r = record { member = r .member; place = r .place; length = r .len }
+
+-- n rows of the row bytes, from row k on
+unfoldable pub records : List ℕ → ℕ → ℕ → List Row
+records s k n = map recordOf (map (rowAt s) (range k n))
+
+-- the first elements are the rows, in order; every other element stays
+unfoldable pub overlay : List Row → List Row → List Row
+overlay [] ys = ys
+overlay (x ∷ xs) [] = []
+overlay (x ∷ xs) (y ∷ ys) = x ∷ overlay xs ys
