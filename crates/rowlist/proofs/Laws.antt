@@ -4,6 +4,8 @@
 --   overlay-start    nothing is laid over it
 --   overlay-next     row i stored over a list with i rows laid over it: i + 1 rows laid over it
 --   count-rows       as many rows as the bytes have, and as there is room for
+--   told-accepted, told-refused   the rows that an answer tells of, case by case
+--   all-rows         a list of 1,024 rows has as many as an answer tells of
 --   filled           rows past the list's end are lost, so as many as there is room for are enough
 use mathlib.Core.Path.{_≡_, refl, sym, _∙_, ap}
 use mathlib.Core.Bool.{Bool, true, false}
@@ -15,9 +17,11 @@ use lib.ListN.{length, set}
 use lib.Dec.{leb}
 use borrow.Author.Tests.{leb-true, leb-false}
 use Rattle.encoding.specs.declared.Row.{Row}
+use Rattle.encoding.specs.declared.Reading.{Reading}
+use Rattle.encoding.specs.declared.Reading.the-variants.{Accepted, Refused}
 use Rattle.encoding.specs.Table.{range}
 use Rattle.encoding.specs.Write.{rowAt}
-use Rattle.rowlist.specs.Records.{recordOf, records, overlay}
+use Rattle.rowlist.specs.Records.{recordOf, records, overlay, rowsOf}
 
 pub overlay-length : (xs ys : List Row) → length (overlay xs ys) ≡ length ys
 unfolding overlay
@@ -56,3 +60,15 @@ filled s ys k m e = go (leb k (length ys)) refl
     go : (t : Bool) → leb k (length ys) ≡ t → overlay (records s 0 m) ys ≡ overlay (records s 0 k) ys
     go true h = ap (λ (j : ℕ). overlay (records s 0 j) ys) (omega (arith, e, leb-true k (length ys) h))
     go false h = ap (λ (j : ℕ). overlay (records s 0 j) ys) (omega (arith, e, leb-false k (length ys) h)) ∙ overlay-cut s ys 0 k (omega (arith, leb-false k (length ys) h))
+
+pub told-accepted : (a : Reading) (t f n o s : ℕ) → a ≡ Accepted t f n o s → n ≡ rowsOf a
+unfolding rowsOf
+told-accepted a t f n o s e = sym (ap rowsOf e)
+
+pub told-refused : (a : Reading) (n p : ℕ) → a ≡ Refused n p → 0 ≡ rowsOf a
+unfolding rowsOf
+told-refused a n p e = sym (ap rowsOf e)
+
+pub all-rows : (zs : List ℕ) (ws rs us : List Row) (n m : ℕ) → length zs ≡ 12288 → n ≤ 1024 → records zs 0 n ≡ us → m ≡ n → ws ≡ overlay (records zs 0 (min m (length zs / 12))) rs → ws ≡ overlay us rs
+all-rows zs ws rs us n m l h f e g =
+    g ∙ ap (λ (j : ℕ). overlay (records zs 0 j) rs) (omega (arith, l, h, e)) ∙ ap (λ (xs : List Row). overlay xs rs) f

@@ -1,9 +1,13 @@
 // The reader with a lent list of row records. Functions over a lent list of records are few and thin: their proofs go through their bodies step by step, so these bodies stay as they are.
 ghost use mathlib.Core.Path.{_≡_};
 ghost use Prim.Native.Nat.{_+_, _*_, _/_, _≤_, _<_, min};
-ghost use lib.ListN.{length};
+ghost use lib.ListN.{length, replicate};
+ghost use mathlib.Core.List.{map};
+ghost use Rattle.encoding.specs.Message.{Answer, reading, readingOf};
+ghost use Rattle.encoding.specs.NumberLaws.{Bytes};
 ghost use Rattle.encoding.specs.Write.{rowAt};
-ghost use Rattle.rowlist.specs.Records.{recordOf, records, overlay};
+ghost use Rattle.rowlist.specs.Records.{recordOf, records, overlay, rowsOf, blank};
+use encoding::Reading;
 use encoding::Row;
 
 // A number below 2^32 as 32 bits.
@@ -52,4 +56,58 @@ fn rows_of(bytes: &[u8], n: usize, rows: &mut [Row]) -> usize
         i += 1;
     }
     m
+}
+
+// The rows that an answer tells of; none on a refusal.
+fn told(answer: Reading) -> usize
+    ensures { λ r. ⌜ r ≡ rowsOf answer ⌝ }
+{
+    match answer {
+        Reading::Accepted(_, _, n, _, _) => n as usize,
+        Reading::Refused(_, _) => 0,
+    }
+}
+
+// How many bytes there are; each is below 256.
+fn weigh(s: &[u8]) -> usize
+    ensures { λ r. ⌜ (r ≡ length (now (s .entry))) × Bytes (now (s .entry)) ⌝ }
+{
+    if 0 < s.len() {
+        wire::wide(s[0]);
+    }
+    s.len()
+}
+
+// The reader's answer with room for so many rows, and the rows as bytes at the front of a list of 1,024 rows, the most that there can be.
+fn listing(table: &[u8], top: u32, message: &[u8], room: usize, list: &mut [u8]) -> Reading
+    requires { ⌜ length (now list) ≡ 12288 ⌝ }
+    ensures { λ r. ⌜ (r ≡ readingOf (reading (now (table .entry)) top (now (message .entry)) (12 * room))) × ((rowsOf r ≤ 1024) × (records (now (list .exit)) 0 (rowsOf r) ≡ map recordOf (reading (now (table .entry)) top (now (message .entry)) (12 * room) .rows))) ⌝ }
+{
+    weigh(message);
+    let n = 12 * least(room, 1024);
+    codec::read(table, top, message, &mut list[..n])
+}
+
+// The reader with a lent list of row records: the answer of `read` with room for as many rows, and the rows in the first elements, in order; every other element stays, and on a refusal every one.
+// Wrong and ruled out: a reader that changes an element beyond the rows; one that exchanges place and length.
+pub fn read_rows(table: &[u8], top: u32, message: &[u8], rows: &mut [Row]) -> Reading
+    ensures { λ r. ⌜ (r ≡ readingOf (reading (now (table .entry)) top (now (message .entry)) (12 * length (now (rows .entry))))) × (now (rows .exit) ≡ overlay (map recordOf (reading (now (table .entry)) top (now (message .entry)) (12 * length (now (rows .entry))) .rows)) (now (rows .entry))) ⌝ }
+{
+    let mut list = [0u8; 12288];
+    let answer = listing(table, top, message, rows.len(), &mut list);
+    rows_of(&list, told(answer), rows);
+    answer
+}
+
+// The first eight elements that the reader leaves in a list of eight blank rows. The list stands in the body alone, so that any function may call this one.
+pub fn first_rows(table: &[u8], top: u32, message: &[u8]) -> [Row; 8]
+    ensures { λ r. ⌜ r ≡ overlay (map recordOf (reading (now (table .entry)) top (now (message .entry)) 96 .rows)) (replicate 8 blank) ⌝ }
+{
+    let mut list = [Row {
+        member: 0,
+        place: 0,
+        length: 0,
+    }; 8];
+    read_rows(table, top, message, &mut list);
+    list
 }
