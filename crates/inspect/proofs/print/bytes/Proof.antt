@@ -1,0 +1,27 @@
+-- `bytes` is safe and ends: the measure is what is left of the bytes. Assumes nothing.
+use Prim.Native.Nat.{_-_}
+use borrow.Author.Needs.{needs}
+use native.Mathlib.Omega.{arith}
+use lib.ListN.{length}
+use Rattle.inspect.proofs.print.bytes.Statement.{statement}
+use Rattle.inspect.proofs.print.bytes.Tie as tie
+
+abbrev Inv-loop : tie.InvT-loop
+Inv-loop s i₀ i = Unit {0}
+
+abbrev μ-loop : tie.MeasureT-loop
+μ-loop s i₀ i = length s - i
+
+pub bytes-spec : {M : Type 1} → statement M
+bytes-spec =
+    tie.close
+    (tie.spec
+    Inv-loop
+    μ-loop
+    (λ c. tt)  -- loop-holds
+    (λ c κs. search needs)  -- byte-at-requires
+    (λ c κs. search needs)  -- spaced-requires
+    (λ c. omega arith)  -- add-i
+    (λ c. omega arith)  -- loop-less
+    (λ c. tt)  -- loop-again
+    (λ c. tt))  -- returns
