@@ -5,6 +5,8 @@ PREFIX = /usr/local
 # make fuzz: how many calls, and a seed to repeat a run (empty: another one each time)
 CALLS = 1000000
 SEED =
+# make stack: recorded calls to make beside the generated ones
+VECTORS =
 
 RT = rt
 CARGO = cargo
@@ -21,7 +23,7 @@ export ICEHUB_LIB_DIR = $(CURDIR)/target/staticlib
 export CARGO_TARGET_DIR = $(CURDIR)/target/cargo
 INDEPENDENT = --offline --release --manifest-path tests/independent/Cargo.toml --features library
 
-.PHONY: help run test library example fuzz bench bindings samples install clean
+.PHONY: help run test library example fuzz bench stack bindings samples install clean
 .NOTPARALLEL:
 
 ## help: list what can be made
@@ -71,6 +73,10 @@ fuzz: $(LIBRARY)
 ## bench: compare the speed of the two on the same inputs
 bench: $(LIBRARY)
 	$(CARGO) run $(INDEPENDENT) --bin bench
+
+## stack: measure the deepest stack of each call (VECTORS: files or directories of recorded calls)
+stack: $(LIBRARY)
+	$(CARGO) run $(INDEPENDENT) --bin stack -- $(VECTORS)
 
 ## bindings: test the Rust crate over the library
 bindings: $(LIBRARY)

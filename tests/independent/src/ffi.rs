@@ -3,6 +3,7 @@
 
 use crate::calls::{Answer, Call, LENT};
 use crate::Reading;
+use std::hint::black_box;
 
 extern "C" {
     fn icehub_read(
@@ -94,6 +95,62 @@ pub fn write(table: &[u8], of: u32, format: u32, count: u32, rows: &[u8], buffer
 type ReadNumber = unsafe extern "C" fn(*const u8, usize, u32, *const u8, usize, usize) -> u32;
 type WriteNumber =
     unsafe extern "C" fn(*const u8, usize, u32, u32, u32, *const u8, usize, *const u8, usize, usize) -> u32;
+
+/// The further calls, by their names.
+const READ_NUMBERS: [(&str, ReadNumber); 6] = [
+    ("icehub_read_place", icehub_read_place),
+    ("icehub_read_type", icehub_read_type),
+    ("icehub_read_format", icehub_read_format),
+    ("icehub_read_count", icehub_read_count),
+    ("icehub_read_optionals_skipped", icehub_read_optionals_skipped),
+    ("icehub_read_slices_skipped", icehub_read_slices_skipped),
+];
+const WRITE_NUMBERS: [(&str, WriteNumber); 2] =
+    [("icehub_write_place", icehub_write_place), ("icehub_write_length", icehub_write_length)];
+
+/// Hands `run` each call of the library on this input, with its name, to be made once.
+pub fn each(call: &Call, mut run: impl FnMut(&'static str, &mut dyn FnMut())) {
+    match call {
+        Call::Read { table, top, message, room } => {
+            let mut lent = vec![LENT; *room];
+            run("icehub_read", &mut || {
+                black_box(read(table, *top, message, &mut lent));
+            });
+            let (table, message) = (&table[..], &message[..]);
+            for (name, number) in READ_NUMBERS {
+                // SAFETY: each pointer comes with the length of its slice; nothing is written.
+                run(name, &mut || unsafe {
+                    black_box(number(table.as_ptr(), table.len(), *top, message.as_ptr(), message.len(), *room));
+                });
+            }
+        }
+        Call::Write { table, of, format, count, rows, buffer, room } => {
+            let mut lent = vec![LENT; *room];
+            run("icehub_write", &mut || {
+                black_box(write(table, *of, *format, *count, rows, buffer, &mut lent));
+            });
+            let (table, rows, buffer) = (&table[..], &rows[..], &buffer[..]);
+            for (name, number) in WRITE_NUMBERS {
+                // SAFETY: as above.
+                run(name, &mut || unsafe {
+                    black_box(number(
+                        table.as_ptr(),
+                        table.len(),
+                        *of,
+                        *format,
+                        *count,
+                        rows.as_ptr(),
+                        rows.len(),
+                        buffer.as_ptr(),
+                        buffer.len(),
+                        *room,
+                    ));
+                });
+            }
+        }
+        Call::Check { .. } | Call::View { .. } => {}
+    }
+}
 
 /// The library's answer to a call of the reader or the writer; none to the others, which C does not have.
 pub fn answer(call: &Call) -> Option<Answer> {
