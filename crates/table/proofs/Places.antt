@@ -5,20 +5,23 @@
 --   at-from                                         a number of the part that begins at a place
 --   kind-is .. tag-is                               a field of a row, read from the part that begins at the row
 --   field-past                                      a field past the table's end
+--   at-within                                       a number of a part that holds it whole
+--   kind-within .. tag-within                       a field of a row, read from the row's own bytes
 --   rows-few, rows-many                             how many rows have a tree
 --   rows-below                                      at most 256 rows have a tree
 --   member-row, no-member                           the row of a member's type
-use Prim.Native.Nat.{ℕ, _+_, _-_, _*_, _/_, _≤_, _<_}
+use Prim.Native.Nat.{ℕ, zero, suc, _+_, _-_, _*_, _/_, _≤_, _<_}
 use mathlib.Core.Path.{_≡_, refl, sym, ap, _∙_}
 use mathlib.Core.Bool.{Bool, true, false}
-use mathlib.Core.List.{List}
+use mathlib.Core.List.{List, [], _∷_}
 use native.Mathlib.Nat.{add-zero}
 use native.Mathlib.Omega.{arith}
 use lib.ListN.{length, take, drop, length-drop, drop-of-length-le}
-use lib.Seq.{take-all, drop-drop}
+use lib.Seq.{take-all, take-nil, take-take, drop-drop}
 use lib.Dec.{leb}
 use borrow.Author.Tests.{le-leb, lt-leb, leb-true}
 use Rattle.encoding.specs.Result.{pick}
+use Rattle.encoding.specs.Number.{val}
 use Rattle.encoding.specs.Table.{at, types, members, typesAt, rowAt, membersAt, memberAt, kind, field, memberType, mark, tag, typeRows, trees, tyOf, memberTy}
 use Rattle.encoding.specs.TableLaws.{ty-past, member-past, member-whole}
 use Rattle.wire.specs.At.{at-past}
@@ -87,6 +90,52 @@ module _ (T : List ℕ) (m a : ℕ) (e : drop a T ≡ drop (memberAt T m) T) (r 
   pub tag-is : r ≡ at (take (length T - a) (drop a T)) 4 4 → r ≡ tag T m
   unfolding tag
   tag-is h = at-from T a (memberAt T m) e r 4 4 h
+
+-- a part of a part lies in the whole
+part-part : (l : List ℕ) (i k n : ℕ) → i + k ≤ n → take k (drop i (take n l)) ≡ take k (drop i l)
+part-part l zero k n h = take-take k n l (omega arith)
+part-part [] (suc i) k n h = rw (take-nil {A = ℕ} n)
+part-part (x ∷ l) (suc i) k zero h = absurd (omega arith)
+part-part (x ∷ l) (suc i) k (suc n) h = part-part l i k n (omega arith)
+
+pub at-within : (T : List ℕ) (a e k i r : ℕ) → i + k ≤ e - a → r ≡ at (take (e - a) (drop a T)) k i → r ≡ at T k (a + i)
+unfolding at
+at-within T a e k i r l h = h ∙ ap val (part-part (drop a T) i k (e - a) l) ∙ rw drop-drop
+
+-- the row's 12 bytes
+module _ (T : List ℕ) (t r : ℕ) where
+  pub kind-within : r ≡ at (take (12 + 12 * t + 12 - (12 + 12 * t)) (drop (12 + 12 * t) T)) 1 0 → r ≡ kind T t
+  unfolding kind rowAt typesAt
+  kind-within h = at-within T (12 + 12 * t) (12 + 12 * t + 12) 1 0 r (omega arith) h ∙ rw add-zero
+
+  pub spare-within : r ≡ at (take (12 + 12 * t + 12 - (12 + 12 * t)) (drop (12 + 12 * t) T)) 1 1 → r ≡ at T 1 (rowAt T t + 1)
+  unfolding rowAt typesAt
+  spare-within h = at-within T (12 + 12 * t) (12 + 12 * t + 12) 1 1 r (omega arith) h
+
+  pub field-within : (i p : ℕ) → p ≡ 2 + 2 * i → i < 5 → r ≡ at (take (12 + 12 * t + 12 - (12 + 12 * t)) (drop (12 + 12 * t) T)) 2 p → r ≡ field T t i
+  unfolding field rowAt typesAt
+  field-within i p e l h = at-within T (12 + 12 * t) (12 + 12 * t + 12) 2 p r (omega arith) h ∙ ap (at T 2) (omega arith)
+
+-- the member row's 8 bytes
+module _ (T : List ℕ) (m n : ℕ) (e : n ≡ types T) (r : ℕ) where
+  within-member : (k i : ℕ) → i + k ≤ 8 → r ≡ at (take (12 + 12 * n + 8 * m + 8 - (12 + 12 * n + 8 * m)) (drop (12 + 12 * n + 8 * m) T)) k i → r ≡ at T k (memberAt T m + i)
+  unfolding memberAt membersAt rowAt typesAt
+  within-member k i l h = at-within T (12 + 12 * n + 8 * m) (12 + 12 * n + 8 * m + 8) k i r (omega arith) h ∙ rw e
+
+  pub member-type-within : r ≡ at (take (12 + 12 * n + 8 * m + 8 - (12 + 12 * n + 8 * m)) (drop (12 + 12 * n + 8 * m) T)) 2 0 → r ≡ memberType T m
+  unfolding memberType
+  member-type-within h = within-member 2 0 (omega arith) h ∙ rw add-zero
+
+  pub mark-within : r ≡ at (take (12 + 12 * n + 8 * m + 8 - (12 + 12 * n + 8 * m)) (drop (12 + 12 * n + 8 * m) T)) 1 2 → r ≡ mark T m
+  unfolding mark
+  mark-within h = within-member 1 2 (omega arith) h
+
+  pub member-spare-within : r ≡ at (take (12 + 12 * n + 8 * m + 8 - (12 + 12 * n + 8 * m)) (drop (12 + 12 * n + 8 * m) T)) 1 3 → r ≡ at T 1 (memberAt T m + 3)
+  member-spare-within h = within-member 1 3 (omega arith) h
+
+  pub tag-within : r ≡ at (take (12 + 12 * n + 8 * m + 8 - (12 + 12 * n + 8 * m)) (drop (12 + 12 * n + 8 * m) T)) 4 4 → r ≡ tag T m
+  unfolding tag
+  tag-within h = within-member 4 4 (omega arith) h
 
 module _ (T : List ℕ) (n : ℕ) (e : n ≡ types T) where
   pub rows-few : n ≤ 256 → n ≡ typeRows T

@@ -10,6 +10,7 @@ ghost use mathlib.Core.Path.{_≡_};
 ghost use Prim.Native.Nat.{_+_, _≤_, _<_};
 ghost use lib.ListN.{length, drop};
 ghost use Rattle.encoding.specs.Table.{at, types, members, names, rowAt, memberAt, isRecord, owns, kind, field, memberType, mark, tag, typeRows, trees, tyOf, memberTy};
+ghost use Rattle.table.specs.Rows.{IsTypeRow, IsMemberRow};
 
 // A row number, if there is one.
 pub enum Found {
@@ -21,6 +22,25 @@ pub enum Found {
 pub enum Verdict {
     Fine,
     Broken(usize, usize),
+}
+
+// A type row: its kind, its zero byte, its fields a to e.
+pub struct TypeRow {
+    pub kind: usize,
+    pub spare: usize,
+    pub a: usize,
+    pub b: usize,
+    pub c: usize,
+    pub d: usize,
+    pub e: usize,
+}
+
+// A member row: its type, its mark (0 required, 1 optional), its zero byte, its tag.
+pub struct MemberRow {
+    pub of: usize,
+    pub mark: usize,
+    pub spare: usize,
+    pub tag: usize,
 }
 
 // T of the header.
@@ -128,6 +148,79 @@ pub fn tag(table: &[u8], m: usize) -> usize
 {
     let a = member(table, m);
     wire::int_at(&table[a..], 4)
+}
+
+// Type row t by the look-ups, for a row that is not wholly inside.
+fn type_row_outside(table: &[u8], t: usize) -> TypeRow
+    ensures { λ r. ⌜ IsTypeRow (now (table .entry)) t r ⌝ }
+{
+    TypeRow {
+        kind: kind(table, t),
+        spare: spare(table, t),
+        a: field(table, t, 0),
+        b: field(table, t, 1),
+        c: field(table, t, 2),
+        d: field(table, t, 3),
+        e: field(table, t, 4),
+    }
+}
+
+// Type row t whole.
+pub fn type_row(table: &[u8], t: usize) -> TypeRow
+    ensures { λ r. ⌜ IsTypeRow (now (table .entry)) t r ⌝ }
+{
+    if 65536 <= t {
+        return type_row_outside(table, t);
+    }
+    let start = 12 + 12 * t;
+    let end = start + 12;
+    if table.len() < end {
+        return type_row_outside(table, t);
+    }
+    let bytes = &table[start..end];
+    TypeRow {
+        kind: wire::byte_at(bytes, 0),
+        spare: wire::byte_at(bytes, 1),
+        a: wire::short_at(bytes, 2),
+        b: wire::short_at(bytes, 4),
+        c: wire::short_at(bytes, 6),
+        d: wire::short_at(bytes, 8),
+        e: wire::short_at(bytes, 10),
+    }
+}
+
+// Member row m by the look-ups, for a row that is not wholly inside.
+fn member_row_outside(table: &[u8], m: usize) -> MemberRow
+    ensures { λ r. ⌜ IsMemberRow (now (table .entry)) m r ⌝ }
+{
+    let start = member(table, m);
+    MemberRow {
+        of: member_type(table, m),
+        mark: mark(table, m),
+        spare: wire::byte_at(&table[start..], 3),
+        tag: tag(table, m),
+    }
+}
+
+// Member row m whole.
+pub fn member_row(table: &[u8], m: usize) -> MemberRow
+    ensures { λ r. ⌜ IsMemberRow (now (table .entry)) m r ⌝ }
+{
+    if 65536 <= m {
+        return member_row_outside(table, m);
+    }
+    let start = 12 + 12 * types(table) + 8 * m;
+    let end = start + 8;
+    if table.len() < end {
+        return member_row_outside(table, m);
+    }
+    let bytes = &table[start..end];
+    MemberRow {
+        of: wire::short_at(bytes, 0),
+        mark: wire::byte_at(bytes, 2),
+        spare: wire::byte_at(bytes, 3),
+        tag: wire::int_at(bytes, 4),
+    }
 }
 
 // Kind k is an exception or a class.

@@ -1,0 +1,28 @@
+-- A member row that lies inside is read from its own 8 bytes; any other by the look-ups. Assumes nothing.
+use borrow.Author.Needs.{needs}
+use Rattle.table.proofs.Places.{member-type-within, mark-within, member-spare-within, tag-within}
+use Rattle.table.proofs.member_row.Statement.{statement}
+use Rattle.table.proofs.member_row.Tie as tie
+
+pub member-row-spec : {M : Type 1} → statement M
+member-row-spec =
+    tie.close
+    (tie.spec
+    (λ c κs. search needs)  -- member-row-outside-requires
+    (λ c. search needs)  -- returns
+    (λ c κs. search needs)  -- types-requires
+    (λ c. search needs)  -- mul-start
+    (λ c. search needs)  -- add-start
+    (λ c. search needs)  -- mul-start-2
+    (λ c. search needs)  -- add-start-2
+    (λ c. search needs)  -- add-end
+    (λ c κs. search needs)  -- member-row-outside-requires-2
+    (λ c. search needs)  -- returns-2
+    (λ c. search needs)  -- sub-bytes
+    (λ c. search needs)  -- part-bytes-start
+    (λ c. search needs)  -- part-bytes-end
+    (λ c κs. search needs)  -- short-at-requires
+    (λ c κs. search needs)  -- byte-at-requires
+    (λ c κs. search needs)  -- byte-at-requires-2
+    (λ c κs. search needs)  -- int-at-requires
+    (λ c. search (needs, member-type-within, mark-within, member-spare-within, tag-within)))  -- returns-3

@@ -1,0 +1,44 @@
+-- A row that lies inside is read from its own 12 bytes; any other by the look-ups. Assumes nothing.
+use borrow.Author.Needs.{needs}
+use native.Mathlib.Omega.{arith}
+use Rattle.table.proofs.Places.{kind-within, spare-within, field-within}
+use Rattle.table.proofs.type_row.Statement.{statement}
+use Rattle.table.proofs.type_row.Tie as tie
+
+pub type-row-spec : {M : Type 1} → statement M
+type-row-spec =
+    tie.close
+    (tie.spec
+    (λ c κs. search needs)  -- type-row-outside-requires
+    (λ c. search needs)  -- returns
+    (λ c. search needs)  -- mul-start
+    (λ c. search needs)  -- add-start
+    (λ c. search needs)  -- add-end
+    (λ c κs. search needs)  -- type-row-outside-requires-2
+    (λ c. search needs)  -- returns-2
+    (λ c. search needs)  -- sub-bytes
+    (λ c. search needs)  -- part-bytes-start
+    (λ c. search needs)  -- part-bytes-end
+    (λ c κs. search needs)  -- byte-at-requires
+    (λ c κs. search needs)  -- byte-at-requires-2
+    (λ c κs. search needs)  -- short-at-requires
+    (λ c κs. search needs)  -- short-at-requires-2
+    (λ c κs. search needs)  -- short-at-requires-3
+    (λ c κs. search needs)  -- short-at-requires-4
+    (λ c κs. search needs)  -- short-at-requires-5
+    (λ c. record {
+      kind-is = search kind-within;
+      spare-is = search spare-within;
+      a-is = field-within _ _ _ 0 2 (omega arith) (omega arith) (search);
+      b-is = field-within _ _ _ 1 4 (omega arith) (omega arith) (search);
+      c-is = field-within _ _ _ 2 6 (omega arith) (omega arith) (search);
+      d-is = field-within _ _ _ 3 8 (omega arith) (omega arith) (search);
+      e-is = field-within _ _ _ 4 10 (omega arith) (omega arith) (search);
+      kind-small = search;
+      spare-small = search;
+      a-small = search;
+      b-small = search;
+      c-small = search;
+      d-small = search;
+      e-small = search;
+    }))  -- returns-3

@@ -1,0 +1,36 @@
+-- A row of the table, read whole.
+--
+--   IsTypeRow     what the code answers for a type row: each field is the table's, and small
+--   IsMemberRow   the same for a member row
+use Prim.Native.Nat.{ℕ, _+_, _<_}
+use mathlib.Core.Path.{_≡_}
+use mathlib.Core.List.{List}
+use Rattle.encoding.specs.Table.{at, rowAt, memberAt, kind, field, memberType, mark, tag}
+use Rattle.table.specs.declared.TypeRow.{TypeRow}
+use Rattle.table.specs.declared.MemberRow.{MemberRow}
+
+pub record IsTypeRow (T : List ℕ) (t : ℕ) (r : TypeRow) : Type 0 where
+  pub kind-is : r .kind ≡ kind T t
+  pub spare-is : r .spare ≡ at T 1 (rowAt T t + 1)
+  pub a-is : r .a ≡ field T t 0
+  pub b-is : r .b ≡ field T t 1
+  pub c-is : r .c ≡ field T t 2
+  pub d-is : r .d ≡ field T t 3
+  pub e-is : r .e ≡ field T t 4
+  pub kind-small : r .kind < 256
+  pub spare-small : r .spare < 256
+  pub a-small : r .a < 65536
+  pub b-small : r .b < 65536
+  pub c-small : r .c < 65536
+  pub d-small : r .d < 65536
+  pub e-small : r .e < 65536
+
+pub record IsMemberRow (T : List ℕ) (m : ℕ) (r : MemberRow) : Type 0 where
+  pub of-is : r .of ≡ memberType T m
+  pub mark-is : r .mark ≡ mark T m
+  pub spare-is : r .spare ≡ at T 1 (memberAt T m + 3)
+  pub tag-is : r .tag ≡ tag T m
+  pub of-small : r .of < 65536
+  pub mark-small : r .mark < 256
+  pub spare-small : r .spare < 256
+  pub tag-small : r .tag < 4294967296
