@@ -1,23 +1,23 @@
--- The loop over the digits of a number, and the cases of sizes, strings and declared lengths by the bytes at the head. Assumes nothing.
+-- Numbers by their bytes or their halves, and the cases of sizes, strings and declared lengths by the bytes at the head. Assumes nothing.
 --
---   Digits                what the loop over the digits keeps, from the last to the first
+--   short-is, int-is      two bytes, and two shorts, all inside; long-is: two ints of the part that begins at the place
+--   short-cut, int-cut    a number that the end cuts off
 --   size-..               the cases of `size`
 --   declared-..           the cases of `declared`
 --   string-..             the cases of `string`; size-within: its size lies within the bytes at hand
-use mathlib.Core.Path.{_≡_, sym, ap, _∙_}
+use mathlib.Core.Path.{_≡_, sym, _∙_}
 use mathlib.Core.Bool.{Bool, false}
 use mathlib.Core.List.{List}
-use Prim.Native.Nat.{ℕ, suc, _+_, _-_, _*_, _^_, _≤_, _<_}
+use Prim.Native.Nat.{ℕ, _+_, _-_, _*_, _^_, _≤_, _<_}
 use native.Mathlib.Omega.{arith}
-use native.Mathlib.Nat.{pow-suc, pow-le-pow-right}
-use lib.ListN.{length, drop, getD, length-drop}
-use lib.Seq.{take-all}
+use native.Mathlib.Nat.{add-zero}
+use lib.ListN.{length, take, drop, getD, length-drop}
 use lib.Dec.{leb}
 use borrow.Author.Tests.{le-leb, lt-leb, lt-ltb, le-ltb}
 use Rattle.encoding.specs.Result.{shift, after, _>>=_, pure, chunk, atFirst, item, judged, must, firstOf}
 use Rattle.encoding.specs.ResultLaws.{held-took}
 use Rattle.encoding.specs.Table.{at}
-use Rattle.encoding.specs.Number.{val, negative, number, byte, sizeForm, sizeTail, size, lengthForm, declared, Content, string}
+use Rattle.encoding.specs.Number.{negative, number, byte, sizeForm, sizeTail, size, lengthForm, declared, Content, string}
 use Rattle.encoding.specs.NumberLaws.{held-size}
 use Rattle.wire.specs.declared.Step.the-variants.{Took, Fault}
 use Rattle.wire.specs.declared.Sized.{Sized}
@@ -25,58 +25,31 @@ use Rattle.wire.specs.declared.Sized.the-variants.{Is, Isnt}
 use Rattle.wire.specs.Steps.{stepOf, sizedOf}
 use Rattle.wire.specs.StepLaws.{sized-is, sized-isnt}
 use Rattle.wire.proofs.Room.{fits-no}
-use Rattle.wire.specs.At.{at-more}
+use Rattle.wire.specs.At.{at-byte, at-split, at-cut, at-rest}
 
--- ---- the loop over the digits: those from j on are read
+-- ---- a number, by its bytes or its halves
 
-pub record Digits (s : List ℕ) (i k j v : ℕ) : Type 0 where
-  pub inside : i + j ≤ length s
-  pub few : j ≤ k
-  pub digits : v ≡ at s (k - j) (i + j)
-  pub below : v < 256 ^ (k - j)
+module _ (s : List ℕ) (i a b : ℕ) where
+  pub short-is : a ≡ getD s i 0 → b ≡ getD s (i + 1) 0 → a + 256 * b ≡ at s 2 i
+  short-is e f = omega (arith, at-split s 1 1 i, at-byte s i, at-byte s (i + 1))
 
-pub digits-begin : (s : List ℕ) (i k : ℕ) → i + k ≤ length s → Digits s i k k 0
-unfolding at val
-digits-begin s i k h =
-    let z : k - k ≡ 0 = omega arith in
-    record { inside = h; few = omega arith; digits = rw z; below = rw z (omega arith) }
+  pub int-is : a ≡ at s 2 i → b ≡ at s 2 (i + 2) → a + 65536 * b ≡ at s 4 i
+  int-is e f = omega (arith, at-split s 2 2 i)
 
-module _ (s : List ℕ) (i k j v : ℕ) (d : Digits s i k j v) where
-  pub digits-turn : (b : ℕ) → 0 < j → b ≡ getD s (i + (j - 1)) 0 → b < 256 → Digits s i k (j - 1) (b + 256 * v)
-  digits-turn b h e l =
-      let n : k - (j - 1) ≡ suc (k - j) = omega (arith, d .few) in
-      let p : suc (i + (j - 1)) ≡ i + j = omega arith in
-      record {
-        inside = omega (arith, d .inside);
-        few = omega (arith, d .few);
-        digits = rw (n, at-more s (k - j) (i + (j - 1)), p, e, d .digits);
-        below = rw (n, pow-suc) (omega (arith, d .below));
-      }
+-- past the end
+module _ (s : List ℕ) (i a : ℕ) (r : Bool) where
+  pub short-cut : r ≡ leb (i + 2) (length s) → r ≡ false → a ≡ at s 1 i → a ≡ at s 2 i
+  short-cut e q f = f ∙ sym (at-cut s 1 1 i (omega (arith, fits-no (length s) i 2 r e q)))
 
-  pub digits-room : 0 < j → k ≤ 8 → v < 256 ^ 7
-  digits-room h l = omega (arith, d .below, pow-le-pow-right {n = 256} (omega arith) {i = k - j} {j = 7} (omega arith))
+-- from the part that begins at i
+module _ (s : List ℕ) (i a b : ℕ) where
+  pub int-cut : (r : Bool) → r ≡ leb (i + 4) (length s) → r ≡ false
+      → a ≡ at (take (length s - i) (drop i s)) 2 0 → b ≡ at (take (length s - i) (drop i s)) 1 2 → a + 65536 * b ≡ at s 4 i
+  int-cut r e q f g =
+      omega (arith, at-split s 2 2 i, at-cut s 1 1 (i + 2) (omega (arith, fits-no (length s) i 4 r e q)), rw add-zero at (at-rest s i 2 0), at-rest s i 1 2)
 
-  pub digits-end : j ≤ 0 → v ≡ at s k i
-  digits-end h =
-      let n : k - j ≡ k = omega arith in
-      let p : i + j ≡ i = omega arith in
-      rw (n, p) at (d .digits)
-
-  pub digits-below : j ≤ 0 → v < 256 ^ k
-  digits-below h = let n : k - j ≡ k = omega arith in rw n at (d .below)
-
--- what is past the end adds nothing
-module _ (s : List ℕ) (i k r : ℕ) (b : Bool) (e : b ≡ leb (i + k) (length s)) (q : b ≡ false) where
-  pub cut-few : k ≤ 8 → length s - i ≤ 8
-  cut-few h = omega (arith, fits-no (length s) i k b e q)
-
-  module _ (h : i < length s) where
-    pub cut-digits : r ≡ at s (length s - i) i → r ≡ at s k i
-    unfolding at
-    cut-digits d = d ∙ ap val (take-all (length s - i) (drop i s) (omega (arith, length-drop i s)) ∙ sym (take-all k (drop i s) (omega (arith, length-drop i s, fits-no (length s) i k b e q))))
-
-    pub cut-below : r < 256 ^ (length s - i) → r < 256 ^ k
-    cut-below l = omega (arith, pow-le-pow-right {n = 256} (omega arith) {i = length s - i} {j = k} (omega (arith, fits-no (length s) i k b e q)))
+  pub long-is : a ≡ at (take (length s - i) (drop i s)) 4 0 → b ≡ at (take (length s - i) (drop i s)) 4 4 → a + 4294967296 * b ≡ at s 8 i
+  long-is f g = omega (arith, at-split s 4 4 i, rw add-zero at (at-rest s i 4 0), at-rest s i 4 4)
 
 -- ---- a size, by its first byte and the int behind it
 

@@ -1,6 +1,6 @@
 // Numbers, sizes, strings, declared lengths and bits, read from the bytes in front and put at a place. Each function equals a definition, on any bytes.
 ghost use mathlib.Core.Path.{_≡_};
-ghost use Prim.Native.Nat.{_+_, _-_, _*_, _/_, _%_, _^_, _≤_, _<_, min};
+ghost use Prim.Native.Nat.{_+_, _-_, _*_, _/_, _%_, _≤_, _<_, min};
 ghost use lib.Dec.{leb, ltb};
 ghost use lib.ListN.{length, take, drop};
 ghost use Rattle.encoding.specs.Result.{pick};
@@ -50,32 +50,20 @@ pub fn fits(n: usize, at: usize, k: usize) -> bool
     if n < k { false } else { at <= n - k }
 }
 
-// The number of k bytes at a place, all of them inside.
-fn digits_at(s: &[u8], i: usize, k: usize) -> usize
-    requires { ⌜ (k ≤ 8) × (i + k ≤ length (now s)) ⌝ }
-    ensures { λ r. ⌜ (r ≡ number-at (now (s .entry)) k i) × (r < 256 ^ k) ⌝ }
+// The short at a place, both bytes inside.
+fn short_in(s: &[u8], i: usize) -> usize
+    requires { ⌜ i + 2 ≤ length (now s) ⌝ }
+    ensures { λ r. ⌜ (r ≡ number-at (now (s .entry)) 2 i) × (r < 65536) ⌝ }
 {
-    let mut j = k;
-    let mut v: usize = 0;
-    while j > 0 {
-        j -= 1;
-        v = wide(s[i + j]) + 256 * v;
-    }
-    v
+    wide(s[i]) + 256 * wide(s[i + 1])
 }
 
-// The number of k bytes at a place; bytes past the end count as 0.
-fn number_at(s: &[u8], i: usize, k: usize) -> usize
-    requires { ⌜ k ≤ 8 ⌝ }
-    ensures { λ r. ⌜ (r ≡ number-at (now (s .entry)) k i) × (r < 256 ^ k) ⌝ }
+// The int at a place, all four bytes inside.
+fn int_in(s: &[u8], i: usize) -> usize
+    requires { ⌜ i + 4 ≤ length (now s) ⌝ }
+    ensures { λ r. ⌜ (r ≡ number-at (now (s .entry)) 4 i) × (r < 4294967296) ⌝ }
 {
-    if fits(s.len(), i, k) {
-        return digits_at(s, i, k);
-    }
-    if s.len() <= i {
-        return 0;
-    }
-    digits_at(s, i, s.len() - i)
+    short_in(s, i) + 65536 * short_in(s, i + 2)
 }
 
 // The byte at a place, 0 past the end.
@@ -85,25 +73,39 @@ pub fn byte_at(s: &[u8], i: usize) -> usize
     if i < s.len() { wide(s[i]) } else { 0 }
 }
 
-// The short at a place.
+// The short at a place; bytes past the end count as 0.
 pub fn short_at(s: &[u8], i: usize) -> usize
     ensures { λ r. ⌜ (r ≡ number-at (now (s .entry)) 2 i) × (r < 65536) ⌝ }
 {
-    number_at(s, i, 2)
+    if fits(s.len(), i, 2) {
+        return short_in(s, i);
+    }
+    byte_at(s, i)
 }
 
-// The int at a place.
+// The int at a place; bytes past the end count as 0.
 pub fn int_at(s: &[u8], i: usize) -> usize
     ensures { λ r. ⌜ (r ≡ number-at (now (s .entry)) 4 i) × (r < 4294967296) ⌝ }
 {
-    number_at(s, i, 4)
+    if fits(s.len(), i, 4) {
+        return int_in(s, i);
+    }
+    if s.len() <= i {
+        return 0;
+    }
+    let t = &s[i..];
+    short_at(t, 0) + 65536 * byte_at(t, 2)
 }
 
-// The long at a place.
+// The long at a place; bytes past the end count as 0.
 pub fn long_at(s: &[u8], i: usize) -> usize
     ensures { λ r. ⌜ r ≡ number-at (now (s .entry)) 8 i ⌝ }
 {
-    number_at(s, i, 8)
+    if s.len() <= i {
+        return 0;
+    }
+    let t = &s[i..];
+    int_at(t, 0) + 4294967296 * int_at(t, 4)
 }
 
 // A size: below 255 one byte, else 255 and an int.
