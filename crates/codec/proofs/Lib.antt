@@ -3,3 +3,5 @@ pub mod Walking
 pub mod Telling
 pub mod Seeing
 pub mod Outcomes
+pub mod Laying
+pub mod Filling

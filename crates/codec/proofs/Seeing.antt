@@ -26,8 +26,8 @@ use Rattle.laws.specs.MessageExact.{exact-rows}
 use Rattle.laws.specs.Small.{accepted-small}
 use Rattle.laws.specs.RowsBack.{rows-back, accepted-rows-small}
 use Rattle.codec.specs.Told.{Walked, viewOf, Within}
-use Rattle.codec.specs.declared.View.{View}
-use Rattle.codec.specs.declared.View.the-variants.{Part, Fallback, Nothing}
+use Rattle.codec.specs.declared.viewing.View.{View}
+use Rattle.codec.specs.declared.viewing.View.the-variants.{Part, Fallback, Nothing}
 use Rattle.codec.proofs.Telling.{laid}
 
 -- ---- the loop over rows

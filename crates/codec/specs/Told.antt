@@ -21,8 +21,8 @@ use Rattle.level.specs.Fill.{fill}
 use Rattle.reader.specs.Walks.{bodyWalk}
 use Rattle.reader.specs.declared.Walk.{Walk}
 use Rattle.reader.specs.declared.Walk.the-variants.{Done, Stop}
-use Rattle.codec.specs.declared.View.{View}
-use Rattle.codec.specs.declared.View.the-variants.{Part, Fallback, Nothing}
+use Rattle.codec.specs.declared.viewing.View.{View}
+use Rattle.codec.specs.declared.viewing.View.the-variants.{Part, Fallback, Nothing}
 
 -- the list is left with the rows of an accepted message, those that fit
 pub record Walked (T : List ℕ) (top : ℕ) (m : List ℕ) (w : Walk) (out last : List ℕ) : Type 0 where

@@ -1,9 +1,12 @@
 // The public calls, for the layers above: what document 01 says under "What a call gives". No call asks anything of its input.
-// reading.rt has what the reader's calls are made of, viewing.rt what the member view is, writing.rt what the writer's calls are.
+// reading.rt has what the reader's calls are made of, viewing.rt what the member view is, writing.rt what the writer's calls are; rowlist.rt has the reader with a list of row records.
 mod reading;
+mod rowlist;
 mod viewing;
 mod writing;
 
+pub use rowlist::first_rows;
+pub use rowlist::read_rows;
 ghost use mathlib.Core.Path.{_≡_};
 ghost use lib.ListN.{length};
 ghost use Rattle.encoding.specs.Message.{reading, listed, readingOf};
@@ -11,13 +14,7 @@ ghost use Rattle.encoding.specs.View.{viewing, seenBytes};
 ghost use Rattle.encoding.specs.Write.{writing, output, writingOf};
 use encoding::Reading;
 use encoding::Writing;
-
-// What the member view hands back: a part of the message, its place and length; the whole fallback; an empty part of the fallback.
-pub enum View {
-    Part(usize, usize),
-    Fallback,
-    Nothing,
-}
+use viewing::View;
 
 // The reader's answer with a lent list of `room` bytes; no list is touched.
 // Wrong and ruled out: an answer that is the same for every room; one that takes the bytes of the list for its rows.

@@ -8,7 +8,7 @@ use reader::Walk;
 use table::Verdict;
 
 // How many bytes there are; each is below 256.
-fn count(s: &[u8]) -> usize
+pub fn count(s: &[u8]) -> usize
     ensures { λ r. ⌜ (r ≡ length (now (s .entry))) × Bytes (now (s .entry)) ⌝ }
 {
     if 0 < s.len() {
@@ -43,7 +43,7 @@ pub fn walk(table: &[u8], top: usize, message: &[u8], out: &mut [u8]) -> Walk
 }
 
 // The low 32 bits.
-fn low(x: usize) -> u32
+pub fn low(x: usize) -> u32
     ensures { λ r. ⌜ r ≡ low x ⌝ }
 {
     (x & 4294967295) as u32

@@ -7,8 +7,14 @@ ghost use Rattle.encoding.specs.Table.{range};
 ghost use Rattle.encoding.specs.Write.{rowAt};
 ghost use Rattle.encoding.specs.View.{rowOf, viewing};
 ghost use Rattle.codec.specs.Told.{viewOf, Within};
-use crate::View;
 use reader::Walk;
+
+// What the member view hands back: a part of the message, its place and length; the whole fallback; an empty part of the fallback.
+pub enum View {
+    Part(usize, usize),
+    Fallback,
+    Nothing,
+}
 
 // The row of a member among the n rows of a list: its place and length; the whole fallback where there is none.
 fn seek(list: &[u8], n: usize, member: usize) -> View

@@ -46,7 +46,7 @@ fn record(head: &[u8; 16], tables: &mut [u8], input: &mut [u8], held: usize) -> 
     let k = fetch(input, n);
     if held <= tables.len() {
         if k <= input.len() {
-            show_rows(rowlist::first_rows(&tables[0..held], field(head, 4), &input[0..k]));
+            show_rows(codec::first_rows(&tables[0..held], field(head, 4), &input[0..k]));
         }
     }
     held

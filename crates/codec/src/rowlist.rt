@@ -1,22 +1,14 @@
 // The reader with a lent list of row records. Functions over a lent list of records are few and thin: their proofs go through their bodies step by step, so these bodies stay as they are.
 ghost use mathlib.Core.Path.{_≡_};
-ghost use Prim.Native.Nat.{_+_, _*_, _/_, _≤_, _<_, min};
+ghost use Prim.Native.Nat.{_+_, _*_, _/_, _≤_, min};
 ghost use lib.ListN.{length, replicate};
 ghost use mathlib.Core.List.{map};
-ghost use Rattle.encoding.specs.Message.{Answer, reading, readingOf};
-ghost use Rattle.encoding.specs.NumberLaws.{Bytes};
+ghost use Rattle.encoding.specs.Message.{reading, readingOf};
 ghost use Rattle.encoding.specs.Write.{rowAt};
-ghost use Rattle.rowlist.specs.Records.{recordOf, records, overlay, rowsOf, blank};
+ghost use Rattle.codec.specs.Records.{recordOf, records, overlay, rowsOf, blank};
+use crate::reading;
 use encoding::Reading;
 use encoding::Row;
-
-// A number below 2^32 as 32 bits.
-fn low(n: usize) -> u32
-    requires { ⌜ n < 4294967296 ⌝ }
-    ensures { λ r. ⌜ r ≡ n ⌝ }
-{
-    n as u32
-}
 
 // Row i of the row bytes.
 fn row_at(bytes: &[u8], i: usize) -> Row
@@ -25,9 +17,9 @@ fn row_at(bytes: &[u8], i: usize) -> Row
 {
     let at = 12 * i;
     Row {
-        member: low(wire::int_at(bytes, at)),
-        place: low(wire::int_at(bytes, at + 4)),
-        length: low(wire::int_at(bytes, at + 8)),
+        member: reading::low(wire::int_at(bytes, at)),
+        place: reading::low(wire::int_at(bytes, at + 4)),
+        length: reading::low(wire::int_at(bytes, at + 8)),
     }
 }
 
@@ -68,24 +60,14 @@ fn told(answer: Reading) -> usize
     }
 }
 
-// How many bytes there are; each is below 256.
-fn weigh(s: &[u8]) -> usize
-    ensures { λ r. ⌜ (r ≡ length (now (s .entry))) × Bytes (now (s .entry)) ⌝ }
-{
-    if 0 < s.len() {
-        wire::wide(s[0]);
-    }
-    s.len()
-}
-
 // The reader's answer with room for so many rows, and the rows as bytes at the front of a list of 1,024 rows, the most that there can be.
 fn listing(table: &[u8], top: u32, message: &[u8], room: usize, list: &mut [u8]) -> Reading
     requires { ⌜ length (now list) ≡ 12288 ⌝ }
     ensures { λ r. ⌜ (r ≡ readingOf (reading (now (table .entry)) top (now (message .entry)) (12 * room))) × ((rowsOf r ≤ 1024) × (records (now (list .exit)) 0 (rowsOf r) ≡ map recordOf (reading (now (table .entry)) top (now (message .entry)) (12 * room) .rows))) ⌝ }
 {
-    weigh(message);
+    reading::count(message);
     let n = 12 * least(room, 1024);
-    codec::read(table, top, message, &mut list[..n])
+    crate::read(table, top, message, &mut list[..n])
 }
 
 // The reader with a lent list of row records: the answer of `read` with room for as many rows, and the rows in the first elements, in order; every other element stays, and on a refusal every one.

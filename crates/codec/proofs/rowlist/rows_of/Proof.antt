@@ -1,6 +1,6 @@
--- `rowlist::rows_of` meets its contract: a walk of its MIR, by hand, with a loop. The borrow of `rows` is opened once, before the loop, and closed once, after it. In between the elements are the function's own:
+-- `rows_of` meets its contract: a walk of its MIR, by hand, with a loop. The borrow of `rows` is opened once, before the loop, and closed once, after it. In between the elements are the function's own:
 -- a turn calls `row_at` for the row i, takes element i out of the row of elements, stores to it and puts it back.
--- All that the proof knows of `count` and `row_at` is that they meet their contracts. What is said of lists stands in `Laws.antt`.
+-- All that the proof knows of `count` and `row_at` is that they meet their contracts. What is said of lists stands in `Laying.antt`.
 -- Assumes nothing.
 use mathlib.Core.Path.{_≡_, refl, sym, _∙_, ap, subst}
 use Prim.Native.Nat.{ℕ, zero, suc, _+_, _*_, _-_, _/_, _<_, _≤_, _^_, min}
@@ -53,23 +53,23 @@ use denote.Triple.Walked.{says, Stays, stay-none, stay-none-slice, stay-slice, w
 use denote.Exit.{yes}
 use Rattle.encoding.specs.declared.Row.{Row}
 use Rattle.encoding.specs.Write.{rowAt}
-use Rattle.rowlist.specs.Records.{recordOf, records, overlay}
-use Rattle.rowlist.proofs.Laws.{overlay-start, overlay-length, overlay-next, filled, count-rows}
+use Rattle.codec.specs.Records.{recordOf, records, overlay}
+use Rattle.codec.proofs.Laying.{overlay-start, overlay-length, overlay-next, filled, count-rows}
 use Rattle.encoding.proofs.Row as T
 use Rattle.encoding.proofs.Row.Laws as T′
-use Rattle.rowlist.proofs.count as count
-use Rattle.rowlist.proofs.count.Symbol as count-def
-use Rattle.rowlist.proofs.count.Symbol.{name as #rowlist·count}
-use Rattle.rowlist.proofs.count.Met as count-thm
-use Rattle.rowlist.proofs.row_at as row-at
-use Rattle.rowlist.proofs.row_at.Symbol as row-at-def
-use Rattle.rowlist.proofs.row_at.Symbol.{name as #rowlist·row-at}
-use Rattle.rowlist.proofs.row_at.Met as row-at-thm
-use Rattle.rowlist.proofs.rows_of.Key.{name as #rowlist·rows-of}
-use Rattle.rowlist.proofs.rows_of as rows-of
-use Rattle.rowlist.proofs.rows_of.Statement as stated
-use Rattle.rowlist.proofs.rows_of.Code as code
-use Rattle.rowlist.proofs.rows_of.Code.Mir as pieces
+use Rattle.codec.proofs.rowlist.count as count
+use Rattle.codec.proofs.rowlist.count.Symbol as count-def
+use Rattle.codec.proofs.rowlist.count.Symbol.{name as #codec·rowlist·count}
+use Rattle.codec.proofs.rowlist.count.Met as count-thm
+use Rattle.codec.proofs.rowlist.row_at as row-at
+use Rattle.codec.proofs.rowlist.row_at.Symbol as row-at-def
+use Rattle.codec.proofs.rowlist.row_at.Symbol.{name as #codec·rowlist·row-at}
+use Rattle.codec.proofs.rowlist.row_at.Met as row-at-thm
+use Rattle.codec.proofs.rowlist.rows_of.Key.{name as #codec·rowlist·rows-of}
+use Rattle.codec.proofs.rowlist.rows_of as rows-of
+use Rattle.codec.proofs.rowlist.rows_of.Statement as stated
+use Rattle.codec.proofs.rowlist.rows_of.Code as code
+use Rattle.codec.proofs.rowlist.rows_of.Code.Mir as pieces
 
 abbrev stayed : Stays (rows-of.ended .signature .params) (rows-of.ended .kept)
 stayed = (stay-none-slice (0 ∷ []) tt (plain (λ _. u8)) yes, (stay-none (λ _. usize) yes, (stay-slice (1 ∷ []) tt (plain (λ _. T.the-row)), tt)))
@@ -182,7 +182,7 @@ module _ {M : Type 1} (𝓤 : URA M) (H : Heap 𝓤) (A : Atoms 𝓤) (W : Given
       fjoin ! $ pureI ! (at-slice T.the-row (y (part n)) (rv ∷ [])) (tt, (tt, tt)) (ap (λ (m : ℕ). sliceVal (b, o) m ∷ []) (sym same), subst (Room T.the-row) (sym same) room) $ fjoin ! $
       nothing ! $ move ! (1 ∷ 0 ∷ []) $ fjoin ! $ owned ! usize (Is usize) (uint-makes 𝓤 H A W w64) k _ (refl, k-fits) $ fjoin ! $ move ! (1 ∷ 0 ∷ []) $ fjoin ! $ frame ! $ owned ! usize (Is usize) (uint-makes 𝓤 H A W w64) n _ (refl, fits) $ done !
 
-  module _ (𝓣 : Tables 𝓤 H) (fm : FmC 𝓤 H (W .laws) (𝓣 .C)) (known-row : Triple 𝓤 (𝓣 .C #rowlist·row-at) (RowAt 𝓤 H A mem run)) (k-fits : k < 2 ^ 64) (room : Room T.the-row (length ys)) where
+  module _ (𝓣 : Tables 𝓤 H) (fm : FmC 𝓤 H (W .laws) (𝓣 .C)) (known-row : Triple 𝓤 (𝓣 .C #codec·rowlist·row-at) (RowAt 𝓤 H A mem run)) (k-fits : k < 2 ^ 64) (room : Room T.the-row (length ys)) where
     -- ---- the loop
     module _ (n : ℕ) (e : How-many n) (n-fits : n < 2 ^ 64) (l₀ l₁ l₂ l₃ l₄ l₅ l₆ l₇ l₈ l₉ l₁₀ : ℕ) where
       abbrev C : Calls 𝓤 H
@@ -284,7 +284,7 @@ module _ {M : Type 1} (𝓤 : URA M) (H : Heap 𝓤) (A : Atoms 𝓤) (W : Given
           go false h = ends t (ltb-false _ _ h)
 
     -- ---- the MIR, up to the loop
-    walk : length s < 2 ^ 64 → Triple 𝓤 (𝓣 .C #rowlist·count) (Count 𝓤 H A mem run) → ent 𝓤 (onEntry 𝓤 H A rows-of.signature κs (q, (q′, tt)) a vals) (WpFn 𝓤 H (𝓣 .C) (𝓣 .Λ) code.function (sv ∷ vint w64 k ∷ rv ∷ []) Post)
+    walk : length s < 2 ^ 64 → Triple 𝓤 (𝓣 .C #codec·rowlist·count) (Count 𝓤 H A mem run) → ent 𝓤 (onEntry 𝓤 H A rows-of.signature κs (q, (q′, tt)) a vals) (WpFn 𝓤 H (𝓣 .C) (𝓣 .Λ) code.function (sv ∷ vint w64 k ∷ rv ∷ []) Post)
     walk s-fits known-count =
         qed W ((‵ (flft κ q) ⊛ ‵ (flft κ′ q′) ⊛ ‵ ftrue) ∷ ‵ (owns (ShrSlice (named 0) κ u8 ∷ usize ∷ MutSlice (named 1) κ′ T.the-row ∷ []) a vals) ∷ []) ∵ enter ! (𝓣 .C) (𝓣 .Λ) code.function (sv ∷ vint w64 k ∷ rv ∷ []) _ $
         alloc1 ! (λ l₀. alloc1 ! (λ l₁. alloc1 ! (λ l₂. alloc1 ! (λ l₃. alloc1 ! (λ l₄. alloc1 ! (λ l₅. alloc1 ! (λ l₆. alloc1 ! (λ l₇. alloc1 ! (λ l₈. alloc1 ! (λ l₉. alloc1 ! (λ l₁₀. alloc0 ! $ params1 ! $
@@ -306,13 +306,13 @@ module _ {M : Type 1} (𝓤 : URA M) (H : Heap 𝓤) (A : Atoms 𝓤) (W : Given
         first ! $ blocks ! $ loops ! 𝓣 (Further n) (further-ends n) (I n e (is .1) l₀ l₁ l₂ l₃ l₄ l₅ l₆ l₇ l₈ l₉ l₁₀) (turn n e (is .1) l₀ l₁ l₂ l₃ l₄ l₅ l₆ l₇ l₈ l₉ l₁₀) (0, omega arith))))))))))))))))
 
 module _ {M : Type 1} (𝓤 : URA M) (H : Heap 𝓤) (A : Atoms 𝓤) (W : Given 𝓤 H A) (mem : Memory → SProp 𝓤) (run : Routine → Fun 𝓤) (𝓣 : Tables 𝓤 H) where
-  rows-of-walks : Triple 𝓤 (𝓣 .C #rowlist·count) (Count 𝓤 H A mem run) → Triple 𝓤 (𝓣 .C #rowlist·row-at) (RowAt 𝓤 H A mem run) → Walks 𝓤 H A rows-of.ended stayed (WpFn 𝓤 H (𝓣 .C) (𝓣 .Λ) code.function) (rows-of.clauses 𝓤 H A mem run)
+  rows-of-walks : Triple 𝓤 (𝓣 .C #codec·rowlist·count) (Count 𝓤 H A mem run) → Triple 𝓤 (𝓣 .C #codec·rowlist·row-at) (RowAt 𝓤 H A mem run) → Walks 𝓤 H A rows-of.ended stayed (WpFn 𝓤 H (𝓣 .C) (𝓣 .Λ) code.function) (rows-of.clauses 𝓤 H A mem run)
   rows-of-walks known-count known-row = walked 𝓤 H A rows-of.ended stayed (rows-of.clauses 𝓤 H A mem run) (WpFn 𝓤 H (𝓣 .C) (𝓣 .Λ) code.function)
       (λ κs. (slice-vals, (uint-vals w64, (slice-vals, tt)))) (λ κs. (shr-slice-tells (named 0) (κs .0) u8, (uint-tells w64, (mut-slice-tells (named 1) (κs .1 .0) T.the-row, tt))))
       (λ κs qs bounds a g are. via 𝓤 _ (fst∗ 𝓤 _ (emp 𝓤))
       (walk 𝓤 H A W mem run (κs .0) (κs .1 .0) (qs .0) (qs .1 .0) (a .0) (a .1 .0) (a .1 .1 .0 .ptr .0) (a .1 .1 .0 .ptr .1) (a .1 .1 .0 .name) (a .1 .1 .0 .now) 𝓣 (fmOf 𝓤 H (W .laws) 𝓣) known-row (are .1 .0 .1) (are .1 .1 .0 .0 .1) (are .0 .0 .1 .0) known-count))
 
-  rows-of-meets : Triple 𝓤 (𝓣 .C #rowlist·count) (Count 𝓤 H A mem run) → Triple 𝓤 (𝓣 .C #rowlist·row-at) (RowAt 𝓤 H A mem run) → Meets 𝓤 H A rows-of.signature (WpFn 𝓤 H (𝓣 .C) (𝓣 .Λ) code.function) (rows-of.spec 𝓤 H A mem run)
+  rows-of-meets : Triple 𝓤 (𝓣 .C #codec·rowlist·count) (Count 𝓤 H A mem run) → Triple 𝓤 (𝓣 .C #codec·rowlist·row-at) (RowAt 𝓤 H A mem run) → Meets 𝓤 H A rows-of.signature (WpFn 𝓤 H (𝓣 .C) (𝓣 .Λ) code.function) (rows-of.spec 𝓤 H A mem run)
   rows-of-meets known-count known-row =
       walk-meets 𝓤 H A rows-of.ended stayed W (goes-none-slice 𝓤 H A W 2 (0 ∷ []) tt (plain (λ _. u8)) yes, (goes-none 𝓤 H A W 2 (λ _. usize) yes (λ κs x f. refl), (goes-slice 𝓤 H A W 2 1 tt (plain (λ _. T.the-row)), tt))) (rows-of.clauses 𝓤 H A mem run)
       (WpFn 𝓤 H (𝓣 .C) (𝓣 .Λ) code.function) (WpFn-mono 𝓤 H (W .laws) 𝓣 code.function) (rows-of-walks known-count known-row)
@@ -321,7 +321,7 @@ pub rows-of-spec : {M : Type 1} → stated.statement M
 unfolding code.routine tablesOf
 rows-of-spec 𝓤 H 𝓜 𝓖 𝓡 =
     entered 𝓤 H (tripleOf 𝓤 H (𝓖 .A) rows-of.signature (rows-of.spec 𝓤 H (𝓖 .A) (𝓜 .mem) (𝓡 .run)))
-    (tables 𝓤 H 𝓜 𝓡 code.env .C) (tables 𝓤 H 𝓜 𝓡 code.env .Λ) #rowlist·rows-of code.function (code.unfolded 𝓤 H 𝓜 𝓡)
+    (tables 𝓤 H 𝓜 𝓡 code.env .C) (tables 𝓤 H 𝓜 𝓡 code.env .Λ) #codec·rowlist·rows-of code.function (code.unfolded 𝓤 H 𝓜 𝓡)
     (rows-of-meets 𝓤 H (𝓖 .A) (givenOf 𝓤 H 𝓜 𝓖) (𝓜 .mem) (𝓡 .run) (tablesOf 𝓤 H 𝓜 (tables 𝓤 H 𝓜 𝓡 code.env))
-    (cited 𝓤 H (Count 𝓤 H (𝓖 .A) (𝓜 .mem) (𝓡 .run)) 𝓜 𝓡 code.env #rowlist·count count-def.routine code.calls-rowlist·count (count-thm.met 𝓤 H 𝓜 𝓖 𝓡))
-    (cited 𝓤 H (RowAt 𝓤 H (𝓖 .A) (𝓜 .mem) (𝓡 .run)) 𝓜 𝓡 code.env #rowlist·row-at row-at-def.routine code.calls-rowlist·row-at (row-at-thm.met 𝓤 H 𝓜 𝓖 𝓡)))
+    (cited 𝓤 H (Count 𝓤 H (𝓖 .A) (𝓜 .mem) (𝓡 .run)) 𝓜 𝓡 code.env #codec·rowlist·count count-def.routine code.calls-codec·rowlist·count (count-thm.met 𝓤 H 𝓜 𝓖 𝓡))
+    (cited 𝓤 H (RowAt 𝓤 H (𝓖 .A) (𝓜 .mem) (𝓡 .run)) 𝓜 𝓡 code.env #codec·rowlist·row-at row-at-def.routine code.calls-codec·rowlist·row-at (row-at-thm.met 𝓤 H 𝓜 𝓖 𝓡)))

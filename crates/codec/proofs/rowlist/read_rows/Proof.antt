@@ -1,5 +1,5 @@
--- `rowlist::read_rows` meets its contract: a walk of its MIR, by hand. A local array of bytes is lent to `listing` as a `&mut` slice, for a lifetime that is made for the call, and comes back; then it is lent to `rows_of` as a `&` slice, for another lifetime, and `rows` is passed on for good.
--- All that the proof knows of `listing`, `told` and `rows_of` is that they meet their contracts. What is said of lists stands in `Laws.antt`.
+-- `codec::read_rows` meets its contract: a walk of its MIR, by hand. A local array of bytes is lent to `listing` as a `&mut` slice, for a lifetime that is made for the call, and comes back; then it is lent to `rows_of` as a `&` slice, for another lifetime, and `rows` is passed on for good.
+-- All that the proof knows of `listing`, `told` and `rows_of` is that they meet their contracts. What is said of lists stands in `Laying.antt`.
 -- Assumes nothing.
 use mathlib.Core.Path.{_≡_, refl, sym, _∙_, ap, subst}
 use Prim.Native.Nat.{ℕ, _*_, _/_, _<_, _≤_, _^_, min}
@@ -55,24 +55,24 @@ use Rattle.encoding.specs.Message.{Answer, reading, readingOf}
 use Rattle.encoding.proofs.Row as T
 use Rattle.encoding.proofs.Reading as E
 use Rattle.encoding.proofs.Reading.Laws as E′
-use Rattle.rowlist.specs.Records.{recordOf, records, overlay, rowsOf}
-use Rattle.rowlist.proofs.Laws.{all-rows}
-use Rattle.rowlist.proofs.listing as listing
-use Rattle.rowlist.proofs.listing.Symbol as listing-def
-use Rattle.rowlist.proofs.listing.Symbol.{name as #rowlist·listing}
-use Rattle.rowlist.proofs.listing.Met as listing-thm
-use Rattle.rowlist.proofs.told as told
-use Rattle.rowlist.proofs.told.Symbol as told-def
-use Rattle.rowlist.proofs.told.Symbol.{name as #rowlist·told}
-use Rattle.rowlist.proofs.told.Met as told-thm
-use Rattle.rowlist.proofs.rows_of as rows-of
-use Rattle.rowlist.proofs.rows_of.Symbol as rows-of-def
-use Rattle.rowlist.proofs.rows_of.Symbol.{name as #rowlist·rows-of}
-use Rattle.rowlist.proofs.rows_of.Met as rows-of-thm
-use Rattle.rowlist.proofs.read_rows.Key.{name as #rowlist·read-rows}
-use Rattle.rowlist.proofs.read_rows as read-rows
-use Rattle.rowlist.proofs.read_rows.Statement as stated
-use Rattle.rowlist.proofs.read_rows.Code as code
+use Rattle.codec.specs.Records.{recordOf, records, overlay, rowsOf}
+use Rattle.codec.proofs.Laying.{all-rows}
+use Rattle.codec.proofs.rowlist.listing as listing
+use Rattle.codec.proofs.rowlist.listing.Symbol as listing-def
+use Rattle.codec.proofs.rowlist.listing.Symbol.{name as #codec·rowlist·listing}
+use Rattle.codec.proofs.rowlist.listing.Met as listing-thm
+use Rattle.codec.proofs.rowlist.told as told
+use Rattle.codec.proofs.rowlist.told.Symbol as told-def
+use Rattle.codec.proofs.rowlist.told.Symbol.{name as #codec·rowlist·told}
+use Rattle.codec.proofs.rowlist.told.Met as told-thm
+use Rattle.codec.proofs.rowlist.rows_of as rows-of
+use Rattle.codec.proofs.rowlist.rows_of.Symbol as rows-of-def
+use Rattle.codec.proofs.rowlist.rows_of.Symbol.{name as #codec·rowlist·rows-of}
+use Rattle.codec.proofs.rowlist.rows_of.Met as rows-of-thm
+use Rattle.codec.proofs.rowlist.read_rows.Key.{name as #codec·rowlist·read-rows}
+use Rattle.codec.proofs.rowlist.read_rows as read-rows
+use Rattle.codec.proofs.rowlist.read_rows.Statement as stated
+use Rattle.codec.proofs.rowlist.read_rows.Code as code
 
 abbrev stayed : Stays (read-rows.ended .signature .params) (read-rows.ended .kept)
 stayed = (stay-none-slice (0 ∷ []) tt (plain (λ _. u8)) yes, (stay-none (λ _. u32) yes, (stay-none-slice (1 ∷ []) tt (plain (λ _. u8)) yes, (gave-slice (2 ∷ []) tt (plain (λ _. T.the-row)), tt))))
@@ -254,8 +254,8 @@ module _ {M : Type 1} (𝓤 : URA M) (H : Heap 𝓤) (A : Atoms 𝓤) (W : Given
       nothing ! $ move ! (1 ∷ 2 ∷ 3 ∷ 0 ∷ []) $ group ! 4 $ frame ! $ nothing ! $ move ! (3 ∷ 0 ∷ []) $ fjoin ! $ move ! (2 ∷ 0 ∷ []) $ fjoin ! $
       owned ! u32 (Is u32) (uint-makes 𝓤 H A W w32) top _ (refl, top-fits) $ fjoin ! $ move ! (1 ∷ 0 ∷ []) $ fjoin ! $ frame ! $ done !
 
-  module _ (C : Calls 𝓤 H) (Λ : Loops 𝓤 H) (fm : FmC 𝓤 H (W .laws) C) (known-listing : Triple 𝓤 (C #rowlist·listing) (Listing 𝓤 H A mem run)) (known-told : Triple 𝓤 (C #rowlist·told) (Told 𝓤 H A mem run))
-      (known-rows : Triple 𝓤 (C #rowlist·rows-of) (RowsOf 𝓤 H A mem run)) where
+  module _ (C : Calls 𝓤 H) (Λ : Loops 𝓤 H) (fm : FmC 𝓤 H (W .laws) C) (known-listing : Triple 𝓤 (C #codec·rowlist·listing) (Listing 𝓤 H A mem run)) (known-told : Triple 𝓤 (C #codec·rowlist·told) (Told 𝓤 H A mem run))
+      (known-rows : Triple 𝓤 (C #codec·rowlist·rows-of) (RowsOf 𝓤 H A mem run)) where
     walk : length (now x) < 2 ^ 64 → top < 2 ^ 32 → length (now y) < 2 ^ 64 → Room T.the-row (length rs) → ent 𝓤 (onEntry 𝓤 H A read-rows.signature κs (q₀, (q₁, (q₂, tt))) a vals) (WpFn 𝓤 H C Λ code.function (xv ∷ vint w32 top ∷ yv ∷ zv ∷ []) Post)
     walk x-fits top-fits y-fits room =
         qed W ((‵ (flft κ₀ q₀) ⊛ ‵ (flft κ₁ q₁) ⊛ ‵ (flft κ₂ q₂) ⊛ ‵ ftrue) ∷ ‵ (owns (ShrSlice (named 0) κ₀ u8 ∷ u32 ∷ ShrSlice (named 1) κ₁ u8 ∷ MutSlice (named 2) κ₂ T.the-row ∷ []) a vals) ∷ []) ∵ enter ! C Λ code.function (xv ∷ vint w32 top ∷ yv ∷ zv ∷ []) _ $
@@ -327,7 +327,7 @@ module _ {M : Type 1} (𝓤 : URA M) (H : Heap 𝓤) (A : Atoms 𝓤) (W : Given
         by ! (exits r v (ws .1 .1 .0) (e .0) (all-rows (zs .1 .1 .1 .1 .0) (ws .1 .1 .0) rs (map recordOf (given .rows)) (rowsOf r) n (long (zs .1 .1 .1 .1 .0) same) (e .1 .0) (e .1 .1) e₁ (e₂ .1)) same′ top-fits)))))))))))))))))))))))))))))))))))))
 
 module _ {M : Type 1} (𝓤 : URA M) (H : Heap 𝓤) (A : Atoms 𝓤) (W : Given 𝓤 H A) (mem : Memory → SProp 𝓤) (run : Routine → Fun 𝓤) (𝓣 : Tables 𝓤 H)
-    (known-listing : Triple 𝓤 (𝓣 .C #rowlist·listing) (Listing 𝓤 H A mem run)) (known-told : Triple 𝓤 (𝓣 .C #rowlist·told) (Told 𝓤 H A mem run)) (known-rows : Triple 𝓤 (𝓣 .C #rowlist·rows-of) (RowsOf 𝓤 H A mem run)) where
+    (known-listing : Triple 𝓤 (𝓣 .C #codec·rowlist·listing) (Listing 𝓤 H A mem run)) (known-told : Triple 𝓤 (𝓣 .C #codec·rowlist·told) (Told 𝓤 H A mem run)) (known-rows : Triple 𝓤 (𝓣 .C #codec·rowlist·rows-of) (RowsOf 𝓤 H A mem run)) where
   read-rows-walks : Walks 𝓤 H A read-rows.ended stayed (WpFn 𝓤 H (𝓣 .C) (𝓣 .Λ) code.function) (read-rows.clauses 𝓤 H A mem run)
   read-rows-walks = walked 𝓤 H A read-rows.ended stayed (read-rows.clauses 𝓤 H A mem run) (WpFn 𝓤 H (𝓣 .C) (𝓣 .Λ) code.function)
       (λ κs. (slice-vals, (uint-vals w32, (slice-vals, (slice-vals, tt))))) (λ κs. (shr-slice-tells (named 0) (κs .0) u8, (uint-tells w32, (shr-slice-tells (named 1) (κs .1 .0) u8, (mut-slice-tells (named 2) (κs .1 .1 .0) T.the-row, tt)))))
@@ -345,8 +345,8 @@ pub read-rows-spec : {M : Type 1} → stated.statement M
 unfolding code.routine tablesOf
 read-rows-spec 𝓤 H 𝓜 𝓖 𝓡 =
     entered 𝓤 H (tripleOf 𝓤 H (𝓖 .A) read-rows.signature (read-rows.spec 𝓤 H (𝓖 .A) (𝓜 .mem) (𝓡 .run)))
-    (tables 𝓤 H 𝓜 𝓡 code.env .C) (tables 𝓤 H 𝓜 𝓡 code.env .Λ) #rowlist·read-rows code.function (code.unfolded 𝓤 H 𝓜 𝓡)
+    (tables 𝓤 H 𝓜 𝓡 code.env .C) (tables 𝓤 H 𝓜 𝓡 code.env .Λ) #codec·rowlist·read-rows code.function (code.unfolded 𝓤 H 𝓜 𝓡)
     (read-rows-meets 𝓤 H (𝓖 .A) (givenOf 𝓤 H 𝓜 𝓖) (𝓜 .mem) (𝓡 .run) (tablesOf 𝓤 H 𝓜 (tables 𝓤 H 𝓜 𝓡 code.env))
-    (cited 𝓤 H (Listing 𝓤 H (𝓖 .A) (𝓜 .mem) (𝓡 .run)) 𝓜 𝓡 code.env #rowlist·listing listing-def.routine code.calls-rowlist·listing (listing-thm.met 𝓤 H 𝓜 𝓖 𝓡))
-    (cited 𝓤 H (Told 𝓤 H (𝓖 .A) (𝓜 .mem) (𝓡 .run)) 𝓜 𝓡 code.env #rowlist·told told-def.routine code.calls-rowlist·told (told-thm.met 𝓤 H 𝓜 𝓖 𝓡))
-    (cited 𝓤 H (RowsOf 𝓤 H (𝓖 .A) (𝓜 .mem) (𝓡 .run)) 𝓜 𝓡 code.env #rowlist·rows-of rows-of-def.routine code.calls-rowlist·rows-of (rows-of-thm.met 𝓤 H 𝓜 𝓖 𝓡)))
+    (cited 𝓤 H (Listing 𝓤 H (𝓖 .A) (𝓜 .mem) (𝓡 .run)) 𝓜 𝓡 code.env #codec·rowlist·listing listing-def.routine code.calls-codec·rowlist·listing (listing-thm.met 𝓤 H 𝓜 𝓖 𝓡))
+    (cited 𝓤 H (Told 𝓤 H (𝓖 .A) (𝓜 .mem) (𝓡 .run)) 𝓜 𝓡 code.env #codec·rowlist·told told-def.routine code.calls-codec·rowlist·told (told-thm.met 𝓤 H 𝓜 𝓖 𝓡))
+    (cited 𝓤 H (RowsOf 𝓤 H (𝓖 .A) (𝓜 .mem) (𝓡 .run)) 𝓜 𝓡 code.env #codec·rowlist·rows-of rows-of-def.routine code.calls-codec·rowlist·rows-of (rows-of-thm.met 𝓤 H 𝓜 𝓖 𝓡)))

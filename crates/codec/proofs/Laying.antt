@@ -9,7 +9,7 @@
 --   filled           rows past the list's end are lost, so as many as there is room for are enough
 use mathlib.Core.Path.{_≡_, refl, sym, _∙_, ap}
 use mathlib.Core.Bool.{Bool, true, false}
-use mathlib.Core.List.{List, [], _∷_, map}
+use mathlib.Core.List.{List, [], _∷_}
 use Prim.Native.Nat.{ℕ, zero, suc, _+_, _*_, _/_, _<_, _≤_, min}
 use native.Mathlib.Nat.{not-suc-le-zero, le-of-suc-le-suc, add-zero}
 use native.Mathlib.Omega.{arith}
@@ -21,7 +21,7 @@ use Rattle.encoding.specs.declared.Reading.{Reading}
 use Rattle.encoding.specs.declared.Reading.the-variants.{Accepted, Refused}
 use Rattle.encoding.specs.Table.{range}
 use Rattle.encoding.specs.Write.{rowAt}
-use Rattle.rowlist.specs.Records.{recordOf, records, overlay, rowsOf}
+use Rattle.codec.specs.Records.{recordOf, records, overlay, rowsOf}
 
 pub overlay-length : (xs ys : List Row) → length (overlay xs ys) ≡ length ys
 unfolding overlay

@@ -1,4 +1,4 @@
--- `rowlist::first_rows` meets its contract: a walk of its MIR, by hand. A local array of rows is lent as a slice for a lifetime that is made for the call of `read_rows`, and comes back at the list that `read_rows` left.
+-- `codec::first_rows` meets its contract: a walk of its MIR, by hand. A local array of rows is lent as a slice for a lifetime that is made for the call of `read_rows`, and comes back at the list that `read_rows` left.
 -- All that the proof knows of `read_rows` is that it meets its contract.
 -- Assumes nothing.
 use mathlib.Core.Path.{_≡_, refl}
@@ -52,20 +52,20 @@ use denote.Triple.Walked.{says, Stays, stay-none, stay-none-slice, walkOf, goes-
 use denote.Exit.{yes}
 use Rattle.encoding.specs.declared.Row.{Row}
 use Rattle.encoding.specs.declared.Reading.{Reading}
-use Rattle.encoding.specs.Message.{Answer, reading, readingOf}
+use Rattle.encoding.specs.Message.{reading, readingOf}
 use Rattle.encoding.proofs.Row as T
 use Rattle.encoding.proofs.Row.Laws as T′
 use Rattle.encoding.proofs.Reading as E
 use Rattle.encoding.proofs.Reading.Laws as E′
-use Rattle.rowlist.specs.Records.{recordOf, overlay, blank}
-use Rattle.rowlist.proofs.read_rows as read-rows
-use Rattle.rowlist.proofs.read_rows.Symbol as read-rows-def
-use Rattle.rowlist.proofs.read_rows.Symbol.{name as #rowlist·read-rows}
-use Rattle.rowlist.proofs.read_rows.Met as read-rows-thm
-use Rattle.rowlist.proofs.first_rows.Key.{name as #rowlist·first-rows}
-use Rattle.rowlist.proofs.first_rows as first-rows
-use Rattle.rowlist.proofs.first_rows.Statement as stated
-use Rattle.rowlist.proofs.first_rows.Code as code
+use Rattle.codec.specs.Records.{recordOf, overlay, blank}
+use Rattle.codec.proofs.rowlist.read_rows as read-rows
+use Rattle.codec.proofs.rowlist.read_rows.Symbol as read-rows-def
+use Rattle.codec.proofs.rowlist.read_rows.Symbol.{name as #codec·rowlist·read-rows}
+use Rattle.codec.proofs.rowlist.read_rows.Met as read-rows-thm
+use Rattle.codec.proofs.rowlist.first_rows.Key.{name as #codec·rowlist·first-rows}
+use Rattle.codec.proofs.rowlist.first_rows as first-rows
+use Rattle.codec.proofs.rowlist.first_rows.Statement as stated
+use Rattle.codec.proofs.rowlist.first_rows.Code as code
 
 abbrev stayed : Stays (first-rows.ended .signature .params) (first-rows.ended .kept)
 stayed = (stay-none-slice (0 ∷ []) tt (plain (λ _. u8)) yes, (stay-none (λ _. u32) yes, (stay-none-slice (1 ∷ []) tt (plain (λ _. u8)) yes, tt)))
@@ -178,7 +178,7 @@ module _ {M : Type 1} (𝓤 : URA M) (H : Heap 𝓤) (A : Atoms 𝓤) (W : Given
   abbrev Says : Reading → List Row → Type 0
   Says r ws = (r ≡ readingOf (reading (now x) top (now y) (12 * length ys))) × (ws ≡ overlay (map recordOf (reading (now x) top (now y) (12 * length ys) .rows)) ys)
 
-  module _ (C : Calls 𝓤 H) (Λ : Loops 𝓤 H) (fm : FmC 𝓤 H (W .laws) C) (known : Triple 𝓤 (C #rowlist·read-rows) (ReadRows 𝓤 H A mem run)) where
+  module _ (C : Calls 𝓤 H) (Λ : Loops 𝓤 H) (fm : FmC 𝓤 H (W .laws) C) (known : Triple 𝓤 (C #codec·rowlist·read-rows) (ReadRows 𝓤 H A mem run)) where
     walk : length (now x) < 2 ^ 64 → top < 2 ^ 32 → length (now y) < 2 ^ 64 → ent 𝓤 (onEntry 𝓤 H A first-rows.signature (κ₀, (κ₁, tt)) (q₀, (q₁, tt)) a vals) (WpFn 𝓤 H C Λ code.function (xv ∷ vint w32 top ∷ yv ∷ []) Post)
     walk x-fits top-fits y-fits =
         qed W ((‵ (flft κ₀ q₀) ⊛ ‵ (flft κ₁ q₁) ⊛ ‵ ftrue) ∷ ‵ (owns (ShrSlice (named 0) κ₀ u8 ∷ u32 ∷ ShrSlice (named 1) κ₁ u8 ∷ []) a vals) ∷ []) ∵ enter ! C Λ code.function (xv ∷ vint w32 top ∷ yv ∷ []) _ $
@@ -220,7 +220,7 @@ module _ {M : Type 1} (𝓤 : URA M) (H : Heap 𝓤) (A : Atoms 𝓤) (W : Given
         move ! (11 ∷ 12 ∷ []) $ free1 ! $ move ! (9 ∷ 10 ∷ []) $ free1 ! $ move ! (7 ∷ 8 ∷ []) $ free1 ! $ move ! (5 ∷ 6 ∷ []) $ free1 ! $ free0 ! $
         by ! (exits (ws .1 .1 .1 .0) (e .1) top-fits)))))))))))))))))))
 
-module _ {M : Type 1} (𝓤 : URA M) (H : Heap 𝓤) (A : Atoms 𝓤) (W : Given 𝓤 H A) (mem : Memory → SProp 𝓤) (run : Routine → Fun 𝓤) (𝓣 : Tables 𝓤 H) (known : Triple 𝓤 (𝓣 .C #rowlist·read-rows) (ReadRows 𝓤 H A mem run)) where
+module _ {M : Type 1} (𝓤 : URA M) (H : Heap 𝓤) (A : Atoms 𝓤) (W : Given 𝓤 H A) (mem : Memory → SProp 𝓤) (run : Routine → Fun 𝓤) (𝓣 : Tables 𝓤 H) (known : Triple 𝓤 (𝓣 .C #codec·rowlist·read-rows) (ReadRows 𝓤 H A mem run)) where
   first-rows-walks : Walks 𝓤 H A first-rows.ended stayed (WpFn 𝓤 H (𝓣 .C) (𝓣 .Λ) code.function) (first-rows.clauses 𝓤 H A mem run)
   first-rows-walks = walked 𝓤 H A first-rows.ended stayed (first-rows.clauses 𝓤 H A mem run) (WpFn 𝓤 H (𝓣 .C) (𝓣 .Λ) code.function)
       (λ κs. (slice-vals, (uint-vals w32, (slice-vals, tt)))) (λ κs. (shr-slice-tells (named 0) (κs .0) u8, (uint-tells w32, (shr-slice-tells (named 1) (κs .1 .0) u8, tt))))
@@ -237,6 +237,6 @@ pub first-rows-spec : {M : Type 1} → stated.statement M
 unfolding code.routine tablesOf
 first-rows-spec 𝓤 H 𝓜 𝓖 𝓡 =
     entered 𝓤 H (tripleOf 𝓤 H (𝓖 .A) first-rows.signature (first-rows.spec 𝓤 H (𝓖 .A) (𝓜 .mem) (𝓡 .run)))
-    (tables 𝓤 H 𝓜 𝓡 code.env .C) (tables 𝓤 H 𝓜 𝓡 code.env .Λ) #rowlist·first-rows code.function (code.unfolded 𝓤 H 𝓜 𝓡)
+    (tables 𝓤 H 𝓜 𝓡 code.env .C) (tables 𝓤 H 𝓜 𝓡 code.env .Λ) #codec·rowlist·first-rows code.function (code.unfolded 𝓤 H 𝓜 𝓡)
     (first-rows-meets 𝓤 H (𝓖 .A) (givenOf 𝓤 H 𝓜 𝓖) (𝓜 .mem) (𝓡 .run) (tablesOf 𝓤 H 𝓜 (tables 𝓤 H 𝓜 𝓡 code.env))
-    (cited 𝓤 H (ReadRows 𝓤 H (𝓖 .A) (𝓜 .mem) (𝓡 .run)) 𝓜 𝓡 code.env #rowlist·read-rows read-rows-def.routine code.calls-rowlist·read-rows (read-rows-thm.met 𝓤 H 𝓜 𝓖 𝓡)))
+    (cited 𝓤 H (ReadRows 𝓤 H (𝓖 .A) (𝓜 .mem) (𝓡 .run)) 𝓜 𝓡 code.env #codec·rowlist·read-rows read-rows-def.routine code.calls-codec·rowlist·read-rows (read-rows-thm.met 𝓤 H 𝓜 𝓖 𝓡)))

@@ -1,8 +1,8 @@
 -- Each arm gives what `rowsOf` gives of its case. Assumes nothing.
 use borrow.Author.Needs.{needs}
-use Rattle.rowlist.proofs.Laws.{told-accepted, told-refused}
-use Rattle.rowlist.proofs.told.Statement.{statement}
-use Rattle.rowlist.proofs.told.Tie as tie
+use Rattle.codec.proofs.Laying.{told-accepted, told-refused}
+use Rattle.codec.proofs.rowlist.told.Statement.{statement}
+use Rattle.codec.proofs.rowlist.told.Tie as tie
 
 pub told-spec : {M : Type 1} → statement M
 told-spec =

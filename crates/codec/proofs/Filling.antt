@@ -20,7 +20,7 @@ use Rattle.encoding.specs.declared.Reading.the-variants.{Accepted, Refused}
 use Rattle.laws.specs.Demands.{All, end}
 use Rattle.laws.specs.Small.{accepted-small}
 use Rattle.laws.specs.RowsBack.{SmallRow, rows-back, accepted-rows-small}
-use Rattle.rowlist.specs.Records.{recordOf, records, rowsOf}
+use Rattle.codec.specs.Records.{recordOf, records, rowsOf}
 
 leb-cut : (l k n : ℕ) → l ≤ n → leb l (min k n) ≡ leb l k
 leb-cut l k n h = go (leb l k) refl

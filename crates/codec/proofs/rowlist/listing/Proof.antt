@@ -1,8 +1,8 @@
 -- The reader gets as much of the list as there is room for, at most 1,024 rows; the rows are read back from their bytes. Assumes nothing.
 use borrow.Author.Needs.{needs}
-use Rattle.rowlist.proofs.Filling.{part-length, listing-answer, listing-few, listing-rows}
-use Rattle.rowlist.proofs.listing.Statement.{statement}
-use Rattle.rowlist.proofs.listing.Tie as tie
+use Rattle.codec.proofs.Filling.{part-length, listing-answer, listing-few, listing-rows}
+use Rattle.codec.proofs.rowlist.listing.Statement.{statement}
+use Rattle.codec.proofs.rowlist.listing.Tie as tie
 
 slice-aggregate-read : tie.Need-slice-aggregate-read
 slice-aggregate-read c = search part-length
@@ -14,7 +14,7 @@ pub listing-spec : {M : Type 1} → statement M
 listing-spec =
     tie.close
     (tie.spec
-    (λ c κs. search needs)  -- weigh-requires
+    (λ c κs. search needs)  -- count-requires
     (λ c κs. search needs)  -- least-requires
     (λ c. search needs)  -- mul-n
     (λ c. search needs)  -- slice-relend-prefix-read
