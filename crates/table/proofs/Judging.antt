@@ -1,5 +1,6 @@
 -- What the tests of the check tell, rule by rule, and its loops. Assumes nothing.
 --
+--   whole-..                   a row read whole is the table's
 --   header-..                  the header's rules in the code's order
 --   set-.., clear-..           fields that are not 0, from one on
 --   unused-..                  those that a kind does not use
@@ -8,32 +9,51 @@
 --   enum-.. list-..            the rules of each kind; kind-.. those of a row by its kind; row-.. all of a type row
 --   share-.., Sum, sum-..      the member rows that rows take
 --   Types, types-..            the pass over the type rows and the member sum
---   Tags, tags-..              the loop over the tags before
+--   Tags, tags-..              the loop over the tags before; alike-above, alike-below only of a tag below a bound
 --   required-.., optional-.., member-..   the rules of a member row
 --   Owner, owner-..            the member rows of one owner; Owners, owners-.. of all owners
 --   check-..                   the passes one after another
-use Prim.Native.Nat.{ℕ, zero, suc, _+_, _-_, _*_, _^_, _≤_, _<_}
+use Prim.Native.Nat.{ℕ, zero, suc, _+_, _-_, _*_, _^_, _≤_, _<_, max}
 use mathlib.Core.Path.{_≡_, refl, sym, ap, ap₂, _∙_}
 use mathlib.Core.Bool.{Bool, true, false, _&&_, _||_, not}
 use mathlib.Core.List.{List, [], _∷_}
+use mathlib.Core.Logic.{⊎-elim}
+use native.Mathlib.Nat.{eq-or-lt-of-le}
 use native.Mathlib.Numerals.{add-one, sub-one}
 use native.Mathlib.Omega.{arith}
 use lib.ListN.{length, take, drop, List·getD-eq-default}
 use lib.Dec.{eqb, ltb}
-use borrow.Author.Tests.{eqb-true, eqb-false, lt-ltb, le-ltb, le-leb, lt-leb, eq-eqb, ne-eqb}
+use borrow.Author.Tests.{eqb-true, eqb-false, ltb-false, lt-ltb, le-ltb, le-leb, lt-leb, eq-eqb, ne-eqb}
 use Rattle.encoding.specs.Result.{pick, firstOf, sameBytes}
-use Rattle.encoding.specs.Number.{val, negative}
-use Rattle.wire.specs.At.{at-more}
-use Rattle.encoding.specs.Table.{at, types, members, names, typesAt, rowAt, membersAt, memberAt, namesAt, kind, field, mark, isRecord, owns, nameOf, range, any, used, taken, noPart, noBase, alike, typeRules, headerTests, headerRules, sumRules, faultAt, Fault, fine, fault, orElse, pass, passes, faults}
+use Rattle.encoding.specs.Number.{negative}
+use Rattle.encoding.specs.Table.{at, types, members, names, typesAt, rowAt, membersAt, memberAt, namesAt, kind, field, memberType, mark, tag, isRecord, owns, nameOf, range, any, used, taken, noPart, alike, typeRules, headerTests, headerRules, sumRules, faultAt, Fault, fine, fault, orElse, pass, passes, faults}
 use Rattle.table.specs.Names.{nameStart, isNamed}
 use Rattle.table.specs.NamesLaws.{name-part}
-use Rattle.table.specs.Checks.{verdictOf, isSetFrom, enumRules, structRules, seqRules, dictRules, recordRules, listRules, kindRules, rowRules, share, typePass, memberPass, isOptionalOf, isTagBefore, requiredRules, optionalRules, memberRulesOf, ownerPass, ownersPass}
+use Rattle.table.specs.Checks.{verdictOf, isSetFrom, noBaseOf, enumRules, structRules, seqRules, dictRules, recordRules, listRules, kindRules, rowRules, share, typePass, memberPass, isOptionalOf, isTagBefore, isTagAlike, requiredRules, optionalRules, memberRulesBy, memberRulesOf, ownerPass, ownersPass}
 use Rattle.table.specs.ChecksLaws.{row-rules, or-assoc, owners-pass}
+use Rattle.table.specs.Rows.{typeRowOf, memberRowOf, IsTypeRow, IsMemberRow}
+use Rattle.table.specs.declared.TypeRow.{TypeRow}
+use Rattle.table.specs.declared.MemberRow.{MemberRow}
 use Rattle.table.specs.declared.Verdict.{Verdict}
 use Rattle.table.specs.declared.Verdict.the-variants.{Fine, Broken}
-use Rattle.table.proofs.Ranges.{range-more, range-none, range-left, range-empty, any-here, any-next, any-none}
-use Rattle.table.proofs.Places.{at-from, field-is, member-type-is, mark-is, member-spare-is, tag-is}
+use Rattle.table.proofs.Ranges.{range-more, range-none, range-left, range-empty, any-here, any-next, any-none, any-never}
 use Rattle.table.proofs.Shapes.{by-kind}
+
+-- ---- rows read whole
+
+whole-type : (T : List ℕ) (t : ℕ) (r : TypeRow) → IsTypeRow T t r → r ≡ typeRowOf T t
+whole-type T t r i = go (i .kind-is) (i .spare-is) (i .a-is) (i .b-is) (i .c-is) (i .d-is) (i .e-is)
+  where
+    go : {k s a b c d e : ℕ} → k ≡ kind T t → s ≡ at T 1 (rowAt T t + 1) → a ≡ field T t 0 → b ≡ field T t 1 → c ≡ field T t 2 → d ≡ field T t 3 → e ≡ field T t 4
+        → _≡_ {A = TypeRow} (record { kind = k; spare = s; a = a; b = b; c = c; d = d; e = e }) (typeRowOf T t)
+    go ek es ea eb ec ed ee = rw (ek, es, ea, eb, ec, ed, ee)
+
+whole-member : (T : List ℕ) (m : ℕ) (r : MemberRow) → IsMemberRow T m r → r ≡ memberRowOf T m
+whole-member T m r i = go (i .of-is) (i .mark-is) (i .spare-is) (i .tag-is)
+  where
+    go : {t k s g : ℕ} → t ≡ memberType T m → k ≡ mark T m → s ≡ at T 1 (memberAt T m + 3) → g ≡ tag T m
+        → _≡_ {A = MemberRow} (record { of = t; mark = k; spare = s; tag = g }) (memberRowOf T m)
+    go et ek es eg = rw (et, ek, es, eg)
 
 -- ---- header
 
@@ -86,71 +106,39 @@ module _ (T : List ℕ) (long : 12 ≤ length T) (s : Bool) (es : s ≡ sameByte
 
 -- ---- fields that a kind does not use
 
-int-shorts : (T : List ℕ) (p : ℕ) → at T 4 p ≡ at T 2 p + 65536 * at T 2 (p + 2)
-unfolding at val
-int-shorts T p =
-    let e : suc (suc p) ≡ p + 2 = omega arith in
-    let q : at T 2 (suc (suc p)) ≡ at T 2 (p + 2) = ap (at T 2) e in
-    at-more T 3 p ∙ omega (arith, at-more T 2 (suc p), at-more T 1 p, at-more T 0 (suc p), q)
+module _ (r : TypeRow) where
+  pub set-a : (r .a ≡ 0 → ⊥) → true ≡ isSetFrom r 0
+  unfolding isSetFrom any
+  set-a h = rw (ne-eqb (r .a) 0 h)
 
--- fields that stand one behind the other, as one int
-module _ (T : List ℕ) (t i : ℕ) where
-  fields-int : at T 4 (rowAt T t + (2 + 2 * i)) ≡ field T t i + 65536 * field T t (suc i)
-  unfolding field
-  fields-int =
-      let a : rowAt T t + (2 + 2 * i) ≡ rowAt T t + 2 + 2 * i = omega arith in
-      let b : rowAt T t + 2 + 2 * i + 2 ≡ rowAt T t + 2 + 2 * suc i = omega arith in
-      ap (at T 4) a ∙ int-shorts T (rowAt T t + 2 + 2 * i) ∙ ap (λ (z : ℕ). at T 2 (rowAt T t + 2 + 2 * i) + 65536 * at T 2 z) b
+  pub clear-a : r .a ≡ 0 → (b : Bool) → b ≡ isSetFrom r 1 → b ≡ isSetFrom r 0
+  unfolding isSetFrom any
+  clear-a h b q = q ∙ sym (rw (eq-eqb (r .a) 0 h))
 
-two-set : (a b : ℕ) (r : Bool) → (a + 65536 * b ≡ 0 → ⊥) → true ≡ not (eqb a 0) || (not (eqb b 0) || r)
-two-set a b r h = go (eqb a 0) refl
-  where
-    go : (x : Bool) → eqb a 0 ≡ x → true ≡ not x || (not (eqb b 0) || r)
-    go false e = refl
-    go true e = let z : b ≡ 0 → ⊥ = λ q. h (omega (arith, eqb-true)) in rw (ne-eqb b 0 z)
+  pub set-b : (r .b ≡ 0 → ⊥) → true ≡ isSetFrom r 1
+  unfolding isSetFrom any
+  set-b h = rw (ne-eqb (r .b) 0 h)
 
-two-clear : (a b : ℕ) (r : Bool) → a + 65536 * b ≡ 0 → r ≡ not (eqb a 0) || (not (eqb b 0) || r)
-two-clear a b r h =
-    let x : a ≡ 0 = omega arith in
-    let y : b ≡ 0 = omega arith in
-    rw (x, y)
+  pub clear-b : r .b ≡ 0 → (b : Bool) → b ≡ isSetFrom r 2 → b ≡ isSetFrom r 1
+  unfolding isSetFrom any
+  clear-b h b q = q ∙ sym (rw (eq-eqb (r .b) 0 h))
 
-module _ (T : List ℕ) (t : ℕ) where
-  from-b : isSetFrom T t 1 ≡ not (eqb (field T t 1) 0) || isSetFrom T t 2
-  unfolding isSetFrom any range
-  from-b = refl
+  pub set-c : (r .c ≡ 0 → ⊥) → true ≡ isSetFrom r 2
+  unfolding isSetFrom any
+  set-c h = rw (ne-eqb (r .c) 0 h)
 
-  pub set-b : (f : ℕ) → f ≡ field T t 1 → (f ≡ 0 → ⊥) → true ≡ isSetFrom T t 1
-  set-b f e h = sym (from-b ∙ rw (← e, ne-eqb f 0 h))
+  module _ (c : r .c ≡ 0) where
+    pub set-d : (r .d ≡ 0 → ⊥) → true ≡ isSetFrom r 2
+    unfolding isSetFrom any
+    set-d h = rw (eq-eqb (r .c) 0 c, ne-eqb (r .d) 0 h)
 
-  pub clear-b : (f : ℕ) → f ≡ field T t 1 → f ≡ 0 → (r : Bool) → r ≡ isSetFrom T t 2 → r ≡ isSetFrom T t 1
-  clear-b f e h r q = q ∙ sym (from-b ∙ rw (← e, eq-eqb f 0 h))
-
-  module _ (a : ℕ) (ea : drop a T ≡ drop (rowAt T t) T) (r : ℕ) where
-    pub set-c : r ≡ at (take (length T - a) (drop a T)) 4 6 → (r ≡ 0 → ⊥) → true ≡ isSetFrom T t 2
-    unfolding isSetFrom any range
-    set-c e h = two-set (field T t 2) (field T t 3) _ (λ q. h (at-from T a (rowAt T t) ea r 4 6 e ∙ fields-int T t 2 ∙ q))
-
-    pub clear-c : r ≡ at (take (length T - a) (drop a T)) 4 6 → r ≡ 0 → (s : ℕ) → s ≡ at (take (length T - a) (drop a T)) 2 10 → not (eqb s 0) ≡ isSetFrom T t 2
-    unfolding isSetFrom any range
-    clear-c e h s es =
-        let q : s ≡ field T t 4 = field-is T t a ea s 4 es in
-        rw q (last ∙ two-clear (field T t 2) (field T t 3) _ (sym (fields-int T t 2) ∙ sym (at-from T a (rowAt T t) ea r 4 6 e) ∙ h))
+    pub clear-d : r .d ≡ 0 → not (eqb (r .e) 0) ≡ isSetFrom r 2
+    unfolding isSetFrom any
+    clear-d h = rw (eq-eqb (r .c) 0 c, eq-eqb (r .d) 0 h) (go (not (eqb (r .e) 0)))
       where
-        last : not (eqb (field T t 4) 0) ≡ not (eqb (field T t 4) 0) || false
-        last = go (not (eqb (field T t 4) 0))
-          where
-            go : (b : Bool) → b ≡ b || false
-            go true = refl
-            go false = refl
-
-    pub set-a : r ≡ at (take (length T - a) (drop a T)) 4 2 → (r ≡ 0 → ⊥) → true ≡ isSetFrom T t 0
-    unfolding isSetFrom any range
-    set-a e h = two-set (field T t 0) (field T t 1) _ (λ q. h (at-from T a (rowAt T t) ea r 4 2 e ∙ fields-int T t 0 ∙ q))
-
-    pub clear-a : r ≡ at (take (length T - a) (drop a T)) 4 2 → r ≡ 0 → (b : Bool) → b ≡ isSetFrom T t 2 → b ≡ isSetFrom T t 0
-    unfolding isSetFrom any range
-    clear-a e h b q = q ∙ two-clear (field T t 0) (field T t 1) _ (sym (fields-int T t 0) ∙ sym (at-from T a (rowAt T t) ea r 4 2 e) ∙ h)
+        go : (b : Bool) → b ≡ b || false
+        go true = refl
+        go false = refl
 
 -- by the kind
 used-low : (k : ℕ) → k < 8 → 0 ≡ used k
@@ -168,35 +156,35 @@ used-two = by-kind (λ n. 8 ≤ n → (n ≡ 10 → ⊥) → (n ≡ 12 → ⊥) 
     (λ h a b c d l. refl) (λ h a b c d l. refl) (λ h a b c d l. absurd (a refl)) (λ h a b c d l. refl) (λ h a b c d l. absurd (b refl))
     (λ n g h a b c d l. let z : n ≡ 15 = omega arith in rw z)
 
-module _ (T : List ℕ) (t k : ℕ) (b : Bool) where
-  pub unused-low : k < 8 → b ≡ isSetFrom T t 0 → b ≡ isSetFrom T t (used k)
-  unused-low h e = e ∙ ap (isSetFrom T t) (used-low k h)
+module _ (r : TypeRow) (k : ℕ) (b : Bool) where
+  pub unused-low : k < 8 → b ≡ isSetFrom r 0 → b ≡ isSetFrom r (used k)
+  unused-low h e = e ∙ ap (isSetFrom r) (used-low k h)
 
-  pub unused-seq : k ≡ 10 → b ≡ isSetFrom T t 1 → b ≡ isSetFrom T t (used k)
+  pub unused-seq : k ≡ 10 → b ≡ isSetFrom r 1 → b ≡ isSetFrom r (used k)
   unfolding used
   unused-seq h e = rw h e
 
-  pub unused-proxy : k ≡ 12 → b ≡ isSetFrom T t 0 → b ≡ isSetFrom T t (used k)
+  pub unused-proxy : k ≡ 12 → b ≡ isSetFrom r 0 → b ≡ isSetFrom r (used k)
   unfolding used
   unused-proxy h e = rw h e
 
-  pub unused-two : 8 ≤ k → (k ≡ 10 → ⊥) → (k ≡ 12 → ⊥) → (k ≡ 13 → ⊥) → (k ≡ 14 → ⊥) → k < 16 → b ≡ isSetFrom T t 2 → b ≡ isSetFrom T t (used k)
-  unused-two h x y z w l e = e ∙ ap (isSetFrom T t) (used-two k h x y z w l)
+  pub unused-two : 8 ≤ k → (k ≡ 10 → ⊥) → (k ≡ 12 → ⊥) → (k ≡ 13 → ⊥) → (k ≡ 14 → ⊥) → k < 16 → b ≡ isSetFrom r 2 → b ≡ isSetFrom r (used k)
+  unused-two h x y z w l e = e ∙ ap (isSetFrom r) (used-two k h x y z w l)
 
-module _ (T : List ℕ) (t k : ℕ) where
-  none-set : false ≡ isSetFrom T t 5
+module _ (r : TypeRow) (k : ℕ) where
+  none-set : false ≡ isSetFrom r 5
   unfolding isSetFrom any range
   none-set = refl
 
-  pub unused-exception : k ≡ 13 → false ≡ isSetFrom T t (used k)
+  pub unused-exception : k ≡ 13 → false ≡ isSetFrom r (used k)
   unfolding used
   unused-exception h = rw h none-set
 
-  pub unused-class : k ≡ 14 → false ≡ isSetFrom T t (used k)
+  pub unused-class : k ≡ 14 → false ≡ isSetFrom r (used k)
   unfolding used
   unused-class h = rw h none-set
 
-  pub unused-unknown : 16 ≤ k → false ≡ isSetFrom T t (used k)
+  pub unused-unknown : 16 ≤ k → false ≡ isSetFrom r (used k)
   unfolding used
   unused-unknown h = rw (List·getD-eq-default {A = ℕ} (0 ∷ 0 ∷ 0 ∷ 0 ∷ 0 ∷ 0 ∷ 0 ∷ 0 ∷ 2 ∷ 2 ∷ 1 ∷ 2 ∷ 0 ∷ 5 ∷ 5 ∷ 2 ∷ []) 5 {n = k} h) none-set
 
@@ -211,24 +199,24 @@ module _ (T : List ℕ) (t r : ℕ) where
   unfolding noPart
   part-below k h e = rw (lt-leb _ _ h, e)
 
-module _ (T : List ℕ) (t b : ℕ) where
-  pub base-free : b ≡ 0 → false ≡ noBase T t b
-  unfolding noBase
+module _ (T : List ℕ) (t k b : ℕ) where
+  pub base-free : b ≡ 0 → false ≡ noBaseOf T t k b
+  unfolding noBaseOf
   base-free z = rw z
 
-  pub base-over : (b ≡ 0 → ⊥) → t < b → true ≡ noBase T t b
-  unfolding noBase
+  pub base-over : (b ≡ 0 → ⊥) → t < b → true ≡ noBaseOf T t k b
+  unfolding noBaseOf
   base-over z h = go b z h
     where
-      go : (b : ℕ) → (b ≡ 0 → ⊥) → t < b → true ≡ noBase T t b
+      go : (b : ℕ) → (b ≡ 0 → ⊥) → t < b → true ≡ noBaseOf T t k b
       go zero z h = absurd (omega arith)
       go (suc r) z h = let l : t ≤ r = omega arith in rw (le-leb _ _ l)
 
-  pub base-kinds : (b ≡ 0 → ⊥) → b ≤ t → (k j : ℕ) → k ≡ kind T (b - 1) → j ≡ kind T t → not (eqb k j) ≡ noBase T t b
-  unfolding noBase
-  base-kinds z h k j ek ej = rw (ek, ej) (go b z h)
+  pub base-kinds : (b ≡ 0 → ⊥) → b ≤ t → (j : ℕ) → j ≡ kind T (b - 1) → not (eqb j k) ≡ noBaseOf T t k b
+  unfolding noBaseOf
+  base-kinds z h j ej = rw ej (go b z h)
     where
-      go : (b : ℕ) → (b ≡ 0 → ⊥) → b ≤ t → not (eqb (kind T (b - 1)) (kind T t)) ≡ noBase T t b
+      go : (b : ℕ) → (b ≡ 0 → ⊥) → b ≤ t → not (eqb (kind T (b - 1)) k) ≡ noBaseOf T t k b
       go zero z h = absurd (omega arith)
       go (suc r) z h = let l : r < t = omega arith in rw (lt-leb _ _ l, sub-one)
 
@@ -276,152 +264,152 @@ alike-is T t a n r s e h =
 
 -- ---- the rules of each kind
 
-module _ (T : List ℕ) (t a b : ℕ) (ea : a ≡ field T t 0) (eb : b ≡ field T t 1) where
-  pub enum-great : 2147483648 ≤ a + 65536 * b → 38 ≡ firstOf (enumRules T t)
+module _ (r : TypeRow) where
+  pub enum-great : 2147483648 ≤ r .a + 65536 * r .b → 38 ≡ firstOf (enumRules r)
   unfolding firstOf enumRules negative
-  enum-great h = rw (← ea, ← eb, le-leb (2 ^ 31) (a + 65536 * b) h)
+  enum-great h = rw (le-leb (2 ^ 31) (r .a + 65536 * r .b) h)
 
-  pub enum-fine : a + 65536 * b < 2147483648 → 0 ≡ firstOf (enumRules T t)
+  pub enum-fine : r .a + 65536 * r .b < 2147483648 → 0 ≡ firstOf (enumRules r)
   unfolding firstOf enumRules negative
-  enum-fine h = rw (← ea, ← eb, lt-leb (2 ^ 31) (a + 65536 * b) h)
+  enum-fine h = rw (lt-leb (2 ^ 31) (r .a + 65536 * r .b) h)
 
-module _ (T : List ℕ) (t n a : ℕ) (ea : a ≡ field T t 0) where
-  pub struct-first : (a ≡ n → ⊥) → 35 ≡ firstOf (structRules T t n)
+module _ (r : TypeRow) (n : ℕ) where
+  pub struct-first : (r .a ≡ n → ⊥) → 35 ≡ firstOf (structRules r n)
   unfolding firstOf structRules
-  struct-first h = rw (← ea, ne-eqb a n h)
+  struct-first h = rw (ne-eqb (r .a) n h)
 
-  pub list-first : (a ≡ n → ⊥) → 35 ≡ firstOf (listRules T t n)
+  pub list-first : (r .a ≡ n → ⊥) → 35 ≡ firstOf (listRules r n)
   unfolding firstOf listRules
-  list-first h = rw (← ea, ne-eqb a n h)
+  list-first h = rw (ne-eqb (r .a) n h)
 
-  pub list-fine : a ≡ n → 0 ≡ firstOf (listRules T t n)
+  pub list-fine : r .a ≡ n → 0 ≡ firstOf (listRules r n)
   unfolding firstOf listRules
-  list-fine h = rw (← ea, eq-eqb a n h)
+  list-fine h = rw (eq-eqb (r .a) n h)
 
-  module _ (first : a ≡ n) (b : ℕ) (eb : b ≡ field T t 1) where
-    pub struct-empty : b ≡ 0 → 36 ≡ firstOf (structRules T t n)
+  module _ (first : r .a ≡ n) where
+    pub struct-empty : r .b ≡ 0 → 36 ≡ firstOf (structRules r n)
     unfolding firstOf structRules
-    struct-empty z = rw (← ea, eq-eqb a n first, ← eb, eq-eqb b 0 z)
+    struct-empty z = rw (eq-eqb (r .a) n first, eq-eqb (r .b) 0 z)
 
-    pub struct-fine : (b ≡ 0 → ⊥) → 0 ≡ firstOf (structRules T t n)
+    pub struct-fine : (r .b ≡ 0 → ⊥) → 0 ≡ firstOf (structRules r n)
     unfolding firstOf structRules
-    struct-fine z = rw (← ea, eq-eqb a n first, ← eb, ne-eqb b 0 z)
+    struct-fine z = rw (eq-eqb (r .a) n first, ne-eqb (r .b) 0 z)
 
-module _ (T : List ℕ) (t a : ℕ) (ea : a ≡ field T t 0) (r : Bool) (er : r ≡ noPart T t a) where
-  pub seq-broken : r ≡ true → 34 ≡ firstOf (seqRules T t)
+module _ (T : List ℕ) (t : ℕ) (r : TypeRow) (b : Bool) (eb : b ≡ noPart T t (r .a)) where
+  pub seq-broken : b ≡ true → 34 ≡ firstOf (seqRules T t r)
   unfolding firstOf seqRules
-  seq-broken q = rw (← ea, ← er, q)
+  seq-broken q = rw (← eb, q)
 
-  pub seq-fine : r ≡ false → 0 ≡ firstOf (seqRules T t)
+  pub seq-fine : b ≡ false → 0 ≡ firstOf (seqRules T t r)
   unfolding firstOf seqRules
-  seq-fine q = rw (← ea, ← er, q)
+  seq-fine q = rw (← eb, q)
 
-  pub dict-key : r ≡ true → 34 ≡ firstOf (dictRules T t)
+  pub dict-key : b ≡ true → 34 ≡ firstOf (dictRules T t r)
   unfolding firstOf dictRules
-  dict-key q = rw (← ea, ← er, q)
+  dict-key q = rw (← eb, q)
 
-  module _ (key : r ≡ false) (b : ℕ) (eb : b ≡ field T t 1) (s : Bool) (es : s ≡ noPart T t b) where
-    pub dict-value : s ≡ true → 34 ≡ firstOf (dictRules T t)
+  module _ (key : b ≡ false) (s : Bool) (es : s ≡ noPart T t (r .b)) where
+    pub dict-value : s ≡ true → 34 ≡ firstOf (dictRules T t r)
     unfolding firstOf dictRules
-    dict-value q = rw (← ea, ← er, key, ← eb, ← es, q)
+    dict-value q = rw (← eb, key, ← es, q)
 
-    pub dict-fine : s ≡ false → 0 ≡ firstOf (dictRules T t)
+    pub dict-fine : s ≡ false → 0 ≡ firstOf (dictRules T t r)
     unfolding firstOf dictRules
-    dict-fine q = rw (← ea, ← er, key, ← eb, ← es, q)
+    dict-fine q = rw (← eb, key, ← es, q)
 
-module _ (T : List ℕ) (t n b : ℕ) (eb : b ≡ field T t 2) (r : Bool) (er : r ≡ noBase T t b) where
-  pub record-base : r ≡ true → 34 ≡ firstOf (recordRules T t n)
+module _ (T : List ℕ) (t : ℕ) (r : TypeRow) (n : ℕ) (b : Bool) (eb : b ≡ noBaseOf T t (r .kind) (r .c)) where
+  pub record-base : b ≡ true → 34 ≡ firstOf (recordRules T t r n)
   unfolding firstOf recordRules
-  record-base q = rw (← eb, ← er, q)
+  record-base q = rw (← eb, q)
 
-  module _ (base : r ≡ false) (a : ℕ) (ea : a ≡ field T t 0) where
-    pub record-first : (a ≡ n → ⊥) → 35 ≡ firstOf (recordRules T t n)
+  module _ (base : b ≡ false) where
+    pub record-first : (r .a ≡ n → ⊥) → 35 ≡ firstOf (recordRules T t r n)
     unfolding firstOf recordRules
-    record-first h = rw (← eb, ← er, base, ← ea, ne-eqb a n h)
+    record-first h = rw (← eb, base, ne-eqb (r .a) n h)
 
-    module _ (first : a ≡ n) (l : ℕ) (el : l ≡ field T t 4) where
-      pub record-empty : l ≡ 0 → 37 ≡ firstOf (recordRules T t n)
+    module _ (first : r .a ≡ n) where
+      pub record-empty : r .e ≡ 0 → 37 ≡ firstOf (recordRules T t r n)
       unfolding firstOf recordRules
-      record-empty z = rw (← eb, ← er, base, ← ea, eq-eqb a n first, ← el, eq-eqb l 0 z)
+      record-empty z = rw (← eb, base, eq-eqb (r .a) n first, eq-eqb (r .e) 0 z)
 
-      module _ (some : l ≡ 0 → ⊥) where
-        pub record-long : 255 < l → 37 ≡ firstOf (recordRules T t n)
+      module _ (some : r .e ≡ 0 → ⊥) where
+        pub record-long : 255 < r .e → 37 ≡ firstOf (recordRules T t r n)
         unfolding firstOf recordRules
-        record-long h = rw (← eb, ← er, base, ← ea, eq-eqb a n first, ← el, ne-eqb l 0 some, lt-ltb 255 l h)
+        record-long h = rw (← eb, base, eq-eqb (r .a) n first, ne-eqb (r .e) 0 some, lt-ltb 255 (r .e) h)
 
-        module _ (short : l ≤ 255) (k d : ℕ) (ek : k ≡ names T) (ed : d ≡ field T t 3) where
-          pub record-outside : k < d + l → 37 ≡ firstOf (recordRules T t n)
+        module _ (short : r .e ≤ 255) (k : ℕ) (ek : k ≡ names T) where
+          pub record-outside : k < r .d + r .e → 37 ≡ firstOf (recordRules T t r n)
           unfolding firstOf recordRules
-          record-outside h = rw (← eb, ← er, base, ← ea, eq-eqb a n first, ← el, ne-eqb l 0 some, le-ltb 255 l short, ← ek, ← ed, lt-ltb k (d + l) h)
+          record-outside h = rw (← eb, base, eq-eqb (r .a) n first, ne-eqb (r .e) 0 some, le-ltb 255 (r .e) short, ← ek, lt-ltb k (r .d + r .e) h)
 
-          module _ (within : d + l ≤ k) (s : Bool) (es : s ≡ alike T t) where
-            pub record-alike : s ≡ true → 37 ≡ firstOf (recordRules T t n)
+          module _ (within : r .d + r .e ≤ k) (s : Bool) (es : s ≡ alike T t) where
+            pub record-alike : s ≡ true → 37 ≡ firstOf (recordRules T t r n)
             unfolding firstOf recordRules
-            record-alike q = rw (← eb, ← er, base, ← ea, eq-eqb a n first, ← el, ne-eqb l 0 some, le-ltb 255 l short, ← ek, ← ed, le-ltb k (d + l) within, ← es, q)
+            record-alike q = rw (← eb, base, eq-eqb (r .a) n first, ne-eqb (r .e) 0 some, le-ltb 255 (r .e) short, ← ek, le-ltb k (r .d + r .e) within, ← es, q)
 
-            pub record-fine : s ≡ false → 0 ≡ firstOf (recordRules T t n)
+            pub record-fine : s ≡ false → 0 ≡ firstOf (recordRules T t r n)
             unfolding firstOf recordRules
-            record-fine q = rw (← eb, ← er, base, ← ea, eq-eqb a n first, ← el, ne-eqb l 0 some, le-ltb 255 l short, ← ek, ← ed, le-ltb k (d + l) within, ← es, q)
+            record-fine q = rw (← eb, base, eq-eqb (r .a) n first, ne-eqb (r .e) 0 some, le-ltb 255 (r .e) short, ← ek, le-ltb k (r .d + r .e) within, ← es, q)
 
-module _ (T : List ℕ) (t k n r : ℕ) where
-  pub kind-enum : k ≡ 8 → r ≡ firstOf (enumRules T t) → r ≡ firstOf (kindRules T t k n)
-  unfolding kindRules
+module _ (T : List ℕ) (t : ℕ) (r : TypeRow) (n c : ℕ) where
+  pub kind-enum : r .kind ≡ 8 → c ≡ firstOf (enumRules r) → c ≡ firstOf (kindRules T t r n)
+  unfolding kindRules enumRules
   kind-enum e h = rw e h
 
-  pub kind-struct : k ≡ 9 → r ≡ firstOf (structRules T t n) → r ≡ firstOf (kindRules T t k n)
-  unfolding kindRules
+  pub kind-struct : r .kind ≡ 9 → c ≡ firstOf (structRules r n) → c ≡ firstOf (kindRules T t r n)
+  unfolding kindRules structRules
   kind-struct e h = rw e h
 
-  pub kind-seq : k ≡ 10 → r ≡ firstOf (seqRules T t) → r ≡ firstOf (kindRules T t k n)
-  unfolding kindRules
+  pub kind-seq : r .kind ≡ 10 → c ≡ firstOf (seqRules T t r) → c ≡ firstOf (kindRules T t r n)
+  unfolding kindRules seqRules
   kind-seq e h = rw e h
 
-  pub kind-dict : k ≡ 11 → r ≡ firstOf (dictRules T t) → r ≡ firstOf (kindRules T t k n)
-  unfolding kindRules
+  pub kind-dict : r .kind ≡ 11 → c ≡ firstOf (dictRules T t r) → c ≡ firstOf (kindRules T t r n)
+  unfolding kindRules dictRules
   kind-dict e h = rw e h
 
-  pub kind-list : k ≡ 15 → r ≡ firstOf (listRules T t n) → r ≡ firstOf (kindRules T t k n)
-  unfolding kindRules
+  pub kind-list : r .kind ≡ 15 → c ≡ firstOf (listRules r n) → c ≡ firstOf (kindRules T t r n)
+  unfolding kindRules listRules
   kind-list e h = rw e h
 
-  module _ (a : k ≡ 8 → ⊥) (b : k ≡ 9 → ⊥) (c : k ≡ 10 → ⊥) (d : k ≡ 11 → ⊥) (s : Bool) (es : s ≡ isRecord k) where
-    pub kind-record : s ≡ true → r ≡ firstOf (recordRules T t n) → r ≡ firstOf (kindRules T t k n)
+  module _ (e8 : r .kind ≡ 8 → ⊥) (e9 : r .kind ≡ 9 → ⊥) (e10 : r .kind ≡ 10 → ⊥) (e11 : r .kind ≡ 11 → ⊥) (s : Bool) (es : s ≡ isRecord (r .kind)) where
+    pub kind-record : s ≡ true → c ≡ firstOf (recordRules T t r n) → c ≡ firstOf (kindRules T t r n)
     unfolding kindRules
-    kind-record q h = rw (ne-eqb k 8 a, ne-eqb k 9 b, ne-eqb k 10 c, ne-eqb k 11 d, sym es ∙ q) h
+    kind-record q h = rw (ne-eqb (r .kind) 8 e8, ne-eqb (r .kind) 9 e9, ne-eqb (r .kind) 10 e10, ne-eqb (r .kind) 11 e11, sym es ∙ q) h
 
-    pub kind-plain : s ≡ false → (k ≡ 15 → ⊥) → 0 ≡ firstOf (kindRules T t k n)
+    pub kind-plain : s ≡ false → (r .kind ≡ 15 → ⊥) → 0 ≡ firstOf (kindRules T t r n)
     unfolding kindRules firstOf
-    kind-plain q e = rw (ne-eqb k 8 a, ne-eqb k 9 b, ne-eqb k 10 c, ne-eqb k 11 d, sym es ∙ q, ne-eqb k 15 e)
+    kind-plain q e = rw (ne-eqb (r .kind) 8 e8, ne-eqb (r .kind) 9 e9, ne-eqb (r .kind) 10 e10, ne-eqb (r .kind) 11 e11, sym es ∙ q, ne-eqb (r .kind) 15 e)
 
-module _ (T : List ℕ) (t n z : ℕ) (ez : z ≡ at T 1 (rowAt T t + 1)) where
-  pub row-spare : (z ≡ 0 → ⊥) → 32 ≡ firstOf (rowRules T t n)
+module _ (T : List ℕ) (t : ℕ) (r : TypeRow) (n : ℕ) where
+  pub row-spare : (r .spare ≡ 0 → ⊥) → 32 ≡ firstOf (rowRules T t r n)
   unfolding firstOf rowRules
-  row-spare h = rw (← ez, ne-eqb z 0 h)
+  row-spare h = rw (ne-eqb (r .spare) 0 h)
 
-  module _ (spare : z ≡ 0) (k : ℕ) (ek : k ≡ kind T t) (u : Bool) (eu : u ≡ isSetFrom T t (used k)) where
-    pub row-unused : u ≡ true → 32 ≡ firstOf (rowRules T t n)
+  module _ (spare : r .spare ≡ 0) (u : Bool) (eu : u ≡ isSetFrom r (used (r .kind))) where
+    pub row-unused : u ≡ true → 32 ≡ firstOf (rowRules T t r n)
     unfolding firstOf rowRules
-    row-unused q = rw (← ez, eq-eqb z 0 spare, ← ek, ← eu, q)
+    row-unused q = rw (eq-eqb (r .spare) 0 spare, ← eu, q)
 
     module _ (none : u ≡ false) where
-      pub row-unknown : 15 < k → 33 ≡ firstOf (rowRules T t n)
+      pub row-unknown : 15 < r .kind → 33 ≡ firstOf (rowRules T t r n)
       unfolding firstOf rowRules
-      row-unknown h = rw (← ez, eq-eqb z 0 spare, ← ek, ← eu, none, lt-ltb 15 k h)
+      row-unknown h = rw (eq-eqb (r .spare) 0 spare, ← eu, none, lt-ltb 15 (r .kind) h)
 
-      pub row-known : k ≤ 15 → (r : ℕ) → r ≡ firstOf (kindRules T t k n) → r ≡ firstOf (rowRules T t n)
+      pub row-known : r .kind ≤ 15 → (c : ℕ) → c ≡ firstOf (kindRules T t r n) → c ≡ firstOf (rowRules T t r n)
       unfolding firstOf rowRules
-      row-known h r e = e ∙ sym (rw (← ez, eq-eqb z 0 spare, ← ek, ← eu, none, le-ltb 15 k h))
+      row-known h c e = e ∙ sym (rw (eq-eqb (r .spare) 0 spare, ← eu, none, le-ltb 15 (r .kind) h))
 
 -- ---- the member rows that rows take
 
-module _ (T : List ℕ) (t k : ℕ) (ek : k ≡ kind T t) (b : Bool) (eb : b ≡ owns k) where
-  pub share-own : b ≡ true → (f : ℕ) → f ≡ field T t 1 → f ≡ share T t
+module _ (r : TypeRow) (b : Bool) (eb : b ≡ owns (r .kind)) where
+  pub share-own : b ≡ true → r .b ≡ share r
   unfolding share
-  share-own q f e = rw (← ek, sym eb ∙ q) e
+  share-own q = rw (sym eb ∙ q)
 
-  pub share-none : b ≡ false → 0 ≡ share T t
+  pub share-none : b ≡ false → 0 ≡ share r
   unfolding share
-  share-none q = rw (← ek, sym eb ∙ q)
+  share-none q = rw (sym eb ∙ q)
 
 pub record Sum (T : List ℕ) (t sum : ℕ) : Type 0 where
   pub so-far : sum ≡ taken T t
@@ -431,7 +419,7 @@ pub sum-begin : (T : List ℕ) → Sum T 0 0
 unfolding taken
 sum-begin T = record { so-far = refl; bound = omega arith }
 
-pub sum-next : (T : List ℕ) (t sum s : ℕ) → Sum T t sum → s ≡ share T t → s < 65536 → Sum T (t + 1) (sum + s)
+pub sum-next : (T : List ℕ) (t sum s : ℕ) → Sum T t sum → s ≡ share (typeRowOf T t) → s < 65536 → Sum T (t + 1) (sum + s)
 unfolding taken share
 sum-next T t sum s inv e h = record { so-far = rw (add-one, inv .so-far, e); bound = omega (arith, inv .bound) }
 
@@ -493,129 +481,173 @@ module _ (T : List ℕ) (n t prior : ℕ) (inv : Types T n t prior) where
     unfolding sumRules faultAt verdictOf
     types-end z = sym (rows-fine ∙ rw (← sum-is, ← em, eq-eqb prior m z))
 
-  module _ (h : t < n) (c : ℕ) (e : c ≡ firstOf (rowRules T t prior)) where
+  module _ (h : t < n) (r : TypeRow) (er : IsTypeRow T t r) (c : ℕ) (e : c ≡ firstOf (rowRules T t r prior)) where
     types-row : c ≡ firstOf (typeRules T t)
-    types-row = e ∙ ap (λ (z : ℕ). firstOf (rowRules T t z)) (inv .sum .so-far) ∙ row-rules T t
+    types-row = e ∙ ap₂ (λ (z : TypeRow) (y : ℕ). firstOf (rowRules T t z y)) (whole-type T t r er) (inv .sum .so-far) ∙ row-rules T t
 
     pub types-fault : (c ≡ 0 → ⊥) → Broken c (12 + 12 * t) ≡ verdictOf (orElse (typePass T) (sumRules T))
     unfolding rowAt typesAt
     types-fault z = sym (or-broken (typePass T) (sumRules T) c (12 + 12 * t) (inv .rest ∙ rw (range-more t n h) (pass-fault (rowAt T) (typeRules T) t c (range (t + 1) (n - (t + 1))) types-row z)))
 
-    pub types-next : c ≡ 0 → (s : ℕ) → s ≡ share T t → s < 65536 → Types T n (t + 1) (prior + s)
+    pub types-next : c ≡ 0 → (s : ℕ) → s ≡ share r → s ≤ r .b → Types T n (t + 1) (prior + s)
     types-next z s es hs = record {
       within = omega arith;
       few = inv .few;
-      sum = sum-next T t prior s (inv .sum) es hs;
+      sum = sum-next T t prior s (inv .sum) (es ∙ ap share (whole-type T t r er)) (omega (arith, er .b-small));
       rest = inv .rest ∙ rw (range-more t n h) (ap verdictOf (pass-next (rowAt T) (typeRules T) t c (range (t + 1) (n - (t + 1))) types-row z));
     }
 
 -- ---- member rows
 
-module _ (T : List ℕ) (g i a : ℕ) (ea : drop a T ≡ drop (memberAt T i) T) (k : ℕ) (ek : k ≡ at (take (length T - a) (drop a T)) 1 2) where
-  pub tagged-is : k ≡ 1 → (f : ℕ) → f ≡ at (take (length T - a) (drop a T)) 4 4 → eqb f g ≡ isOptionalOf T g i
-  tagged-is e f ef = rw (eq-eqb (mark T i) 1 (sym (mark-is T i a ea k ek) ∙ e), tag-is T i a ea f ef)
+module _ (T : List ℕ) (g i : ℕ) (r : MemberRow) (er : IsMemberRow T i r) where
+  pub tagged-is : r .mark ≡ 1 → eqb (r .tag) g ≡ isOptionalOf T g i
+  tagged-is e = rw (eq-eqb (mark T i) 1 (sym (er .mark-is) ∙ e), er .tag-is)
 
-  pub tagged-not : (k ≡ 1 → ⊥) → false ≡ isOptionalOf T g i
-  tagged-not h = rw (ne-eqb (mark T i) 1 (λ q. h (mark-is T i a ea k ek ∙ q)))
+  pub tagged-not : (r .mark ≡ 1 → ⊥) → false ≡ isOptionalOf T g i
+  tagged-not h = rw (ne-eqb (mark T i) 1 (λ q. h (er .mark-is ∙ q)))
 
-pub record Tags (T : List ℕ) (o m g i : ℕ) : Type 0 where
-  pub rest : isTagBefore T o m g ≡ any (isOptionalOf T g) (range i (m - i))
+pub record Tags (T : List ℕ) (first m g i : ℕ) : Type 0 where
+  pub rest : isTagBefore T first m g ≡ any (isOptionalOf T g) (range i (m - i))
 
-pub tags-begin : (T : List ℕ) (o m g i : ℕ) → i ≡ field T o 0 → Tags T o m g i
+pub tags-begin : (T : List ℕ) (first m g : ℕ) → Tags T first m g first
 unfolding isTagBefore
-tags-begin T o m g i ei = rw ei record { rest = refl }
+tags-begin T first m g = record { rest = refl }
 
-module _ (T : List ℕ) (o m g i : ℕ) (inv : Tags T o m g i) where
+module _ (T : List ℕ) (first m g i : ℕ) (inv : Tags T first m g i) where
   module _ (h : i < m) (b : Bool) (e : b ≡ isOptionalOf T g i) where
-    pub tags-here : b ≡ true → true ≡ isTagBefore T o m g
+    pub tags-here : b ≡ true → true ≡ isTagBefore T first m g
     tags-here q = sym (inv .rest ∙ any-here (isOptionalOf T g) i m h (sym e ∙ q))
 
-    pub tags-next : b ≡ false → Tags T o m g (i + 1)
+    pub tags-next : b ≡ false → Tags T first m g (i + 1)
     tags-next q = record { rest = inv .rest ∙ any-next (isOptionalOf T g) i m h (sym e ∙ q) }
 
-  pub tags-end : m ≤ i → false ≡ isTagBefore T o m g
+  pub tags-end : m ≤ i → false ≡ isTagBefore T first m g
   tags-end h = sym (inv .rest ∙ any-none (isOptionalOf T g) i m h)
 
-module _ (T : List ℕ) (o t g : ℕ) where
-  pub required-tag : (g ≡ 0 → ⊥) → 32 ≡ firstOf (requiredRules T o t g)
+module _ (T : List ℕ) (first m above g : ℕ) where
+  pub alike-above : above ≤ g → false ≡ isTagAlike T first m above g
+  unfolding isTagAlike
+  alike-above h = rw (le-ltb g above h)
+
+  pub alike-below : g < above → (b : Bool) → b ≡ isTagBefore T first m g → b ≡ isTagAlike T first m above g
+  unfolding isTagAlike
+  alike-below h b e = rw (lt-ltb g above h) e
+
+-- the rules of a member row
+module _ (T : List ℕ) (o : ℕ) (r : MemberRow) where
+  pub required-tag : (r .tag ≡ 0 → ⊥) → 32 ≡ firstOf (requiredRules T o r)
   unfolding firstOf requiredRules
-  required-tag h = rw (ne-eqb g 0 h)
+  required-tag h = rw (ne-eqb (r .tag) 0 h)
 
-  module _ (zero-tag : g ≡ 0) (r : Bool) (er : r ≡ noPart T o t) where
-    pub required-part : r ≡ true → 34 ≡ firstOf (requiredRules T o t g)
+  module _ (zero-tag : r .tag ≡ 0) (b : Bool) (eb : b ≡ noPart T o (r .of)) where
+    pub required-part : b ≡ true → 34 ≡ firstOf (requiredRules T o r)
     unfolding firstOf requiredRules
-    required-part q = rw (eq-eqb g 0 zero-tag, ← er, q)
+    required-part q = rw (eq-eqb (r .tag) 0 zero-tag, ← eb, q)
 
-    pub required-fine : r ≡ false → 0 ≡ firstOf (requiredRules T o t g)
+    pub required-fine : b ≡ false → 0 ≡ firstOf (requiredRules T o r)
     unfolding firstOf requiredRules
-    required-fine q = rw (eq-eqb g 0 zero-tag, ← er, q)
+    required-fine q = rw (eq-eqb (r .tag) 0 zero-tag, ← eb, q)
 
-module _ (T : List ℕ) (o m t k g : ℕ) (r : Bool) (er : r ≡ noPart T o t) where
-  pub optional-part : r ≡ true → 34 ≡ firstOf (optionalRules T o m t k g)
+module _ (T : List ℕ) (o : ℕ) (own : TypeRow) (r : MemberRow) (b : Bool) (eb : b ≡ noPart T o (r .of)) (s : Bool) where
+  pub optional-part : b ≡ true → 34 ≡ firstOf (optionalRules T o own r s)
   unfolding firstOf optionalRules
-  optional-part q = rw (← er, q)
+  optional-part q = rw (← eb, q)
 
-  module _ (part : r ≡ false) where
-    pub optional-mark : 1 < k → 36 ≡ firstOf (optionalRules T o m t k g)
+  module _ (part : b ≡ false) where
+    pub optional-mark : 1 < r .mark → 36 ≡ firstOf (optionalRules T o own r s)
     unfolding firstOf optionalRules
-    optional-mark h = rw (← er, part, lt-ltb 1 k h)
+    optional-mark h = rw (← eb, part, lt-ltb 1 (r .mark) h)
 
-    module _ (marked : k ≤ 1) (j : ℕ) (ej : j ≡ kind T o) where
-      pub optional-struct : j ≡ 9 → 36 ≡ firstOf (optionalRules T o m t k g)
+    module _ (marked : r .mark ≤ 1) where
+      pub optional-struct : own .kind ≡ 9 → 36 ≡ firstOf (optionalRules T o own r s)
       unfolding firstOf optionalRules
-      optional-struct h = rw (← er, part, le-ltb 1 k marked, ← ej, eq-eqb j 9 h)
+      optional-struct h = rw (← eb, part, le-ltb 1 (r .mark) marked, eq-eqb (own .kind) 9 h)
 
-      module _ (other : j ≡ 9 → ⊥) where
-        pub optional-great : 2147483648 ≤ g → 38 ≡ firstOf (optionalRules T o m t k g)
+      module _ (other : own .kind ≡ 9 → ⊥) where
+        pub optional-great : 2147483648 ≤ r .tag → 38 ≡ firstOf (optionalRules T o own r s)
         unfolding firstOf optionalRules negative
-        optional-great h = rw (← er, part, le-ltb 1 k marked, ← ej, ne-eqb j 9 other, le-leb (2 ^ 31) g h)
+        optional-great h = rw (← eb, part, le-ltb 1 (r .mark) marked, ne-eqb (own .kind) 9 other, le-leb (2 ^ 31) (r .tag) h)
 
-        module _ (small : g < 2147483648) (s : Bool) (es : s ≡ isTagBefore T o m g) where
-          pub optional-alike : s ≡ true → 38 ≡ firstOf (optionalRules T o m t k g)
+        module _ (small : r .tag < 2147483648) (t : Bool) (et : t ≡ s) where
+          pub optional-alike : t ≡ true → 38 ≡ firstOf (optionalRules T o own r s)
           unfolding firstOf optionalRules negative
-          optional-alike q = rw (← er, part, le-ltb 1 k marked, ← ej, ne-eqb j 9 other, lt-leb (2 ^ 31) g small, ← es, q)
+          optional-alike q = rw (← eb, part, le-ltb 1 (r .mark) marked, ne-eqb (own .kind) 9 other, lt-leb (2 ^ 31) (r .tag) small, ← et, q)
 
-          pub optional-fine : s ≡ false → 0 ≡ firstOf (optionalRules T o m t k g)
+          pub optional-fine : t ≡ false → 0 ≡ firstOf (optionalRules T o own r s)
           unfolding firstOf optionalRules negative
-          optional-fine q = rw (← er, part, le-ltb 1 k marked, ← ej, ne-eqb j 9 other, lt-leb (2 ^ 31) g small, ← es, q)
+          optional-fine q = rw (← eb, part, le-ltb 1 (r .mark) marked, ne-eqb (own .kind) 9 other, lt-leb (2 ^ 31) (r .tag) small, ← et, q)
 
-module _ (T : List ℕ) (o m a : ℕ) (ea : drop a T ≡ drop (memberAt T m) T) (z : ℕ) (ez : z ≡ at (take (length T - a) (drop a T)) 1 3) where
-  pub member-spare : (z ≡ 0 → ⊥) → 32 ≡ firstOf (memberRulesOf T o m)
-  unfolding firstOf memberRulesOf
-  member-spare h = rw (← member-spare-is T m a ea z ez, ne-eqb z 0 h)
+module _ (T : List ℕ) (o : ℕ) (own : TypeRow) (r : MemberRow) (s : Bool) where
+  pub member-spare : (r .spare ≡ 0 → ⊥) → 32 ≡ firstOf (memberRulesBy T o own r s)
+  unfolding firstOf memberRulesBy
+  member-spare h = rw (ne-eqb (r .spare) 0 h)
 
-  module _ (spare : z ≡ 0) (t k g : ℕ) (et : t ≡ at (take (length T - a) (drop a T)) 2 0) (ek : k ≡ at (take (length T - a) (drop a T)) 1 2) (eg : g ≡ at (take (length T - a) (drop a T)) 4 4) (r : ℕ) where
-    pub member-required : k ≡ 0 → r ≡ firstOf (requiredRules T o t g) → r ≡ firstOf (memberRulesOf T o m)
-    unfolding firstOf memberRulesOf
-    member-required h e = e ∙ sym (rw (← member-spare-is T m a ea z ez, eq-eqb z 0 spare, ← mark-is T m a ea k ek, eq-eqb k 0 h, ← member-type-is T m a ea t et, ← tag-is T m a ea g eg))
+  module _ (spare : r .spare ≡ 0) (c : ℕ) where
+    pub member-required : r .mark ≡ 0 → c ≡ firstOf (requiredRules T o r) → c ≡ firstOf (memberRulesBy T o own r s)
+    unfolding firstOf memberRulesBy
+    member-required h e = e ∙ sym (rw (eq-eqb (r .spare) 0 spare, eq-eqb (r .mark) 0 h))
 
-    pub member-optional : (k ≡ 0 → ⊥) → r ≡ firstOf (optionalRules T o m t k g) → r ≡ firstOf (memberRulesOf T o m)
-    unfolding firstOf memberRulesOf
-    member-optional h e = e ∙ sym (rw (← member-spare-is T m a ea z ez, eq-eqb z 0 spare, ← mark-is T m a ea k ek, ne-eqb k 0 h, ← member-type-is T m a ea t et, ← tag-is T m a ea g eg))
+    pub member-optional : (r .mark ≡ 0 → ⊥) → c ≡ firstOf (optionalRules T o own r s) → c ≡ firstOf (memberRulesBy T o own r s)
+    unfolding firstOf memberRulesBy
+    member-optional h e = e ∙ sym (rw (eq-eqb (r .spare) 0 spare, ne-eqb (r .mark) 0 h))
 
--- over the members of one owner
-pub record Owner (T : List ℕ) (o m left : ℕ) : Type 0 where
+-- over the members of one owner; the tags before m are below `above`
+pub record Owner (T : List ℕ) (o m left above : ℕ) : Type 0 where
   pub few : m + left < 131072
+  pub below : (i : ℕ) → field T o 0 ≤ i → i < m → tag T i < above
   pub rest : verdictOf (ownerPass T o) ≡ verdictOf (pass (memberAt T) (memberRulesOf T o) (range m left))
 
-pub owner-begin : (T : List ℕ) (o m left : ℕ) → m ≡ field T o 0 → left ≡ share T o → m < 65536 → left < 65536 → Owner T o m left
+pub owner-begin : (T : List ℕ) (o left : ℕ) (own : TypeRow) → IsTypeRow T o own → left ≡ share own → left ≤ own .b → Owner T o (own .a) left 0
 unfolding ownerPass
-owner-begin T o m left em el hm hl = record { few = omega arith; rest = rw (em, el) }
+owner-begin T o left own eo el hl = record {
+  few = omega (arith, eo .a-small, eo .b-small);
+  below = λ i l h. absurd (omega (arith, eo .a-is));
+  rest = rw (eo .a-is, el, whole-type T o own eo);
+}
 
-module _ (T : List ℕ) (o m left : ℕ) (inv : Owner T o m left) where
+module _ (T : List ℕ) (o m left above : ℕ) (inv : Owner T o m left above) where
   pub owner-end : left ≤ 0 → Fine ≡ verdictOf (ownerPass T o)
   unfolding verdictOf pass
   owner-end h = sym (inv .rest ∙ rw (range-empty m left h))
 
-  module _ (h : 0 < left) (c : ℕ) (e : c ≡ firstOf (memberRulesOf T o m)) where
+  -- a tag that is not below `above` is not among them
+  tag-new : (g : ℕ) → above ≤ g → isTagBefore T (field T o 0) m g ≡ false
+  unfolding isTagBefore
+  tag-new g h = any-never (isOptionalOf T g) (m - field T o 0) (field T o 0) other
+    where
+      other : (i : ℕ) → field T o 0 ≤ i → i < field T o 0 + (m - field T o 0) → isOptionalOf T g i ≡ false
+      other i l k =
+          let z : tag T i ≡ g → ⊥ = λ q. omega (arith, inv .below i l (omega arith)) in
+          rw (ne-eqb (tag T i) g z) (go (eqb (mark T i) 1))
+        where
+          go : (b : Bool) → b && false ≡ false
+          go true = refl
+          go false = refl
+
+  tag-alike : (g : ℕ) → isTagAlike T (field T o 0) m above g ≡ isTagBefore T (field T o 0) m g
+  unfolding isTagAlike
+  tag-alike g = go (ltb g above) refl
+    where
+      go : (b : Bool) → ltb g above ≡ b → b && isTagBefore T (field T o 0) m g ≡ isTagBefore T (field T o 0) m g
+      go true e = refl
+      go false e = sym (tag-new g (ltb-false g above e))
+
+  module _ (h : 0 < left) (own : TypeRow) (eo : IsTypeRow T o own) (r : MemberRow) (er : IsMemberRow T m r) (c : ℕ) (e : c ≡ firstOf (memberRulesBy T o own r (isTagAlike T (own .a) m above (r .tag)))) where
+    owner-row : c ≡ firstOf (memberRulesOf T o m)
+    unfolding memberRulesOf
+    owner-row =
+        e ∙ ap₂ (λ (y : TypeRow) (z : MemberRow). firstOf (memberRulesBy T o y z (isTagAlike T (y .a) m above (z .tag)))) (whole-type T o own eo) (whole-member T m r er)
+        ∙ ap (λ (b : Bool). firstOf (memberRulesBy T o (typeRowOf T o) (memberRowOf T m) b)) (tag-alike (tag T m))
+
     pub owner-fault : (n : ℕ) → n ≡ types T → (c ≡ 0 → ⊥) → Broken c (12 + 12 * n + 8 * m) ≡ verdictOf (ownerPass T o)
     unfolding memberAt membersAt rowAt typesAt
-    owner-fault n en z = rw en (sym (inv .rest ∙ rw (range-left m left h) (pass-fault (memberAt T) (memberRulesOf T o) m c (range (m + 1) (left - 1)) e z)))
+    owner-fault n en z = rw en (sym (inv .rest ∙ rw (range-left m left h) (pass-fault (memberAt T) (memberRulesOf T o) m c (range (m + 1) (left - 1)) owner-row z)))
 
-    pub owner-next : c ≡ 0 → Owner T o (m + 1) (left - 1)
-    owner-next z = record {
+    pub owner-next : c ≡ 0 → (a : ℕ) → a ≡ max above (r .tag + 1) → Owner T o (m + 1) (left - 1) a
+    owner-next z a ea = record {
       few = omega (arith, inv .few);
-      rest = inv .rest ∙ rw (range-left m left h) (ap verdictOf (pass-next (memberAt T) (memberRulesOf T o) m c (range (m + 1) (left - 1)) e z));
+      below = λ i l k. ⊎-elim (λ q. omega (arith, er .tag-is, ap (tag T) q)) (λ q. omega (arith, inv .below i l q)) (eq-or-lt-of-le {n = i} {m = m} (omega arith));
+      rest = inv .rest ∙ rw (range-left m left h) (ap verdictOf (pass-next (memberAt T) (memberRulesOf T o) m c (range (m + 1) (left - 1)) owner-row z));
     }
 
 -- over the owners

@@ -2,10 +2,11 @@
 --
 --   range-more, range-none             the first of the numbers left
 --   any-here, any-next, any-none       whether some number left passes a test
+--   any-never                          none passes where each fails
 --   range-left, range-empty            the same where the numbers left are counted down
 --   find-here, find-next, find-none    the first number left that passes a test
-use Prim.Native.Nat.{ℕ, suc, _+_, _-_, _≤_, _<_}
-use mathlib.Core.Path.{_≡_, ap, _∙_}
+use Prim.Native.Nat.{ℕ, zero, suc, _+_, _-_, _≤_, _<_}
+use mathlib.Core.Path.{_≡_, refl, ap, _∙_}
 use mathlib.Core.Bool.{Bool, true, false}
 use mathlib.Core.Option.{none, some}
 use mathlib.Core.List.{[], _∷_}
@@ -54,3 +55,8 @@ module _ (f : ℕ → Bool) (i n : ℕ) where
   pub find-none : n ≤ i → find f (range i (n - i)) ≡ none
   unfolding find
   find-none h = rw (range-none i n h)
+
+pub any-never : (f : ℕ → Bool) (k i : ℕ) → ((r : ℕ) → i ≤ r → r < i + k → f r ≡ false) → any f (range i k) ≡ false
+unfolding any range
+any-never f zero i h = refl
+any-never f (suc k) i h = rw (h i (omega arith) (omega arith), any-never f k (suc i) (λ r a b. h r (omega arith) (omega arith)))

@@ -2,21 +2,27 @@
 --
 --   verdictOf                 fine, or the class and the place of the first rule that is broken
 --   isSetFrom                 a field of a row, from field i on, is not 0
---   enumRules .. listRules    the rules that a kind has; n is the number of member rows taken before
---   kindRules, rowRules       those of kind k; all of a type row
+--   noBaseOf                  row b - 1 is no base of row t of kind k
+--   enumRules .. listRules    the rules that a kind has, of row t by its fields r; n is the number of member rows taken before
+--   kindRules, rowRules       those of its kind; all of a type row
 --   share                     how many member rows a row takes
 --   typePass, memberPass      the passes over type rows and over member rows
 --   isOptionalOf              a member row is optional and has a tag
---   isTagBefore               a member row before m, of owner o, is one
---   requiredRules, optionalRules   the rules of a member row with mark 0, or with another mark k, by its type t and tag g
---   memberRulesOf             the rules of a member row of owner o
+--   isTagBefore               a member row from a first one on, before m, is one
+--   isTagAlike                the same, of a tag below `above`
+--   requiredRules, optionalRules   the rules of a member row with mark 0, or with another mark, by its owner's fields and its own; b: its tag is alike
+--   memberRulesBy             the rules of a member row by these; memberRulesOf of member row m of owner o
 --   ownerPass, ownersPass     the member rows of one owner; of several in turn
-use Prim.Native.Nat.{ℕ, _+_, _-_, _*_}
-use mathlib.Core.Bool.{Bool, _&&_, _||_, not}
+use Prim.Native.Nat.{ℕ, zero, suc, _+_, _-_, _*_}
+use mathlib.Core.Bool.{Bool, false, _&&_, _||_, not}
 use mathlib.Core.List.{List, [], _∷_}
-use lib.Dec.{eqb, ltb}
+use lib.ListN.{drop}
+use lib.Dec.{eqb, leb, ltb}
 use Rattle.encoding.specs.Result.{pick}
-use Rattle.encoding.specs.Table.{at, types, members, names, rowAt, memberAt, kind, field, memberType, mark, tag, isRecord, owns, range, any, great, used, noPart, noBase, alike, typeRules, memberRules, Fault, fine, fault, orElse, pass}
+use Rattle.encoding.specs.Table.{types, members, names, rowAt, memberAt, kind, field, mark, tag, isRecord, owns, range, any, great, used, noPart, alike, typeRules, memberRules, Fault, fine, fault, orElse, pass}
+use Rattle.table.specs.Rows.{typeRowOf, memberRowOf}
+use Rattle.table.specs.declared.TypeRow.{TypeRow}
+use Rattle.table.specs.declared.MemberRow.{MemberRow}
 use Rattle.table.specs.declared.Verdict.{Verdict}
 use Rattle.table.specs.declared.Verdict.the-variants.{Fine, Broken}
 
@@ -26,51 +32,55 @@ verdictOf (fault c p) = Broken c p
 
 -- ---- type rows
 
-unfoldable pub isSetFrom : List ℕ → ℕ → ℕ → Bool
-isSetFrom T t i = any (λ i. not (eqb (field T t i) 0)) (range i (5 - i))
+unfoldable pub isSetFrom : TypeRow → ℕ → Bool
+isSetFrom r i = any (λ f. not (eqb f 0)) (drop i (r .a ∷ r .b ∷ r .c ∷ r .d ∷ r .e ∷ []))
 
-unfoldable pub enumRules : List ℕ → ℕ → List (ℕ × Bool)
-enumRules T t = (38, great (field T t 0 + 65536 * field T t 1)) ∷ []
+unfoldable pub noBaseOf : List ℕ → ℕ → ℕ → ℕ → Bool
+noBaseOf T t k zero = false
+noBaseOf T t k (suc r) = leb t r || not (eqb (kind T r) k)
 
-unfoldable pub structRules : List ℕ → ℕ → ℕ → List (ℕ × Bool)
-structRules T t n = (35, not (eqb (field T t 0) n)) ∷ (36, eqb (field T t 1) 0) ∷ []
+unfoldable pub enumRules : TypeRow → List (ℕ × Bool)
+enumRules r = (38, great (r .a + 65536 * r .b)) ∷ []
 
-unfoldable pub seqRules : List ℕ → ℕ → List (ℕ × Bool)
-seqRules T t = (34, noPart T t (field T t 0)) ∷ []
+unfoldable pub structRules : TypeRow → ℕ → List (ℕ × Bool)
+structRules r n = (35, not (eqb (r .a) n)) ∷ (36, eqb (r .b) 0) ∷ []
 
-unfoldable pub dictRules : List ℕ → ℕ → List (ℕ × Bool)
-dictRules T t = (34, noPart T t (field T t 0)) ∷ (34, noPart T t (field T t 1)) ∷ []
+unfoldable pub seqRules : List ℕ → ℕ → TypeRow → List (ℕ × Bool)
+seqRules T t r = (34, noPart T t (r .a)) ∷ []
 
-unfoldable pub recordRules : List ℕ → ℕ → ℕ → List (ℕ × Bool)
-recordRules T t n =
-    (34, noBase T t (field T t 2))
-    ∷ (35, not (eqb (field T t 0) n))
-    ∷ (37, eqb (field T t 4) 0 || ltb 255 (field T t 4))
-    ∷ (37, ltb (names T) (field T t 3 + field T t 4))
+unfoldable pub dictRules : List ℕ → ℕ → TypeRow → List (ℕ × Bool)
+dictRules T t r = (34, noPart T t (r .a)) ∷ (34, noPart T t (r .b)) ∷ []
+
+unfoldable pub recordRules : List ℕ → ℕ → TypeRow → ℕ → List (ℕ × Bool)
+recordRules T t r n =
+    (34, noBaseOf T t (r .kind) (r .c))
+    ∷ (35, not (eqb (r .a) n))
+    ∷ (37, eqb (r .e) 0 || ltb 255 (r .e))
+    ∷ (37, ltb (names T) (r .d + r .e))
     ∷ (37, alike T t)
     ∷ []
 
-unfoldable pub listRules : List ℕ → ℕ → ℕ → List (ℕ × Bool)
-listRules T t n = (35, not (eqb (field T t 0) n)) ∷ []
+unfoldable pub listRules : TypeRow → ℕ → List (ℕ × Bool)
+listRules r n = (35, not (eqb (r .a) n)) ∷ []
 
-unfoldable pub kindRules : List ℕ → ℕ → ℕ → ℕ → List (ℕ × Bool)
-kindRules T t k n =
-    pick (eqb k 8) (enumRules T t)
-    (pick (eqb k 9) (structRules T t n)
-    (pick (eqb k 10) (seqRules T t)
-    (pick (eqb k 11) (dictRules T t)
-    (pick (isRecord k) (recordRules T t n)
-    (pick (eqb k 15) (listRules T t n) [])))))
+unfoldable pub kindRules : List ℕ → ℕ → TypeRow → ℕ → List (ℕ × Bool)
+kindRules T t r n =
+    pick (eqb (r .kind) 8) (enumRules r)
+    (pick (eqb (r .kind) 9) (structRules r n)
+    (pick (eqb (r .kind) 10) (seqRules T t r)
+    (pick (eqb (r .kind) 11) (dictRules T t r)
+    (pick (isRecord (r .kind)) (recordRules T t r n)
+    (pick (eqb (r .kind) 15) (listRules r n) [])))))
 
-unfoldable pub rowRules : List ℕ → ℕ → ℕ → List (ℕ × Bool)
-rowRules T t n =
-    (32, not (eqb (at T 1 (rowAt T t + 1)) 0))
-    ∷ (32, isSetFrom T t (used (kind T t)))
-    ∷ (33, ltb 15 (kind T t))
-    ∷ kindRules T t (kind T t) n
+unfoldable pub rowRules : List ℕ → ℕ → TypeRow → ℕ → List (ℕ × Bool)
+rowRules T t r n =
+    (32, not (eqb (r .spare) 0))
+    ∷ (32, isSetFrom r (used (r .kind)))
+    ∷ (33, ltb 15 (r .kind))
+    ∷ kindRules T t r n
 
-unfoldable pub share : List ℕ → ℕ → ℕ
-share T t = pick (owns (kind T t)) (field T t 1) 0
+unfoldable pub share : TypeRow → ℕ
+share r = pick (owns (r .kind)) (r .b) 0
 
 unfoldable pub typePass : List ℕ → Fault
 typePass T = pass (rowAt T) (typeRules T) (range 0 (types T))
@@ -84,27 +94,31 @@ abbrev pub isOptionalOf : List ℕ → ℕ → ℕ → Bool
 isOptionalOf T g i = eqb (mark T i) 1 && eqb (tag T i) g
 
 unfoldable pub isTagBefore : List ℕ → ℕ → ℕ → ℕ → Bool
-isTagBefore T o m g = any (isOptionalOf T g) (range (field T o 0) (m - field T o 0))
+isTagBefore T first m g = any (isOptionalOf T g) (range first (m - first))
 
-unfoldable pub requiredRules : List ℕ → ℕ → ℕ → ℕ → List (ℕ × Bool)
-requiredRules T o t g = (32, not (eqb g 0)) ∷ (34, noPart T o t) ∷ []
+unfoldable pub isTagAlike : List ℕ → ℕ → ℕ → ℕ → ℕ → Bool
+isTagAlike T first m above g = ltb g above && isTagBefore T first m g
 
-unfoldable pub optionalRules : List ℕ → ℕ → ℕ → ℕ → ℕ → ℕ → List (ℕ × Bool)
-optionalRules T o m t k g =
-    (34, noPart T o t)
-    ∷ (36, ltb 1 k)
-    ∷ (36, eqb (kind T o) 9)
-    ∷ (38, great g)
-    ∷ (38, isTagBefore T o m g)
+unfoldable pub requiredRules : List ℕ → ℕ → MemberRow → List (ℕ × Bool)
+requiredRules T o r = (32, not (eqb (r .tag) 0)) ∷ (34, noPart T o (r .of)) ∷ []
+
+unfoldable pub optionalRules : List ℕ → ℕ → TypeRow → MemberRow → Bool → List (ℕ × Bool)
+optionalRules T o own r b =
+    (34, noPart T o (r .of))
+    ∷ (36, ltb 1 (r .mark))
+    ∷ (36, eqb (own .kind) 9)
+    ∷ (38, great (r .tag))
+    ∷ (38, b)
     ∷ []
 
+unfoldable pub memberRulesBy : List ℕ → ℕ → TypeRow → MemberRow → Bool → List (ℕ × Bool)
+memberRulesBy T o own r b = (32, not (eqb (r .spare) 0)) ∷ pick (eqb (r .mark) 0) (requiredRules T o r) (optionalRules T o own r b)
+
 unfoldable pub memberRulesOf : List ℕ → ℕ → ℕ → List (ℕ × Bool)
-memberRulesOf T o m =
-    (32, not (eqb (at T 1 (memberAt T m + 3)) 0))
-    ∷ pick (eqb (mark T m) 0) (requiredRules T o (memberType T m) (tag T m)) (optionalRules T o m (memberType T m) (mark T m) (tag T m))
+memberRulesOf T o m = memberRulesBy T o (typeRowOf T o) (memberRowOf T m) (isTagBefore T (field T o 0) m (tag T m))
 
 unfoldable pub ownerPass : List ℕ → ℕ → Fault
-ownerPass T o = pass (memberAt T) (memberRulesOf T o) (range (field T o 0) (share T o))
+ownerPass T o = pass (memberAt T) (memberRulesOf T o) (range (field T o 0) (share (typeRowOf T o)))
 
 unfoldable pub ownersPass : List ℕ → List ℕ → Fault
 ownersPass T [] = fine

@@ -10,13 +10,14 @@ use mathlib.Core.Logic.{⊎-elim}
 use mathlib.Core.List.{List, [], _∷_, _++_}
 use native.Mathlib.Nat.{eq-or-lt-of-le, add-zero}
 use native.Mathlib.Omega.{arith}
-use lib.ListN.{drop}
+use lib.ListN.{drop, drop-of-length-le}
 use lib.Dec.{eqb}
 use borrow.Author.Tests.{eqb-true, eqb-false, not-false, lt-leb, le-leb, lt-ltb}
 use Rattle.encoding.specs.Result.{pick, firstOf}
 use Rattle.encoding.specs.Number.{negative}
-use Rattle.encoding.specs.Table.{types, members, rowAt, memberAt, kind, field, mark, tag, owns, range, taken, takes, ownerOf, tagAlike, typeRules, memberRules, sumRules, faultAt, Fault, fine, fault, orElse, pass}
-use Rattle.table.specs.Checks.{isSetFrom, enumRules, structRules, seqRules, dictRules, recordRules, listRules, kindRules, rowRules, share, typePass, memberPass, isTagBefore, requiredRules, optionalRules, memberRulesOf, ownerPass, ownersPass}
+use Rattle.encoding.specs.Table.{types, members, rowAt, memberAt, kind, field, mark, tag, owns, range, any, used, noBase, taken, takes, ownerOf, tagAlike, typeRules, memberRules, sumRules, faultAt, Fault, fine, fault, orElse, pass}
+use Rattle.table.specs.Rows.{typeRowOf}
+use Rattle.table.specs.Checks.{isSetFrom, noBaseOf, enumRules, structRules, seqRules, dictRules, recordRules, listRules, kindRules, rowRules, share, typePass, memberPass, isTagBefore, requiredRules, optionalRules, memberRulesBy, memberRulesOf, ownerPass, ownersPass}
 
 -- ---- a type row by its kind
 
@@ -29,26 +30,43 @@ either {P} k n y z = go (eqb k n) refl
     go false e = z e
 
 module _ (T : List ℕ) (t : ℕ) where
-  kind-rules : firstOf (kindRules T t (kind T t) (taken T t)) ≡ firstOf (drop 3 (typeRules T t))
+  -- the base judged by the row's own kind
+  no-base : (b : ℕ) → noBaseOf T t (kind T t) b ≡ noBase T t b
+  unfolding noBaseOf noBase
+  no-base zero = refl
+  no-base (suc r) = refl
+
+  -- the fields as a list, or by their numbers
+  set-from : (i : ℕ) → isSetFrom (typeRowOf T t) i ≡ any (λ i. not (eqb (field T t i) 0)) (range i (5 - i))
+  unfolding isSetFrom any range
+  set-from zero = refl
+  set-from (suc zero) = refl
+  set-from (suc (suc zero)) = refl
+  set-from (suc (suc (suc zero))) = refl
+  set-from (suc (suc (suc (suc zero)))) = refl
+  set-from (suc (suc (suc (suc (suc i))))) = let z : 5 - suc (suc (suc (suc (suc i)))) ≡ 0 = omega arith in rw (z, drop-of-length-le {A = ℕ} [] {i = i} (omega arith))
+
+  kind-rules : firstOf (kindRules T t (typeRowOf T t) (taken T t)) ≡ firstOf (drop 3 (typeRules T t))
   unfolding firstOf typeRules kindRules enumRules structRules seqRules dictRules recordRules listRules
   kind-rules =
+      rw (no-base (field T t 2)) (
       either (kind T t) 8 (λ e. rw e) (λ e8.
       either (kind T t) 9 (λ e. rw e) (λ e9.
       either (kind T t) 10 (λ e. rw e) (λ e10.
       either (kind T t) 11 (λ e. rw e) (λ e11.
       either (kind T t) 13 (λ e. rw e) (λ e13.
       either (kind T t) 14 (λ e. rw e) (λ e14.
-      either (kind T t) 15 (λ e. rw e) (λ e15. rw (e8, e9, e10, e11, e13, e14, e15))))))))
+      either (kind T t) 15 (λ e. rw e) (λ e15. rw (e8, e9, e10, e11, e13, e14, e15)))))))))
 
-  pub row-rules : firstOf (rowRules T t (taken T t)) ≡ firstOf (typeRules T t)
-  unfolding firstOf rowRules typeRules isSetFrom
-  row-rules = rw kind-rules
+  pub row-rules : firstOf (rowRules T t (typeRowOf T t) (taken T t)) ≡ firstOf (typeRules T t)
+  unfolding firstOf rowRules typeRules
+  row-rules = rw (set-from (used (kind T t)), kind-rules)
 
 -- ---- a member row by its mark
 
 module _ (T : List ℕ) (m : ℕ) where
   member-rules : firstOf (memberRulesOf T (ownerOf T m (types T)) m) ≡ firstOf (memberRules T m)
-  unfolding firstOf memberRulesOf memberRules requiredRules optionalRules isTagBefore tagAlike negative
+  unfolding firstOf memberRulesOf memberRulesBy memberRules requiredRules optionalRules isTagBefore tagAlike negative
   member-rules =
       either (mark T m) 0
       (λ e. either (tag T m) 0 (λ q. rw (e, q)) (λ q. rw (e, q)))
@@ -133,7 +151,7 @@ unfolding typePass Turns
 turns T e t h o = first-taken T t (pass-fine (rowAt T) (typeRules T) (types T) 0 e t (omega arith) (omega arith)) o
 
 module _ (T : List ℕ) where
-  taken-more : (n : ℕ) → taken T (suc n) ≡ taken T n + share T n
+  taken-more : (n : ℕ) → taken T (suc n) ≡ taken T n + share (typeRowOf T n)
   unfolding taken share
   taken-more n = refl
 
@@ -144,8 +162,8 @@ module _ (T : List ℕ) where
   taken-least : (o n : ℕ) → o ≤ n → taken T o ≤ taken T n
   taken-least o n h = let z : o + (n - o) ≡ n = omega arith in rw z at (taken-rises (n - o) o)
 
-  module _ (begin : Turns T) (m o : ℕ) (own : owns (kind T o) ≡ true) (ho : o < types T) (low : taken T o ≤ m) (high : m < taken T o + share T o) where
-    share-own : share T o ≡ field T o 1
+  module _ (begin : Turns T) (m o : ℕ) (own : owns (kind T o) ≡ true) (ho : o < types T) (low : taken T o ≤ m) (high : m < taken T o + share (typeRowOf T o)) where
+    share-own : share (typeRowOf T o) ≡ field T o 1
     unfolding share
     share-own = rw own
 
@@ -176,18 +194,18 @@ module _ (T : List ℕ) where
         (eq-or-lt-of-le {n = o} {m = n} (omega arith))
 
   module _ (begin : Turns T) where
-    owner-pass : (o : ℕ) → o < types T → ownerPass T o ≡ pass (memberAt T) (memberRules T) (range (taken T o) (share T o))
+    owner-pass : (o : ℕ) → o < types T → ownerPass T o ≡ pass (memberAt T) (memberRules T) (range (taken T o) (share (typeRowOf T o)))
     unfolding ownerPass share Turns pass range
     owner-pass o h = go (owns (kind T o)) refl
       where
-        same : owns (kind T o) ≡ true → (m : ℕ) → taken T o ≤ m → m < taken T o + share T o → firstOf (memberRulesOf T o m) ≡ firstOf (memberRules T m)
+        same : owns (kind T o) ≡ true → (m : ℕ) → taken T o ≤ m → m < taken T o + share (typeRowOf T o) → firstOf (memberRulesOf T o m) ≡ firstOf (memberRules T m)
         same e m a b = ap (λ (z : ℕ). firstOf (memberRulesOf T z m)) (sym (owner-is begin m o e h a b (types T) h (omega arith))) ∙ member-rules T m
 
         go : (b : Bool) → owns (kind T o) ≡ b → pass (memberAt T) (memberRulesOf T o) (range (field T o 0) (pick b (field T o 1) 0)) ≡ pass (memberAt T) (memberRules T) (range (taken T o) (pick b (field T o 1) 0))
         go false e = refl
         go true e = rw (begin o h e) (pass-same (memberAt T) (memberRulesOf T o) (memberRules T) (field T o 1) (taken T o) (λ m a b. same e m a (omega (arith, own e))))
           where
-            own : owns (kind T o) ≡ true → share T o ≡ field T o 1
+            own : owns (kind T o) ≡ true → share (typeRowOf T o) ≡ field T o 1
             own e = rw e
 
     owners-from : (d o : ℕ) → o + d ≡ types T → ownersPass T (range o d) ≡ pass (memberAt T) (memberRules T) (range (taken T o) (taken T (types T) - taken T o))
@@ -197,9 +215,9 @@ module _ (T : List ℕ) where
         let y : taken T (types T) - taken T o ≡ 0 = omega (arith, ap (taken T) z) in
         rw y
     owners-from (suc d) o e =
-        let y : taken T (types T) - taken T o ≡ share T o + (taken T (types T) - taken T (suc o)) = omega (arith, taken-more o, taken-least (suc o) (types T) (omega arith)) in
+        let y : taken T (types T) - taken T o ≡ share (typeRowOf T o) + (taken T (types T) - taken T (suc o)) = omega (arith, taken-more o, taken-least (suc o) (types T) (omega arith)) in
         ap₂ orElse (owner-pass o (omega arith)) (owners-from d (suc o) (omega arith))
-        ∙ sym (rw (y, range-append) (pass-append (memberAt T) (memberRules T) (range (taken T o) (share T o)) _ ∙ ap (λ (z : ℕ). orElse (pass (memberAt T) (memberRules T) (range (taken T o) (share T o))) (pass (memberAt T) (memberRules T) (range z (taken T (types T) - taken T (suc o))))) (sym (taken-more o))))
+        ∙ sym (rw (y, range-append) (pass-append (memberAt T) (memberRules T) (range (taken T o) (share (typeRowOf T o))) _ ∙ ap (λ (z : ℕ). orElse (pass (memberAt T) (memberRules T) (range (taken T o) (share (typeRowOf T o)))) (pass (memberAt T) (memberRules T) (range z (taken T (types T) - taken T (suc o))))) (sym (taken-more o))))
 
 sum-fine : (T : List ℕ) → sumRules T ≡ fine → taken T (types T) ≡ members T
 unfolding sumRules

@@ -1,13 +1,27 @@
 -- A row of the table, read whole.
 --
---   IsTypeRow     what the code answers for a type row: each field is the table's, and small
---   IsMemberRow   the same for a member row
+--   typeRowOf, memberRowOf     type row t; member row m
+--   IsTypeRow, IsMemberRow     what the code answers for them: each field is the table's, and small
 use Prim.Native.Nat.{ℕ, _+_, _<_}
 use mathlib.Core.Path.{_≡_}
 use mathlib.Core.List.{List}
 use Rattle.encoding.specs.Table.{at, rowAt, memberAt, kind, field, memberType, mark, tag}
 use Rattle.table.specs.declared.TypeRow.{TypeRow}
 use Rattle.table.specs.declared.MemberRow.{MemberRow}
+
+abbrev pub typeRowOf : List ℕ → ℕ → TypeRow
+typeRowOf T t = record {
+  kind = kind T t;
+  spare = at T 1 (rowAt T t + 1);
+  a = field T t 0;
+  b = field T t 1;
+  c = field T t 2;
+  d = field T t 3;
+  e = field T t 4;
+}
+
+abbrev pub memberRowOf : List ℕ → ℕ → MemberRow
+memberRowOf T m = record { of = memberType T m; mark = mark T m; spare = at T 1 (memberAt T m + 3); tag = tag T m }
 
 pub record IsTypeRow (T : List ℕ) (t : ℕ) (r : TypeRow) : Type 0 where
   pub kind-is : r .kind ≡ kind T t

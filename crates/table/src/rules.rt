@@ -1,11 +1,13 @@
 // The rules of a table: header, type rows, member sum, member rows; the first rule that is broken, as its class and its place.
+use crate::MemberRow;
+use crate::TypeRow;
 use crate::Verdict;
 ghost use mathlib.Core.Path.{_≡_};
-ghost use Prim.Native.Nat.{_<_};
+ghost use Prim.Native.Nat.{_+_, _≤_, _<_, max};
 ghost use Rattle.encoding.specs.Result.{firstOf};
-ghost use Rattle.encoding.specs.Table.{any, range, types, headerRules, sumRules, orElse, used, noPart, noBase, alike, faultAt, faults};
+ghost use Rattle.encoding.specs.Table.{any, range, types, headerRules, sumRules, orElse, used, noPart, alike, faultAt, faults};
 ghost use Rattle.table.specs.Names.{isNamed};
-ghost use Rattle.table.specs.Checks.{verdictOf, isSetFrom, enumRules, structRules, seqRules, dictRules, recordRules, listRules, kindRules, rowRules, share, typePass, isOptionalOf, isTagBefore, requiredRules, optionalRules, memberRulesOf, ownerPass, ownersPass};
+ghost use Rattle.table.specs.Checks.{verdictOf, isSetFrom, noBaseOf, enumRules, structRules, seqRules, dictRules, recordRules, listRules, kindRules, rowRules, share, typePass, isOptionalOf, isTagBefore, isTagAlike, requiredRules, optionalRules, memberRulesBy, ownerPass, ownersPass};
 
 // The class of the header, or 0.
 fn header(table: &[u8]) -> usize
@@ -41,50 +43,52 @@ fn header(table: &[u8]) -> usize
     0
 }
 
-// One of the fields c, d, e of row t is not 0: c and d are read as one int.
-fn is_set_from_c(table: &[u8], t: usize) -> bool
-    ensures { λ r. ⌜ r ≡ isSetFrom (now (table .entry)) t 2 ⌝ }
+// One of the fields c, d, e of a row is not 0.
+fn is_set_from_c(row: TypeRow) -> bool
+    ensures { λ r. ⌜ r ≡ isSetFrom row 2 ⌝ }
 {
-    let a = crate::row(table, t);
-    if wire::int_at(&table[a..], 6) != 0 {
+    if row.c != 0 {
         return true;
     }
-    wire::short_at(&table[a..], 10) != 0
-}
-
-// One of the fields b to e of row t is not 0.
-fn is_set_from_b(table: &[u8], t: usize) -> bool
-    ensures { λ r. ⌜ r ≡ isSetFrom (now (table .entry)) t 1 ⌝ }
-{
-    if crate::field(table, t, 1) != 0 {
+    if row.d != 0 {
         return true;
     }
-    is_set_from_c(table, t)
+    row.e != 0
 }
 
-// One of the fields of row t is not 0: a and b are read as one int.
-fn is_set_from_a(table: &[u8], t: usize) -> bool
-    ensures { λ r. ⌜ r ≡ isSetFrom (now (table .entry)) t 0 ⌝ }
+// One of the fields b to e is not 0.
+fn is_set_from_b(row: TypeRow) -> bool
+    ensures { λ r. ⌜ r ≡ isSetFrom row 1 ⌝ }
 {
-    let a = crate::row(table, t);
-    if wire::int_at(&table[a..], 2) != 0 {
+    if row.b != 0 {
         return true;
     }
-    is_set_from_c(table, t)
+    is_set_from_c(row)
 }
 
-// A field of row t that kind k does not use is not 0.
-fn is_unused_set(table: &[u8], t: usize, k: usize) -> bool
-    ensures { λ r. ⌜ r ≡ isSetFrom (now (table .entry)) t (used k) ⌝ }
+// One of the fields is not 0.
+fn is_set_from_a(row: TypeRow) -> bool
+    ensures { λ r. ⌜ r ≡ isSetFrom row 0 ⌝ }
 {
+    if row.a != 0 {
+        return true;
+    }
+    is_set_from_b(row)
+}
+
+// A field that the row's kind does not use is not 0.
+fn is_unused_set(row: TypeRow) -> bool
+    ensures { λ r. ⌜ r ≡ isSetFrom row (used (row .kind)) ⌝ }
+{
+    let k = row.kind;
     if k < 8 {
-        return is_set_from_a(table, t);
+        return is_set_from_a(row);
     }
     if k == 10 {
-        return is_set_from_b(table, t);
+        return is_set_from_b(row);
     }
     if k == 12 {
-        return is_set_from_a(table, t);
+        return is_set_from_a(row);
     }
     if k == 13 {
         return false;
@@ -93,7 +97,7 @@ fn is_unused_set(table: &[u8], t: usize, k: usize) -> bool
         return false;
     }
     if k < 16 {
-        return is_set_from_c(table, t);
+        return is_set_from_c(row);
     }
     false
 }
@@ -108,9 +112,9 @@ fn no_part(table: &[u8], t: usize, r: usize) -> bool
     12 < crate::kind(table, r)
 }
 
-// Row b - 1 is no base of row t: not smaller, or of another kind.
-fn no_base(table: &[u8], t: usize, b: usize) -> bool
-    ensures { λ r. ⌜ r ≡ noBase (now (table .entry)) t b ⌝ }
+// Row b - 1 is no base of row t of kind k: not smaller, or of another kind.
+fn no_base(table: &[u8], t: usize, k: usize, b: usize) -> bool
+    ensures { λ r. ⌜ r ≡ noBaseOf (now (table .entry)) t k b ⌝ }
 {
     if b == 0 {
         return false;
@@ -118,7 +122,7 @@ fn no_base(table: &[u8], t: usize, b: usize) -> bool
     if t < b {
         return true;
     }
-    crate::kind(table, b - 1) != crate::kind(table, t)
+    crate::kind(table, b - 1) != k
 }
 
 // A record among the first t rows has this name.
@@ -145,69 +149,70 @@ fn alike(table: &[u8], t: usize) -> bool
 }
 
 // An enum's own rule.
-fn enum_row(table: &[u8], t: usize) -> usize
-    ensures { λ r. ⌜ r ≡ firstOf (enumRules (now (table .entry)) t) ⌝ }
+fn enum_row(row: TypeRow) -> usize
+    requires { ⌜ (row .a < 65536) × (row .b < 65536) ⌝ }
+    ensures { λ r. ⌜ r ≡ firstOf (enumRules row) ⌝ }
 {
-    if 2147483648 <= crate::field(table, t, 0) + 65536 * crate::field(table, t, 1) {
+    if 2147483648 <= row.a + 65536 * row.b {
         return 38;
     }
     0
 }
 
 // A struct's own rules, where the rows before it take `prior` member rows.
-fn struct_row(table: &[u8], t: usize, prior: usize) -> usize
-    ensures { λ r. ⌜ r ≡ firstOf (structRules (now (table .entry)) t prior) ⌝ }
+fn struct_row(row: TypeRow, prior: usize) -> usize
+    ensures { λ r. ⌜ r ≡ firstOf (structRules row prior) ⌝ }
 {
-    if crate::field(table, t, 0) != prior {
+    if row.a != prior {
         return 35;
     }
-    if crate::field(table, t, 1) == 0 {
+    if row.b == 0 {
         return 36;
     }
     0
 }
 
-// A sequence's own rule.
-fn seq_row(table: &[u8], t: usize) -> usize
-    ensures { λ r. ⌜ r ≡ firstOf (seqRules (now (table .entry)) t) ⌝ }
+// The own rule of a sequence, row t.
+fn seq_row(table: &[u8], t: usize, row: TypeRow) -> usize
+    ensures { λ r. ⌜ r ≡ firstOf (seqRules (now (table .entry)) t row) ⌝ }
 {
-    if no_part(table, t, crate::field(table, t, 0)) {
+    if no_part(table, t, row.a) {
         return 34;
     }
     0
 }
 
-// A dictionary's own rules.
-fn dict_row(table: &[u8], t: usize) -> usize
-    ensures { λ r. ⌜ r ≡ firstOf (dictRules (now (table .entry)) t) ⌝ }
+// The own rules of a dictionary, row t.
+fn dict_row(table: &[u8], t: usize, row: TypeRow) -> usize
+    ensures { λ r. ⌜ r ≡ firstOf (dictRules (now (table .entry)) t row) ⌝ }
 {
-    if no_part(table, t, crate::field(table, t, 0)) {
+    if no_part(table, t, row.a) {
         return 34;
     }
-    if no_part(table, t, crate::field(table, t, 1)) {
+    if no_part(table, t, row.b) {
         return 34;
     }
     0
 }
 
-// An exception's or a class's own rules.
-fn record_row(table: &[u8], t: usize, prior: usize) -> usize
-    ensures { λ r. ⌜ r ≡ firstOf (recordRules (now (table .entry)) t prior) ⌝ }
+// The own rules of an exception or a class, row t.
+fn record_row(table: &[u8], t: usize, row: TypeRow, prior: usize) -> usize
+    requires { ⌜ row .d < 65536 ⌝ }
+    ensures { λ r. ⌜ r ≡ firstOf (recordRules (now (table .entry)) t row prior) ⌝ }
 {
-    if no_base(table, t, crate::field(table, t, 2)) {
+    if no_base(table, t, row.kind, row.c) {
         return 34;
     }
-    if crate::field(table, t, 0) != prior {
+    if row.a != prior {
         return 35;
     }
-    let n = crate::field(table, t, 4);
-    if n == 0 {
+    if row.e == 0 {
         return 37;
     }
-    if 255 < n {
+    if 255 < row.e {
         return 37;
     }
-    if crate::names(table) < crate::field(table, t, 3) + n {
+    if crate::names(table) < row.d + row.e {
         return 37;
     }
     if alike(table, t) {
@@ -217,63 +222,65 @@ fn record_row(table: &[u8], t: usize, prior: usize) -> usize
 }
 
 // A parameter list's own rule.
-fn list_row(table: &[u8], t: usize, prior: usize) -> usize
-    ensures { λ r. ⌜ r ≡ firstOf (listRules (now (table .entry)) t prior) ⌝ }
+fn list_row(row: TypeRow, prior: usize) -> usize
+    ensures { λ r. ⌜ r ≡ firstOf (listRules row prior) ⌝ }
 {
-    if crate::field(table, t, 0) != prior {
+    if row.a != prior {
         return 35;
     }
     0
 }
 
-// The rules of row t that its kind k has.
-fn kind_row(table: &[u8], t: usize, k: usize, prior: usize) -> usize
-    ensures { λ r. ⌜ r ≡ firstOf (kindRules (now (table .entry)) t k prior) ⌝ }
+// The rules of row t that its kind has.
+fn kind_row(table: &[u8], t: usize, row: TypeRow, prior: usize) -> usize
+    requires { ⌜ (row .a < 65536) × (row .b < 65536) × (row .d < 65536) ⌝ }
+    ensures { λ r. ⌜ r ≡ firstOf (kindRules (now (table .entry)) t row prior) ⌝ }
 {
+    let k = row.kind;
     if k == 8 {
-        return enum_row(table, t);
+        return enum_row(row);
     }
     if k == 9 {
-        return struct_row(table, t, prior);
+        return struct_row(row, prior);
     }
     if k == 10 {
-        return seq_row(table, t);
+        return seq_row(table, t, row);
     }
     if k == 11 {
-        return dict_row(table, t);
+        return dict_row(table, t, row);
     }
     if crate::is_record(k) {
-        return record_row(table, t, prior);
+        return record_row(table, t, row, prior);
     }
     if k == 15 {
-        return list_row(table, t, prior);
+        return list_row(row, prior);
     }
     0
 }
 
 // The class of type row t, or 0.
-fn type_row(table: &[u8], t: usize, prior: usize) -> usize
-    ensures { λ r. ⌜ r ≡ firstOf (rowRules (now (table .entry)) t prior) ⌝ }
+fn type_class(table: &[u8], t: usize, row: TypeRow, prior: usize) -> usize
+    requires { ⌜ (row .a < 65536) × (row .b < 65536) × (row .d < 65536) ⌝ }
+    ensures { λ r. ⌜ r ≡ firstOf (rowRules (now (table .entry)) t row prior) ⌝ }
 {
-    if crate::spare(table, t) != 0 {
+    if row.spare != 0 {
         return 32;
     }
-    let k = crate::kind(table, t);
-    if is_unused_set(table, t, k) {
+    if is_unused_set(row) {
         return 32;
     }
-    if 15 < k {
+    if 15 < row.kind {
         return 33;
     }
-    kind_row(table, t, k, prior)
+    kind_row(table, t, row, prior)
 }
 
-// How many member rows row t takes.
-fn share(table: &[u8], t: usize) -> usize
-    ensures { λ r. ⌜ (r ≡ share (now (table .entry)) t) × (r < 65536) ⌝ }
+// How many member rows a row takes.
+fn share(row: TypeRow) -> usize
+    ensures { λ r. ⌜ (r ≡ share row) × (r ≤ row .b) ⌝ }
 {
-    if crate::owns(crate::kind(table, t)) {
-        return crate::field(table, t, 1);
+    if crate::owns(row.kind) {
+        return row.b;
     }
     0
 }
@@ -286,11 +293,12 @@ fn type_rows(table: &[u8]) -> Verdict
     let mut prior = 0;
     let mut t = 0;
     while t < n {
-        let c = type_row(table, t, prior);
+        let row = crate::type_row(table, t);
+        let c = type_class(table, t, row, prior);
         if c != 0 {
             return Verdict::Broken(c, 12 + 12 * t);
         }
-        prior += share(table, t);
+        prior += share(row);
         t += 1;
     }
     if prior != crate::members(table) {
@@ -303,18 +311,18 @@ fn type_rows(table: &[u8]) -> Verdict
 fn is_optional_of(table: &[u8], i: usize, tag: usize) -> bool
     ensures { λ r. ⌜ r ≡ isOptionalOf (now (table .entry)) tag i ⌝ }
 {
-    let a = crate::member(table, i);
-    if wire::byte_at(&table[a..], 2) == 1 {
-        return wire::int_at(&table[a..], 4) == tag;
+    let row = crate::member_row(table, i);
+    if row.mark == 1 {
+        return row.tag == tag;
     }
     false
 }
 
-// A member row before m, of owner o, is optional and has this tag.
-fn is_tag_before(table: &[u8], o: usize, m: usize, tag: usize) -> bool
-    ensures { λ r. ⌜ r ≡ isTagBefore (now (table .entry)) o m tag ⌝ }
+// A member row from `first` on and before m is optional and has this tag.
+fn is_tag_before(table: &[u8], first: usize, m: usize, tag: usize) -> bool
+    ensures { λ r. ⌜ r ≡ isTagBefore (now (table .entry)) first m tag ⌝ }
 {
-    let mut i = crate::field(table, o, 0);
+    let mut i = first;
     while i < m {
         if is_optional_of(table, i, tag) {
             return true;
@@ -324,70 +332,102 @@ fn is_tag_before(table: &[u8], o: usize, m: usize, tag: usize) -> bool
     false
 }
 
-// The rules of a required member of owner o, by its type and tag.
-fn required_row(table: &[u8], o: usize, t: usize, tag: usize) -> usize
-    ensures { λ r. ⌜ r ≡ firstOf (requiredRules (now (table .entry)) o t tag) ⌝ }
+// The same, of a tag below `above`. Where every tag before is below it, no other can be alike: rising tags are not looked for.
+fn is_tag_alike(table: &[u8], first: usize, m: usize, above: usize, tag: usize) -> bool
+    ensures { λ r. ⌜ r ≡ isTagAlike (now (table .entry)) first m above tag ⌝ }
 {
-    if tag != 0 {
+    if above <= tag {
+        return false;
+    }
+    is_tag_before(table, first, m, tag)
+}
+
+// The rules of a required member of owner o.
+fn required_row(table: &[u8], o: usize, row: MemberRow) -> usize
+    ensures { λ r. ⌜ r ≡ firstOf (requiredRules (now (table .entry)) o row) ⌝ }
+{
+    if row.tag != 0 {
         return 32;
     }
-    if no_part(table, o, t) {
+    if no_part(table, o, row.of) {
         return 34;
     }
     0
 }
 
-// The rules of member row m of owner o with another mark, by its type, mark and tag.
-fn optional_row(table: &[u8], o: usize, m: usize, t: usize, mark: usize, tag: usize) -> usize
-    ensures { λ r. ⌜ r ≡ firstOf (optionalRules (now (table .entry)) o m t mark tag) ⌝ }
+// The rules of member row m of owner o with another mark.
+fn optional_row(
+    table: &[u8],
+    o: usize,
+    owner: TypeRow,
+    m: usize,
+    row: MemberRow,
+    above: usize,
+) -> usize
+    ensures { λ r. ⌜ r ≡ firstOf (optionalRules (now (table .entry)) o owner row (isTagAlike (now (table .entry)) (owner .a) m above (row .tag))) ⌝ }
 {
-    if no_part(table, o, t) {
+    if no_part(table, o, row.of) {
         return 34;
     }
-    if 1 < mark {
+    if 1 < row.mark {
         return 36;
     }
-    if crate::kind(table, o) == 9 {
+    if owner.kind == 9 {
         return 36;
     }
-    if 2147483648 <= tag {
+    if 2147483648 <= row.tag {
         return 38;
     }
-    if is_tag_before(table, o, m, tag) {
+    if is_tag_alike(table, owner.a, m, above, row.tag) {
         return 38;
     }
     0
 }
 
 // The class of member row m of owner o, or 0.
-fn member_row(table: &[u8], o: usize, m: usize) -> usize
-    ensures { λ r. ⌜ r ≡ firstOf (memberRulesOf (now (table .entry)) o m) ⌝ }
+fn member_class(
+    table: &[u8],
+    o: usize,
+    owner: TypeRow,
+    m: usize,
+    row: MemberRow,
+    above: usize,
+) -> usize
+    ensures { λ r. ⌜ r ≡ firstOf (memberRulesBy (now (table .entry)) o owner row (isTagAlike (now (table .entry)) (owner .a) m above (row .tag))) ⌝ }
 {
-    let a = crate::member(table, m);
-    if wire::byte_at(&table[a..], 3) != 0 {
+    if row.spare != 0 {
         return 32;
     }
-    let t = wire::short_at(&table[a..], 0);
-    let mark = wire::byte_at(&table[a..], 2);
-    let tag = wire::int_at(&table[a..], 4);
-    if mark == 0 {
-        return required_row(table, o, t, tag);
+    if row.mark == 0 {
+        return required_row(table, o, row);
     }
-    optional_row(table, o, m, t, mark, tag)
+    optional_row(table, o, owner, m, row, above)
 }
 
-// The member rows of owner o.
+// Above the tags so far and this one.
+fn raised(above: usize, tag: usize) -> usize
+    requires { ⌜ tag < 4294967296 ⌝ }
+    ensures { λ r. ⌜ r ≡ max above (tag + 1) ⌝ }
+{
+    if above <= tag { tag + 1 } else { above }
+}
+
+// The member rows of owner o; the tags before m are below `above`.
 fn owner(table: &[u8], o: usize) -> Verdict
     ensures { λ r. ⌜ r ≡ verdictOf (ownerPass (now (table .entry)) o) ⌝ }
 {
-    let mut left = share(table, o);
-    let mut m = crate::field(table, o, 0);
     let start = 12 + 12 * crate::types(table);
+    let own = crate::type_row(table, o);
+    let mut left = share(own);
+    let mut m = own.a;
+    let mut above = 0;
     while left > 0 {
-        let c = member_row(table, o, m);
+        let row = crate::member_row(table, m);
+        let c = member_class(table, o, own, m, row, above);
         if c != 0 {
             return Verdict::Broken(c, start + 8 * m);
         }
+        above = raised(above, row.tag);
         m += 1;
         left -= 1;
     }

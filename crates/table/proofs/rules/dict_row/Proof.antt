@@ -8,10 +8,8 @@ pub dict-row-spec : {M : Type 1} → statement M
 dict-row-spec =
     tie.close
     (tie.spec
-    (λ c κs. search needs)  -- field-requires
     (λ c κs. search needs)  -- no-part-requires
     (λ c. search dict-key)  -- returns
-    (λ c κs. search needs)  -- field-requires-2
     (λ c κs. search needs)  -- no-part-requires-2
     (λ c. search dict-value)  -- returns-2
     (λ c. search dict-fine))  -- returns-3

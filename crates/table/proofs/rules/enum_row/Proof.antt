@@ -8,8 +8,6 @@ pub enum-row-spec : {M : Type 1} → statement M
 enum-row-spec =
     tie.close
     (tie.spec
-    (λ c κs. search needs)  -- field-requires
-    (λ c κs. search needs)  -- field-requires-2
     (λ c. search needs)  -- mul-if1
     (λ c. search needs)  -- add-if1
     (λ c. search enum-great)  -- returns

@@ -8,7 +8,6 @@ pub is-set-from-b-spec : {M : Type 1} → statement M
 is-set-from-b-spec =
     tie.close
     (tie.spec
-    (λ c κs. search needs)  -- field-requires
     (λ c. search set-b)  -- returns
     (λ c κs. search needs)  -- is-set-from-c-requires
     (λ c. search clear-b))  -- returns-2

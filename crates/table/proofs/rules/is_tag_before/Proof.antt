@@ -7,10 +7,10 @@ use Rattle.table.proofs.rules.is_tag_before.Statement.{statement}
 use Rattle.table.proofs.rules.is_tag_before.Tie as tie
 
 abbrev Inv-loop : tie.InvT-loop
-Inv-loop table o m tag i₀ i = Tags table o m tag i
+Inv-loop table first m tag i₀ i = Tags table first m tag i
 
 abbrev μ-loop : tie.MeasureT-loop
-μ-loop table o m tag i₀ i = m - i
+μ-loop table first m tag i₀ i = m - i
 
 pub is-tag-before-spec : {M : Type 1} → statement M
 is-tag-before-spec =
@@ -18,7 +18,6 @@ is-tag-before-spec =
     (tie.spec
     Inv-loop
     μ-loop
-    (λ c κs. search needs)  -- field-requires
     (λ c. search tags-begin)  -- loop-holds
     (λ c κs. search needs)  -- is-optional-of-requires
     (λ c. search tags-here)  -- returns

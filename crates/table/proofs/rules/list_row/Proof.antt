@@ -1,5 +1,4 @@
 -- By its one rule. Assumes nothing.
-use borrow.Author.Needs.{needs}
 use Rattle.table.proofs.Judging.{list-first, list-fine}
 use Rattle.table.proofs.rules.list_row.Statement.{statement}
 use Rattle.table.proofs.rules.list_row.Tie as tie
@@ -8,6 +7,5 @@ pub list-row-spec : {M : Type 1} → statement M
 list-row-spec =
     tie.close
     (tie.spec
-    (λ c κs. search needs)  -- field-requires
     (λ c. search list-first)  -- returns
     (λ c. search list-fine))  -- returns-2

@@ -12,5 +12,4 @@ no-base-spec =
     (λ c. search base-over)  -- returns-2
     (λ c. search needs)  -- sub-kind
     (λ c κs. search needs)  -- kind-requires
-    (λ c κs. search needs)  -- kind-requires-2
     (λ c. search base-kinds))  -- returns-3

@@ -11,9 +11,8 @@ optional-row-spec =
     (λ c κs. search needs)  -- no-part-requires
     (λ c. search optional-part)  -- returns
     (λ c. search optional-mark)  -- returns-2
-    (λ c κs. search needs)  -- kind-requires
     (λ c. search optional-struct)  -- returns-3
     (λ c. search optional-great)  -- returns-4
-    (λ c κs. search needs)  -- is-tag-before-requires
+    (λ c κs. search needs)  -- is-tag-alike-requires
     (λ c. search optional-alike)  -- returns-5
     (λ c. search optional-fine))  -- returns-6

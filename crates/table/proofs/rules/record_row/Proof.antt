@@ -8,16 +8,12 @@ pub record-row-spec : {M : Type 1} → statement M
 record-row-spec =
     tie.close
     (tie.spec
-    (λ c κs. search needs)  -- field-requires
     (λ c κs. search needs)  -- no-base-requires
     (λ c. search record-base)  -- returns
-    (λ c κs. search needs)  -- field-requires-2
     (λ c. search record-first)  -- returns-2
-    (λ c κs. search needs)  -- field-requires-3
     (λ c. search record-empty)  -- returns-3
     (λ c. search record-long)  -- returns-4
     (λ c κs. search needs)  -- names-requires
-    (λ c κs. search needs)  -- field-requires-4
     (λ c. search needs)  -- add-if5
     (λ c. search record-outside)  -- returns-5
     (λ c κs. search needs)  -- alike-requires

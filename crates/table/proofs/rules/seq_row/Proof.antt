@@ -8,7 +8,6 @@ pub seq-row-spec : {M : Type 1} → statement M
 seq-row-spec =
     tie.close
     (tie.spec
-    (λ c κs. search needs)  -- field-requires
     (λ c κs. search needs)  -- no-part-requires
     (λ c. search seq-broken)  -- returns
     (λ c. search seq-fine))  -- returns-2

@@ -8,8 +8,6 @@ pub share-spec : {M : Type 1} → statement M
 share-spec =
     tie.close
     (tie.spec
-    (λ c κs. search needs)  -- kind-requires
     (λ c κs. search needs)  -- owns-requires
-    (λ c κs. search needs)  -- field-requires
     (λ c. search (needs, share-own))  -- returns
     (λ c. search (needs, share-none)))  -- returns-2

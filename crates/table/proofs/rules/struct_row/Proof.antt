@@ -1,5 +1,4 @@
 -- Its rules in turn. Assumes nothing.
-use borrow.Author.Needs.{needs}
 use Rattle.table.proofs.Judging.{struct-first, struct-empty, struct-fine}
 use Rattle.table.proofs.rules.struct_row.Statement.{statement}
 use Rattle.table.proofs.rules.struct_row.Tie as tie
@@ -8,8 +7,6 @@ pub struct-row-spec : {M : Type 1} → statement M
 struct-row-spec =
     tie.close
     (tie.spec
-    (λ c κs. search needs)  -- field-requires
     (λ c. search struct-first)  -- returns
-    (λ c κs. search needs)  -- field-requires-2
     (λ c. search struct-empty)  -- returns-2
     (λ c. search struct-fine))  -- returns-3

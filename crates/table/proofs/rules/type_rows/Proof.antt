@@ -21,12 +21,13 @@ type-rows-spec =
     (λ c κs. search needs)  -- types-requires
     (λ c. search types-begin)  -- loop-holds
     (λ c κs. search needs)  -- type-row-requires
-    (λ c. omega (arith, c .before .before .before .loop .inv .few))  -- mul-t7
-    (λ c. omega (arith, c .before .before .before .loop .inv .few))  -- add-t8
+    (λ c κs. search needs)  -- type-class-requires
+    (λ c. omega arith)  -- mul-t8
+    (λ c. omega arith)  -- add-t9
     (λ c. search types-fault)  -- returns
     (λ c κs. search needs)  -- share-requires
-    (λ c. omega (arith, c .before .before .before .before .loop .inv .few, c .before .before .before .before .loop .inv .sum .bound))  -- add-prior
-    (λ c. omega (arith, c .before .before .before .before .loop .inv .few))  -- add-t
+    (λ c. omega arith)  -- add-prior
+    (λ c. omega arith)  -- add-t
     (λ c. omega arith)  -- loop-less
     (λ c. search types-next)  -- loop-again
     (λ c κs. search needs)  -- members-requires

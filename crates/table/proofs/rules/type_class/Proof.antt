@@ -1,16 +1,14 @@
 -- The rules of every row in turn, then those of the row's kind. Assumes nothing.
 use borrow.Author.Needs.{needs}
 use Rattle.table.proofs.Judging.{row-spare, row-unused, row-unknown, row-known}
-use Rattle.table.proofs.rules.type_row.Statement.{statement}
-use Rattle.table.proofs.rules.type_row.Tie as tie
+use Rattle.table.proofs.rules.type_class.Statement.{statement}
+use Rattle.table.proofs.rules.type_class.Tie as tie
 
-pub type-row-spec : {M : Type 1} → statement M
-type-row-spec =
+pub type-class-spec : {M : Type 1} → statement M
+type-class-spec =
     tie.close
     (tie.spec
-    (λ c κs. search needs)  -- spare-requires
     (λ c. search row-spare)  -- returns
-    (λ c κs. search needs)  -- kind-requires
     (λ c κs. search needs)  -- is-unused-set-requires
     (λ c. search row-unused)  -- returns-2
     (λ c. search row-unknown)  -- returns-3
