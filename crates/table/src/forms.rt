@@ -113,17 +113,25 @@ fn form(table: &[u8], forms: &[u8; 256], t: usize) -> u8
     plain(k)
 }
 
-// The form of each row, as its number; rows that the table has not stand as broken ones.
-pub fn all(table: &[u8]) -> [u8; 256]
-    ensures { λ r. ⌜ r ≡ formsOf (now (table .entry)) ⌝ }
+// Sets the form of each row, as its number; rows that the table has not stand as broken ones.
+pub fn fill(table: &[u8], forms: &mut [u8; 256])
+    ensures { λ _. ⌜ now (forms .exit) ≡ formsOf (now (table .entry)) ⌝ }
 {
     let n = crate::rows(table);
-    let mut forms = [10u8; 256];
+    *forms = [10u8; 256];
     let mut t = 0;
     while t < n {
-        let f = form(table, &forms, t);
+        let f = form(table, forms, t);
         forms[t] = f;
         t += 1;
     }
+}
+
+// The forms of all rows.
+pub fn all(table: &[u8]) -> [u8; 256]
+    ensures { λ r. ⌜ r ≡ formsOf (now (table .entry)) ⌝ }
+{
+    let mut forms = [10u8; 256];
+    fill(table, &mut forms);
     forms
 }

@@ -5,17 +5,17 @@ use mathlib.Core.Path.{_≡_}
 use native.Mathlib.Omega.{arith}
 use Rattle.encoding.specs.Table.{typeRows}
 use Rattle.table.proofs.Shapes.{Filling, filling-begin, filling-done, filling-next, filling-end}
-use Rattle.table.proofs.forms.all.Statement.{statement}
-use Rattle.table.proofs.forms.all.Tie as tie
+use Rattle.table.proofs.forms.fill.Statement.{statement}
+use Rattle.table.proofs.forms.fill.Tie as tie
 
 abbrev Inv-loop : tie.InvT-loop
-Inv-loop table n forms₀ t₀ forms t = (n ≡ typeRows table) × (n ≤ 256) × (t ≤ n) × Filling table forms t
+Inv-loop table forms₀ n t₀ forms t = (n ≡ typeRows table) × (n ≤ 256) × (t ≤ n) × Filling table forms t
 
 abbrev μ-loop : tie.MeasureT-loop
-μ-loop table n forms₀ t₀ forms t = n - t
+μ-loop table forms₀ n t₀ forms t = n - t
 
-pub all-spec : {M : Type 1} → statement M
-all-spec =
+pub fill-spec : {M : Type 1} → statement M
+fill-spec =
     tie.close
     (tie.spec
     Inv-loop
@@ -23,7 +23,7 @@ all-spec =
     (λ c κs. search needs)  -- rows-requires
     (λ c. search (needs, filling-begin))  -- loop-holds
     (λ c κs. search (needs, filling-done))  -- form-requires
-    (λ c. search needs)  -- array-write-forms
+    (λ c. search needs)  -- element-write-forms
     (λ c. omega arith)  -- add-t
     (λ c. omega arith)  -- loop-less
     (λ c. search (needs, filling-next))  -- loop-again
