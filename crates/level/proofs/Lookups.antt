@@ -2,6 +2,8 @@
 --
 --   form-here, form-past    the number of a row's form, in the array and past its end
 --   row-form                the form of a row's type, by its number in the array
+--   type-here, type-past    the row of a member's type, where there is such a member and where there is none
+--   row-type, typed         the tree of the row of a member's type, and the row as the code finds it
 --   optional-of             an optional's type is that of its row
 --   Met, met                what the code's look-up of a tag tells: the member, of that row and its type
 --   unmet                   no member has the tag
@@ -18,13 +20,14 @@ use borrow.Author.Tests.{ltb-true, ltb-false, lt-ltb, le-ltb}
 use Rattle.encoding.specs.Result.{pick}
 use Rattle.encoding.specs.Types.{Ty, formOf}
 use Rattle.encoding.specs.TableLaws.{ty-past}
-use Rattle.encoding.specs.Table.{range, mark, tag, memberTy, trees, tyOf, Member, optionalOf, ownRows, optional, lookup}
+use Rattle.encoding.specs.Table.{members, range, memberType, mark, tag, memberTy, trees, tyOf, Member, optionalOf, ownRows, optional, lookup}
 use Rattle.table.specs.declared.Found.the-variants.{At, Nothing}
 use Rattle.table.specs.Found.{rowFound}
 use Rattle.table.specs.Forms.{formNumber, formAt, formsOf}
-use Rattle.table.proofs.Places.{rows-below}
+use Rattle.table.proofs.Places.{rows-below, member-row, no-member}
 use Rattle.level.specs.Forms.{formNamed, formIn}
 use Rattle.level.specs.FormsLaws.{named-number}
+use Rattle.level.specs.Answers.{typeOf, typeRow}
 
 -- ---- forms
 
@@ -52,6 +55,27 @@ form-row T t = go (ltb t 256) refl
     go false e = rw (ty-past T t (omega (arith, rows-below T, ltb-false t 256 e)))
 
 -- ---- members
+
+module _ (all m i : ℕ) where
+  pub type-here : m < all → i ≡ typeOf all m i
+  unfolding typeOf
+  type-here h = rw (lt-ltb m all h)
+
+  pub type-past : all ≤ m → 256 ≡ typeOf all m i
+  unfolding typeOf
+  type-past h = rw (le-ltb m all h)
+
+pub row-type : (T : List ℕ) (m r : ℕ) → r ≡ typeRow T m → tyOf T r ≡ memberTy T (trees T) m
+unfolding typeRow typeOf
+row-type T m r e = go (ltb m (members T)) refl e
+  where
+    go : (b : Bool) → ltb m (members T) ≡ b → r ≡ pick b (memberType T m) 256 → tyOf T r ≡ memberTy T (trees T) m
+    go true q e = member-row T m (members T) r refl (ltb-true m (members T) q) e
+    go false q e = ap (tyOf T) e ∙ no-member T m (members T) refl (ltb-false m (members T) q)
+
+pub typed : (T : List ℕ) (m all i r : ℕ) → all ≡ members T → i ≡ memberType T m → r ≡ typeOf all m i → r ≡ typeRow T m
+unfolding typeRow
+typed T m all i r ea ei e = rw (← ea, ← ei) e
 
 optional-type : (T : List ℕ) (l : List Ty) (rs : List ℕ) (k : ℕ) (m : Member) → lookup k (optionalOf T l rs) ≡ some m → m .ty ≡ memberTy T l (m .row)
 unfolding optionalOf lookup
@@ -102,6 +126,6 @@ unmet T t k h = go (lookup k (optional T t)) refl h
 pub row-form : (T forms : List ℕ) (ty g : ℕ) → forms ≡ formsOf T → g ≡ formIn forms ty → formNamed g ≡ formOf (tyOf T ty)
 row-form T forms ty g ef eg = ap formNamed (eg ∙ ap (λ (l : List ℕ). formIn l ty) ef ∙ form-row T ty) ∙ named-number (formOf (tyOf T ty))
 
-pub met-form : (T forms : List ℕ) (t k row ty g : ℕ) (M : Met T t k row) → forms ≡ formsOf T → tyOf T ty ≡ memberTy T (trees T) row → g ≡ formIn forms ty
+pub met-form : (T forms : List ℕ) (t k row ty g : ℕ) (M : Met T t k row) → forms ≡ formsOf T → ty ≡ typeRow T row → g ≡ formIn forms ty
     → formNamed g ≡ formOf (M .member .ty)
-met-form T forms t k row ty g M ef et eg = row-form T forms ty g ef eg ∙ ap formOf (et ∙ sym (M .type))
+met-form T forms t k row ty g M ef et eg = row-form T forms ty g ef eg ∙ ap formOf (row-type T row ty et ∙ sym (M .type))

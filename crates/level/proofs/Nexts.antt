@@ -16,7 +16,7 @@ use Rattle.encoding.specs.Result.{Res, ok, bad, shift, after, _>>=_, made, mapc
 use Rattle.encoding.specs.ResultLaws.{held-took, held-refused}
 use Rattle.encoding.specs.Types.{Bits, bits, bitsAt, Form, formOf, Ty}
 use Rattle.encoding.specs.Value.{value}
-use Rattle.encoding.specs.Table.{tyOf, memberTy, trees, Member, lookup}
+use Rattle.encoding.specs.Table.{tyOf, Member, lookup}
 use Rattle.encoding.specs.Table
 use Rattle.encoding.specs.Optional.{optional, skipped, Header, header, extent, part, content, optionalOf}
 use Rattle.encoding.specs.OptionalLaws.{held-header, held-extent}
@@ -29,21 +29,21 @@ use Rattle.level.specs.declared.Part.the-variants.{Is, Isnt}
 use Rattle.level.specs.declared.Optional.the-variants.{Known, Skipped, Wrong}
 use Rattle.level.specs.Forms.{formNamed, formIn}
 use Rattle.level.specs.FormsLaws.{bits-back}
-use Rattle.level.specs.Answers.{headFor, headOf, partOf, rowOr, pieceAnswer, optionalAnswer}
+use Rattle.level.specs.Answers.{typeRow, headFor, headOf, partOf, rowOr, pieceAnswer, optionalAnswer}
 use Rattle.level.proofs.Told.{part-is, part-isnt}
-use Rattle.level.proofs.Lookups.{row-form, optional-of}
+use Rattle.level.proofs.Lookups.{row-form, row-type, optional-of}
 use Rattle.level.proofs.Parts.{used-within, used-placed, used-sum}
 
 -- ---- what a header's answer tells
 
-record HeadKnown (T : List ℕ) (t least : ℕ) (s : List ℕ) (row tag n : ℕ) : Type 0 where
+record HeadKnown (T : List ℕ) (t least : ℕ) (s : List ℕ) (row ty tag n : ℕ) : Type 0 where
   head : Header
   member : Member
   is : header (Table.optional T t) least s ≡ ok head n
   there : lookup (head .tag) (Table.optional T t) ≡ some member
   row-is : member .row ≡ row
   tag-is : head .tag ≡ tag
-  type : member .ty ≡ memberTy T (trees T) row
+  type : tyOf T ty ≡ member .ty
 
 record HeadLost (T : List ℕ) (t least : ℕ) (s : List ℕ) (tag k n : ℕ) : Type 0 where
   head : Header
@@ -52,20 +52,20 @@ record HeadLost (T : List ℕ) (t least : ℕ) (s : List ℕ) (tag k n : ℕ) : 
   tag-is : head .tag ≡ tag
   bits-is : bits (head .type) ≡ k
 
-module _ (T : List ℕ) (t least : ℕ) (s : List ℕ) (h : Head) (e : h ≡ headOf (Table.optional T t) (header (Table.optional T t) least s)) where
-  head-known : (row tag n : ℕ) → h ≡ Knows row tag n → HeadKnown T t least s row tag n
+module _ (T : List ℕ) (t least : ℕ) (s : List ℕ) (h : Head) (e : h ≡ headOf T (Table.optional T t) (header (Table.optional T t) least s)) where
+  head-known : (row ty tag n : ℕ) → h ≡ Knows row ty tag n → HeadKnown T t least s row ty tag n
   unfolding headOf headFor
-  head-known row tag n q = go (header (Table.optional T t) least s) refl (sym q ∙ e)
+  head-known row ty tag n q = go (header (Table.optional T t) least s) refl (sym q ∙ e)
     where
       told : (x : Header) (l : ℕ) → header (Table.optional T t) least s ≡ ok x l → (o : Option Member) → lookup (x .tag) (Table.optional T t) ≡ o
-          → Knows row tag n ≡ headFor o x l → HeadKnown T t least s row tag n
+          → Knows row ty tag n ≡ headFor T o x l → HeadKnown T t least s row ty tag n
       told x l f none g z = let w : _≡_ {A = ℕ} 0 1 = cc in absurd (omega arith)
       told x l f (some m) g z =
           let el : l ≡ n = cc in
-          let er : m .row ≡ row = cc in
-          record { head = x; member = m; is = f ∙ ap (ok x) el; there = g; row-is = er; tag-is = cc; type = optional-of T t (x .tag) m g ∙ ap (memberTy T (trees T)) er }
+          let ey : ty ≡ typeRow T (m .row) = cc in
+          record { head = x; member = m; is = f ∙ ap (ok x) el; there = g; row-is = cc; tag-is = cc; type = row-type T (m .row) ty ey ∙ sym (optional-of T t (x .tag) m g) }
 
-      go : (x : Res Header) → header (Table.optional T t) least s ≡ x → Knows row tag n ≡ headOf (Table.optional T t) x → HeadKnown T t least s row tag n
+      go : (x : Res Header) → header (Table.optional T t) least s ≡ x → Knows row ty tag n ≡ headOf T (Table.optional T t) x → HeadKnown T t least s row ty tag n
       go (ok x l) f z = told x l f (lookup (x .tag) (Table.optional T t)) refl z
       go (bad c p) f z = let w : _≡_ {A = ℕ} 0 1 = cc in absurd (omega arith)
 
@@ -74,11 +74,11 @@ module _ (T : List ℕ) (t least : ℕ) (s : List ℕ) (h : Head) (e : h ≡ hea
   head-lost tag k n q = go (header (Table.optional T t) least s) refl (sym q ∙ e)
     where
       told : (x : Header) (l : ℕ) → header (Table.optional T t) least s ≡ ok x l → (o : Option Member) → lookup (x .tag) (Table.optional T t) ≡ o
-          → Unknows tag k n ≡ headFor o x l → HeadLost T t least s tag k n
+          → Unknows tag k n ≡ headFor T o x l → HeadLost T t least s tag k n
       told x l f none g z = let el : l ≡ n = cc in record { head = x; is = f ∙ ap (ok x) el; there = g; tag-is = cc; bits-is = cc }
       told x l f (some m) g z = let w : _≡_ {A = ℕ} 0 1 = cc in absurd (omega arith)
 
-      go : (x : Res Header) → header (Table.optional T t) least s ≡ x → Unknows tag k n ≡ headOf (Table.optional T t) x → HeadLost T t least s tag k n
+      go : (x : Res Header) → header (Table.optional T t) least s ≡ x → Unknows tag k n ≡ headOf T (Table.optional T t) x → HeadLost T t least s tag k n
       go (ok x l) f z = told x l f (lookup (x .tag) (Table.optional T t)) refl z
       go (bad c p) f z = let w : _≡_ {A = ℕ} 0 1 = cc in absurd (omega arith)
 
@@ -86,67 +86,66 @@ module _ (T : List ℕ) (t least : ℕ) (s : List ℕ) (h : Head) (e : h ≡ hea
   unfolding headOf headFor optionalOf _>>=_ after optionalAnswer
   next-wrong c p q = go (header (Table.optional T t) least s) refl (sym q ∙ e)
     where
-      told : (x : Header) (l : ℕ) (o : Option Member) → Errs c p ≡ headFor o x l → _≡_ {A = ℕ} 0 1
+      told : (x : Header) (l : ℕ) (o : Option Member) → Errs c p ≡ headFor T o x l → _≡_ {A = ℕ} 0 1
       told x l none z = cc
       told x l (some m) z = cc
 
-      go : (x : Res Header) → header (Table.optional T t) least s ≡ x → Errs c p ≡ headOf (Table.optional T t) x
+      go : (x : Res Header) → header (Table.optional T t) least s ≡ x → Errs c p ≡ headOf T (Table.optional T t) x
           → Wrong c p ≡ optionalAnswer (Table.optional T t) (optionalOf (Table.optional T t) least s)
       go (ok x l) f z = let w = told x l (lookup (x .tag) (Table.optional T t)) z in absurd (omega arith)
       go (bad d y) f z = let g : header (Table.optional T t) least s ≡ bad c p = f ∙ cc in rw g
 
-  pub head-fits : (row tag n : ℕ) → h ≡ Knows row tag n → n ≤ length s
-  head-fits row tag n q = held-took (header (Table.optional T t) least) (held-header (Table.optional T t) least) s (head-known row tag n q .is)
+  pub head-fits : (row ty tag n : ℕ) → h ≡ Knows row ty tag n → n ≤ length s
+  head-fits row ty tag n q = held-took (header (Table.optional T t) least) (held-header (Table.optional T t) least) s (head-known row ty tag n q .is)
 
   pub lost-fits : (tag k n : ℕ) → h ≡ Unknows tag k n → n ≤ length s
   lost-fits tag k n q = held-took (header (Table.optional T t) least) (held-header (Table.optional T t) least) s (head-lost tag k n q .is)
 
   -- ---- a known value
 
-  module _ (row tag n : ℕ) (q : h ≡ Knows row tag n) (ty : ℕ) (et : tyOf T ty ≡ memberTy T (trees T) row) (forms : List ℕ) (ef : forms ≡ formsOf T)
+  module _ (row ty tag n : ℕ) (q : h ≡ Knows row ty tag n) (forms : List ℕ) (ef : forms ≡ formsOf T)
       (f : ℕ) (eg : f ≡ formIn forms ty) (p : Part) (ep : p ≡ partOf (inside (part (formNamed f)) (bytes (value (tyOf T ty))) (take (length s - n) (drop n s)))) where
     -- the part, as the definition has it
-    known-part : (K : HeadKnown T t least s row tag n) → p ≡ partOf (inside (part (formOf (K .member .ty))) (bytes (value (K .member .ty))) (drop n s))
+    known-part : (K : HeadKnown T t least s row ty tag n) → p ≡ partOf (inside (part (formOf (K .member .ty))) (bytes (value (K .member .ty))) (drop n s))
     known-part K =
-        let y : tyOf T ty ≡ K .member .ty = et ∙ sym (K .type) in
-        let g : formNamed f ≡ formOf (K .member .ty) = row-form T forms ty f ef eg ∙ ap formOf y in
-        ep ∙ ap₂ (λ (a : Form) (b : Ty). partOf (inside (part a) (bytes (value b)) (take (length s - n) (drop n s)))) g y
+        let g : formNamed f ≡ formOf (K .member .ty) = row-form T forms ty f ef eg ∙ ap formOf (K .type) in
+        ep ∙ ap₂ (λ (a : Form) (b : Ty). partOf (inside (part a) (bytes (value b)) (take (length s - n) (drop n s)))) g (K .type)
         ∙ ap (λ (l : List ℕ). partOf (inside (part (formOf (K .member .ty))) (bytes (value (K .member .ty))) l)) (rest-is s n)
 
-    known-is : (K : HeadKnown T t least s row tag n) → optionalOf (Table.optional T t) least s
+    known-is : (K : HeadKnown T t least s row ty tag n) → optionalOf (Table.optional T t) least s
         ≡ shift n (made (λ x _. (x, suc (K .head .tag))) (made (λ b _. optional (K .head .tag) (formOf (K .member .ty)) b) (inside (part (formOf (K .member .ty))) (bytes (value (K .member .ty))) (drop n s))))
     unfolding optionalOf _>>=_ after mapc content
     known-is K = rw (K .is, K .there)
 
     pub known-end : (a e : ℕ) → p ≡ Is a e → Fits w64 (length s) → Fits w64 (n + e)
-    known-end a e z l = go (head-known row tag n q)
+    known-end a e z l = go (head-known row ty tag n q)
       where
-        go : HeadKnown T t least s row tag n → Fits w64 (n + e)
+        go : HeadKnown T t least s row ty tag n → Fits w64 (n + e)
         go K =
             let D = part-is (inside (part (formOf (K .member .ty))) (bytes (value (K .member .ty))) (drop n s)) a e (sym z ∙ known-part K) in
-            omega (arith, used-within (formOf (K .member .ty)) (K .member .ty) (drop n s) (D .0) e (D .1), length-drop n s, head-fits row tag n q)
+            omega (arith, used-within (formOf (K .member .ty)) (K .member .ty) (drop n s) (D .0) e (D .1), length-drop n s, head-fits row ty tag n q)
 
     pub known-from : (a e : ℕ) → p ≡ Is a e → Fits w64 (length s) → Fits w64 (n + a)
-    known-from a e z l = go (head-known row tag n q)
+    known-from a e z l = go (head-known row ty tag n q)
       where
-        go : HeadKnown T t least s row tag n → Fits w64 (n + a)
+        go : HeadKnown T t least s row ty tag n → Fits w64 (n + a)
         go K =
             let D = part-is (inside (part (formOf (K .member .ty))) (bytes (value (K .member .ty))) (drop n s)) a e (sym z ∙ known-part K) in
-            omega (arith, used-within (formOf (K .member .ty)) (K .member .ty) (drop n s) (D .0) e (D .1), length-drop n s, head-fits row tag n q, D .2)
+            omega (arith, used-within (formOf (K .member .ty)) (K .member .ty) (drop n s) (D .0) e (D .1), length-drop n s, head-fits row ty tag n q, D .2)
 
     pub known-place : (c k : ℕ) → p ≡ Isnt c k → Fits w64 (length s) → Fits w64 (n + k)
-    known-place c k z l = go (head-known row tag n q)
+    known-place c k z l = go (head-known row ty tag n q)
       where
-        go : HeadKnown T t least s row tag n → Fits w64 (n + k)
+        go : HeadKnown T t least s row ty tag n → Fits w64 (n + k)
         go K =
             let D = part-isnt (inside (part (formOf (K .member .ty))) (bytes (value (K .member .ty))) (drop n s)) c k (sym z ∙ known-part K) in
-            omega (arith, used-placed (formOf (K .member .ty)) (K .member .ty) (drop n s) c k D, length-drop n s, head-fits row tag n q)
+            omega (arith, used-placed (formOf (K .member .ty)) (K .member .ty) (drop n s) c k D, length-drop n s, head-fits row ty tag n q)
 
     pub next-known : (a e : ℕ) → p ≡ Is a e → Known row tag (n + a) (n + e) ≡ optionalAnswer (Table.optional T t) (optionalOf (Table.optional T t) least s)
     unfolding shift made optionalAnswer pieceAnswer rowOr
-    next-known a e z = go (head-known row tag n q)
+    next-known a e z = go (head-known row ty tag n q)
       where
-        go : HeadKnown T t least s row tag n → Known row tag (n + a) (n + e) ≡ optionalAnswer (Table.optional T t) (optionalOf (Table.optional T t) least s)
+        go : HeadKnown T t least s row ty tag n → Known row tag (n + a) (n + e) ≡ optionalAnswer (Table.optional T t) (optionalOf (Table.optional T t) least s)
         go K = more (part-is (inside (part (formOf (K .member .ty))) (bytes (value (K .member .ty))) (drop n s)) a e (sym z ∙ known-part K))
           where
             more : (d : List ℕ) × (inside (part (formOf (K .member .ty))) (bytes (value (K .member .ty))) (drop n s) ≡ ok d e) × (a ≡ e - length d)
@@ -157,9 +156,9 @@ module _ (T : List ℕ) (t least : ℕ) (s : List ℕ) (h : Head) (e : h ≡ hea
 
     pub next-refused : (c k : ℕ) → p ≡ Isnt c k → Wrong c (n + k) ≡ optionalAnswer (Table.optional T t) (optionalOf (Table.optional T t) least s)
     unfolding shift made optionalAnswer
-    next-refused c k z = go (head-known row tag n q)
+    next-refused c k z = go (head-known row ty tag n q)
       where
-        go : HeadKnown T t least s row tag n → Wrong c (n + k) ≡ optionalAnswer (Table.optional T t) (optionalOf (Table.optional T t) least s)
+        go : HeadKnown T t least s row ty tag n → Wrong c (n + k) ≡ optionalAnswer (Table.optional T t) (optionalOf (Table.optional T t) least s)
         go K =
             sym (ap (optionalAnswer (Table.optional T t)) (known-is K)
             ∙ rw (part-isnt (inside (part (formOf (K .member .ty))) (bytes (value (K .member .ty))) (drop n s)) c k (sym z ∙ known-part K)))

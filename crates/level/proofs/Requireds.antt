@@ -34,8 +34,9 @@ use Rattle.table.proofs.Ranges.{range-left, range-empty}
 use Rattle.wire.specs.StepLaws.{rest-is, step-fault}
 use Rattle.level.specs.declared.Members.the-variants.{Read, Refused}
 use Rattle.level.specs.Fill.{fill}
-use Rattle.level.specs.Answers.{membersOf}
+use Rattle.level.specs.Answers.{membersOf, typeRow}
 use Rattle.level.specs.RequiredLaws.{memberAt, Ahead, ahead-begin, ahead-past, ahead-next, required-past, required-next, piece-row}
+use Rattle.level.proofs.Lookups.{row-type}
 use Rattle.level.proofs.Told.{step-took}
 
 -- the pieces still to come, where all are accepted, and what they make of the list as it is
@@ -129,7 +130,7 @@ module _ (T : List ℕ) (t at count : ℕ) (s out₀ : List ℕ) (m left pos k :
         }
 
     -- ---- a required member
-    module _ (g : ℕ) (eg : g ≡ mark T m) (z : g ≡ 0) (ty : ℕ) (et : tyOf T ty ≡ memberTy T (trees T) m)
+    module _ (g : ℕ) (eg : g ≡ mark T m) (z : g ≡ 0) (ty : ℕ) (et : ty ≡ typeRow T m)
         (r : Step) (er : r ≡ stepOf (value (tyOf T ty) (take (length s - pos) (drop pos s)))) where
       abbrev rest : List Member
       rest = requiredOf T (trees T) (suc (D .seen)) (range (m + 1) (left - 1))
@@ -145,7 +146,7 @@ module _ (T : List ℕ) (t at count : ℕ) (s out₀ : List ℕ) (m left pos k :
       requireds-split = ap (λ (l : List Member). requireds l (drop pos s)) ms-split
 
       answer : r ≡ stepOf (value (memberTy T (trees T) m) (drop pos s))
-      answer = rw (et, rest-is s pos) at er
+      answer = rw (row-type T m ty et, rest-is s pos) at er
 
       value-held : (n : ℕ) → r ≡ Took n → n ≤ length s - pos
       value-held n q =

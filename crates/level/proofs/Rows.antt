@@ -1,32 +1,47 @@
 -- A row put as its three numbers. Assumes nothing.
 --
---   row-put     where the row fits, the three numbers one behind another are its bytes
---   row-over    where it does not, nothing is put
+--   row-numbers    in a row's twelve bytes, the three numbers one behind another are its bytes
+--   row-put        where the row fits, its bytes take the place of the part that begins there
+--   row-over       where it does not, nothing is put
 use mathlib.Core.Path.{_≡_, sym, ap, _∙_}
-use mathlib.Core.List.{List, _++_}
-use Prim.Native.Nat.{ℕ, _+_, _*_, _/_, _≤_, _<_}
+use mathlib.Core.List.{List, _++_, append-assoc, append-nil}
+use Prim.Native.Nat.{ℕ, _+_, _-_, _*_, _/_, _≤_, _<_}
 use native.Mathlib.Omega.{arith}
-use lib.ListN.{length, length-append}
+use lib.ListN.{length, take, drop, length-append, drop-of-length-le}
+use lib.Seq.{drop-drop}
+use borrow.Rule.Slice.PartMut.{putMid}
 use Rattle.encoding.specs.Number.{leBytes}
 use Rattle.encoding.specs.NumberLaws.{length-leBytes}
 use Rattle.encoding.specs.Message.{Row, rowBytes}
 use Rattle.wire.specs.Put.{put}
-use Rattle.wire.specs.PutLaws.{put-put, put-over}
+use Rattle.wire.specs.PutLaws.{put-put, put-front, put-fits, put-over}
 use Rattle.level.specs.FillLaws.{length-row}
 
-pub row-put : (k m p l : ℕ) (out a b c : List ℕ) → k < length out / 12 → a ≡ put (12 * k) (leBytes 4 m) out
-    → b ≡ put (12 * k + 4) (leBytes 4 p) a → c ≡ put (12 * k + 8) (leBytes 4 l) b
-    → c ≡ put (12 * k) (rowBytes (record { member = m; place = p; len = l })) out
+pub row-numbers : (m p l : ℕ) (row a b c : List ℕ) → length row ≡ 12 → a ≡ put 0 (leBytes 4 m) row → b ≡ put 4 (leBytes 4 p) a → c ≡ put 8 (leBytes 4 l) b
+    → c ≡ rowBytes (record { member = m; place = p; len = l })
 unfolding rowBytes
-row-put k m p l out a b c h ea eb ec =
+row-numbers m p l row a b c h ea eb ec =
+    let r : Row = record { member = m; place = p; len = l } in
     let lm = length-leBytes 4 m in
     let lp = length-leBytes 4 p in
     let ll = length-leBytes 4 l in
     let two = length-append (leBytes 4 m) (leBytes 4 p) in
+    let n = length-row r in
     ec
-    ∙ ap (λ (z : List ℕ). put (12 * k + 8) (leBytes 4 l) z) (eb ∙ ap (λ (z : List ℕ). put (12 * k + 4) (leBytes 4 p) z) ea
-    ∙ put-put (12 * k) (12 * k + 4) (leBytes 4 m) (leBytes 4 p) out (omega arith) (omega arith))
-    ∙ put-put (12 * k) (12 * k + 8) (leBytes 4 m ++ leBytes 4 p) (leBytes 4 l) out (omega arith) (omega arith)
+    ∙ ap (λ (z : List ℕ). put 8 (leBytes 4 l) z) (eb ∙ ap (λ (z : List ℕ). put 4 (leBytes 4 p) z) ea ∙ put-put 0 4 (leBytes 4 m) (leBytes 4 p) row (omega arith) (omega arith))
+    ∙ put-put 0 8 (leBytes 4 m ++ leBytes 4 p) (leBytes 4 l) row (omega arith) (omega arith)
+    ∙ put-front (rowBytes r) row (omega arith)
+    ∙ ap (λ (z : List ℕ). rowBytes r ++ z) (drop-of-length-le row {i = length (rowBytes r)} (omega arith)) ∙ append-nil (rowBytes r)
+
+pub row-put : (k : ℕ) (r : Row) (out last : List ℕ) → k < length out / 12 → last ≡ rowBytes r → putMid (12 * k) (12 * k + 12 - 12 * k) out last ≡ put (12 * k) (rowBytes r) out
+row-put k r out last h q =
+    let n = length-row r in
+    let e : 12 * k + (12 * k + 12 - 12 * k) ≡ 12 * k + length (rowBytes r) = omega arith in
+    let d : drop (12 * k + 12 - 12 * k) (drop (12 * k) out) ≡ drop (12 * k + length (rowBytes r)) out = drop-drop (12 * k + 12 - 12 * k) (12 * k) out ∙ ap (λ (i : ℕ). drop i out) e in
+    ap (λ (z : List ℕ). take (12 * k) out ++ (z ++ drop (12 * k + 12 - 12 * k) (drop (12 * k) out))) q
+    ∙ ap (λ (z : List ℕ). take (12 * k) out ++ (rowBytes r ++ z)) d
+    ∙ sym (append-assoc (take (12 * k) out) (rowBytes r) (drop (12 * k + length (rowBytes r)) out))
+    ∙ sym (put-fits (12 * k) (rowBytes r) out (omega arith))
 
 pub row-over : (k : ℕ) (r : Row) (out : List ℕ) → length out / 12 ≤ k → out ≡ put (12 * k) (rowBytes r) out
 row-over k r out h = sym (put-over (12 * k) (rowBytes r) out (omega (arith, length-row r)))

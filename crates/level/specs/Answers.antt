@@ -6,7 +6,9 @@
 --   optionalAnswer    the next optional: a known one with its member row, its tag, where its bytes begin and the bytes taken; or a skipped one
 --   front             a header before it is judged; frontOf what the code answers of it
 --   early             the judgements of a header before the last: 12 for form and order, 13; or 0
---   headFor, headOf   a header: of a known tag with its member row, or of an unknown one
+--   typeOf all m i    the row of the type of member m, of `all` members, whose row says i; where there is no such member, a row without a tree
+--   typeRow T m       the same of the table's
+--   headFor, headOf   a header: of a known tag with its member row and the row of its type, or of an unknown one
 --   partOf            declared bytes: where those delivered begin, and the bytes taken; wholePart all of them delivered
 use mathlib.Core.Bool.{Bool, _&&_}
 use mathlib.Core.Option.{Option, none, some}
@@ -14,10 +16,10 @@ use mathlib.Core.List.{List, [], _∷_}
 use Prim.Native.Nat.{ℕ, _+_, _-_}
 use lib.ListN.{length}
 use lib.Dec.{eqb, ltb}
-use Rattle.encoding.specs.Result.{Res, ok, bad, Parser, _>>=_, must, firstOf}
+use Rattle.encoding.specs.Result.{Res, ok, bad, Parser, pick, _>>=_, must, firstOf}
 use Rattle.encoding.specs.Number.{byte}
 use Rattle.encoding.specs.Types.{bits}
-use Rattle.encoding.specs.Table.{Member, lookup}
+use Rattle.encoding.specs.Table.{members, memberType, Member, lookup}
 use Rattle.encoding.specs.Table
 use Rattle.encoding.specs.Optional.{Piece, required, optional, skipped, Header, firstForm, headerTail}
 use Rattle.level.specs.declared.Members.{Members}
@@ -60,13 +62,19 @@ frontOf (bad c p) = Frontless c p
 unfoldable pub early : ℕ → Bool → ℕ → ℕ → ℕ
 early least long tag k = firstOf ((12, long && ltb tag 30) ∷ (12, ltb tag least) ∷ (13, eqb k 7) ∷ [])
 
-unfoldable pub headFor : Option Member → Header → ℕ → Head
-headFor none h n = UnknownHead (h .tag) (bits (h .type)) n
-headFor (some m) h n = KnownHead (m .row) (h .tag) n
+unfoldable pub typeOf : ℕ → ℕ → ℕ → ℕ
+typeOf all m i = pick (ltb m all) i 256
 
-unfoldable pub headOf : List Member → Res Header → Head
-headOf ms (ok h n) = headFor (lookup (h .tag) ms) h n
-headOf ms (bad c p) = WrongHead c p
+unfoldable pub typeRow : List ℕ → ℕ → ℕ
+typeRow T m = typeOf (members T) m (memberType T m)
+
+unfoldable pub headFor : List ℕ → Option Member → Header → ℕ → Head
+headFor T none h n = UnknownHead (h .tag) (bits (h .type)) n
+headFor T (some m) h n = KnownHead (m .row) (typeRow T (m .row)) (h .tag) n
+
+unfoldable pub headOf : List ℕ → List Member → Res Header → Head
+headOf T ms (ok h n) = headFor T (lookup (h .tag) ms) h n
+headOf T ms (bad c p) = WrongHead c p
 
 -- ---- declared bytes
 

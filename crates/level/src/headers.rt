@@ -85,7 +85,7 @@ fn form_bits(f: usize) -> usize
 // A header, judged: 12 for form and order, 13, 12 for a known tag of another type.
 pub fn header(table: &[u8], forms: &[u8; 256], t: usize, least: usize, s: &[u8]) -> Head
     requires { ⌜ now forms ≡ formsOf (now table) ⌝ }
-    ensures { λ r. ⌜ r ≡ headOf (optional (now (table .entry)) t) (header (optional (now (table .entry)) t) least (now (s .entry))) ⌝ }
+    ensures { λ r. ⌜ r ≡ headOf (now (table .entry)) (optional (now (table .entry)) t) (header (optional (now (table .entry)) t) least (now (s .entry))) ⌝ }
 {
     let f = front(s);
     match f {
@@ -97,8 +97,10 @@ pub fn header(table: &[u8], forms: &[u8; 256], t: usize, least: usize, s: &[u8])
             let found = table::chain::tag_member(table, t, tag);
             match found {
                 Found::At(m) => {
-                    if k == form_bits(form_at(forms, table::type_of_member(table, m))) {
-                        Head::Known(m, tag, n)
+                    let row = table::member_row(table, m);
+                    let ty = crate::type_of(table::members(table), m, row.of);
+                    if k == form_bits(form_at(forms, ty)) {
+                        Head::Known(m, ty, tag, n)
                     } else {
                         Head::Wrong(12, 0)
                     }

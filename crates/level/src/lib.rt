@@ -14,7 +14,7 @@ ghost use Rattle.encoding.specs.Optional.{Piece, requireds};
 ghost use Rattle.encoding.specs.Message.{rowBytes, pieceRows};
 ghost use Rattle.wire.specs.Put.{put};
 ghost use Rattle.level.specs.Fill.{fill};
-ghost use Rattle.level.specs.Answers.{membersOf};
+ghost use Rattle.level.specs.Answers.{membersOf, typeOf};
 use wire::Step;
 
 // The bytes taken and the rows there are; or a refusal's number and place.
@@ -36,9 +36,9 @@ pub enum Front {
     Isnt(usize, usize),
 }
 
-// A header. Of a known tag: the member row, the tag, the bytes taken. Of an unknown one: the tag, the type bits, the bytes taken. Or a refusal's number and place.
+// A header. Of a known tag: the member row, the row of its type, the tag, the bytes taken. Of an unknown one: the tag, the type bits, the bytes taken. Or a refusal's number and place.
 pub enum Head {
-    Known(usize, usize, usize),
+    Known(usize, usize, usize, usize),
     Unknown(usize, usize, usize),
     Wrong(usize, usize),
 }
@@ -49,15 +49,30 @@ pub enum Part {
     Isnt(usize, usize),
 }
 
+// The row of the type of member m, of `all` members, whose row says `of`; where there is no such member, a row without a tree.
+pub fn type_of(all: usize, m: usize, of: usize) -> usize
+    ensures { λ r. ⌜ r ≡ typeOf all m of ⌝ }
+{
+    if m < all { of } else { 256 }
+}
+
+// Puts the three numbers of a row into its twelve bytes.
+fn put_numbers(row: &mut [u8], member: usize, place: usize, len: usize)
+    requires { ⌜ length (now row) ≡ 12 ⌝ }
+    ensures { λ _. ⌜ now (row .exit) ≡ rowBytes (record { member = member; place = place; len = len }) ⌝ }
+{
+    wire::put_number(row, 0, 4, member);
+    wire::put_number(row, 4, 4, place);
+    wire::put_number(row, 8, 4, len);
+}
+
 // Puts row k into the lent list, where it fits.
 pub fn put_row(out: &mut [u8], k: usize, member: usize, place: usize, len: usize)
     ensures { λ _. ⌜ now (out .exit) ≡ put (12 * k) (rowBytes (record { member = member; place = place; len = len })) (now (out .entry)) ⌝ }
 {
     if k < out.len() / 12 {
         let a = 12 * k;
-        wire::put_number(out, a, 4, member);
-        wire::put_number(out, a + 4, 4, place);
-        wire::put_number(out, a + 8, 4, len);
+        put_numbers(&mut out[a..a + 12], member, place, len);
     }
 }
 
@@ -75,17 +90,20 @@ pub fn required(
     ensures { λ _. ⌜ length (now (out .exit)) ≡ length (now (out .entry)) ⌝ }
     ensures { λ _. ⌜ ((ps : List Piece) (n : ℕ) → requireds (required (now (table .entry)) t) (now (s .entry)) ≡ ok ps n → now (out .exit) ≡ fill count (pieceRows (now (table .entry)) t at ps) (now (out .entry))) ⌝ }
 {
-    let mut m = table::field(table, t, 0);
-    let mut left = table::field(table, t, 1);
+    let all = table::members(table);
+    let owner = table::type_row(table, t);
+    let mut m = owner.a;
+    let mut left = owner.b;
     let mut pos = 0;
     let mut k = count;
     while left > 0 {
-        if table::mark(table, m) != 0 {
+        let row = table::member_row(table, m);
+        if row.mark != 0 {
             m += 1;
             left -= 1;
             continue;
         }
-        let step = value::read_value(table, table::type_of_member(table, m), &s[pos..]);
+        let step = value::read_value(table, type_of(all, m, row.of), &s[pos..]);
         match step {
             Step::Took(n) => {
                 put_row(out, k, m, at + pos, n);

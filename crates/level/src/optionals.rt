@@ -42,8 +42,7 @@ pub fn optional(table: &[u8], forms: &[u8; 256], t: usize, least: usize, s: &[u8
 {
     let h = crate::headers::header(table, forms, t, least, s);
     match h {
-        Head::Known(m, tag, n) => {
-            let ty = table::type_of_member(table, m);
+        Head::Known(m, ty, tag, n) => {
             let p = used_up(table, ty, &s[n..], crate::headers::form_at(forms, ty));
             match p {
                 Part::Is(a, e) => Optional::Known(m, tag, n + a, n + e),

@@ -1,4 +1,4 @@
--- A row is its three numbers, laid one behind another where all of them fit. Assumes nothing.
+-- A row's bytes take the place of twelve, where it fits. Assumes nothing.
 use borrow.Author.Needs.{needs}
 use Rattle.level.proofs.Rows.{row-put, row-over}
 use Rattle.level.proofs.put_row.Statement.{statement}
@@ -9,11 +9,11 @@ put-row-spec =
     tie.close
     (tie.spec
     (λ c. search needs)  -- mul-a
-    (λ c κs. search needs)  -- put-number-requires
-    (λ c. search needs)  -- add-put-number
-    (λ c κs. search needs)  -- put-number-requires-2
-    (λ c. search needs)  -- add-put-number-2
-    (λ c κs. search needs)  -- put-number-requires-3
+    (λ c. search needs)  -- add-put-numbers
+    (λ c. search needs)  -- sub-put-numbers
+    (λ c. search needs)  -- part-put-numbers-start
+    (λ c. search needs)  -- part-put-numbers-end
+    (λ c κs. search needs)  -- put-numbers-requires
     (λ c. search needs)  -- same-length
     (λ c. search row-put)  -- returns
     (λ c. search row-over))  -- returns-2

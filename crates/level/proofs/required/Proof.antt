@@ -1,15 +1,16 @@
 -- The loop's invariant: the answer and the list come of the rows that are left. The measure is their number. Assumes nothing.
 use borrow.Author.Needs.{needs}
 use native.Mathlib.Omega.{arith}
+use Rattle.level.proofs.Lookups.{typed}
 use Rattle.level.proofs.Requireds.{Due, due-begin, due-past, due-next, due-fault, due-never, due-says, due-gives, due-room, due-place}
 use Rattle.level.proofs.required.Statement.{statement}
 use Rattle.level.proofs.required.Tie as tie
 
 abbrev Inv-loop : tie.InvT-loop
-Inv-loop table t s at count out₀ m₀ left₀ pos₀ k₀ out m left pos k = Due table t at count s out₀ m left pos k out
+Inv-loop table t s at count out₀ all m₀ left₀ pos₀ k₀ out m left pos k = Due table t at count s out₀ m left pos k out
 
 abbrev μ-loop : tie.MeasureT-loop
-μ-loop table t s at count out₀ m₀ left₀ pos₀ k₀ out m left pos k = left
+μ-loop table t s at count out₀ all m₀ left₀ pos₀ k₀ out m left pos k = left
 
 pub required-spec : {M : Type 1} → statement M
 required-spec =
@@ -17,15 +18,15 @@ required-spec =
     (tie.spec
     Inv-loop
     μ-loop
-    (λ c κs. search needs)  -- field-requires
-    (λ c κs. search needs)  -- field-requires-2
+    (λ c κs. search needs)  -- members-requires
+    (λ c κs. search needs)  -- type-row-requires
     (λ c. search due-begin)  -- loop-holds
-    (λ c κs. search needs)  -- mark-requires
+    (λ c κs. search needs)  -- member-row-requires
     (λ c. omega arith)  -- add-m
     (λ c. omega arith)  -- sub-left
     (λ c. omega arith)  -- loop-less
     (λ c. search due-past)  -- loop-again
-    (λ c κs. search needs)  -- type-of-member-requires
+    (λ c κs. search needs)  -- type-of-requires
     (λ c. search needs)  -- sub-read-value
     (λ c. search needs)  -- part-read-value-start
     (λ c. search needs)  -- part-read-value-end
@@ -34,14 +35,14 @@ required-spec =
     (λ c. omega arith)  -- add-put-row
     (λ c κs. search needs)  -- put-row-requires
     (λ c. omega arith)  -- add-k
-    (λ c. search due-room)  -- add-pos
+    (λ c. search (due-room, typed))  -- add-pos
     (λ c. omega arith)  -- add-m-2
     (λ c. omega arith)  -- sub-left-2
     (λ c. omega arith)  -- loop-less-2
-    (λ c. search (due-next _ _ _ _ _ _ _ _ _ _ _ (c .before .before .before .before .before .before .before .before .before .before .before .before .before .loop .inv)))  -- loop-again-2
+    (λ c. search (due-next _ _ _ _ _ _ _ _ _ _ _ (c .before .before .before .before .before .before .before .before .before .before .before .before .before .before .loop .inv), typed))  -- loop-again-2
     (λ c. search needs)  -- enum-known-step-2
-    (λ c. search due-place)  -- add-t25
+    (λ c. search (due-place, typed))  -- add-t28
     (λ c. search needs)  -- same-length
-    (λ c. (search due-fault, (search needs, search due-never)))  -- returns
+    (λ c. (search (due-fault, typed), (search needs, search (due-never, typed))))  -- returns
     (λ c. search needs)  -- same-length-2
     (λ c. search (needs, due-says, due-gives)))  -- returns-2
