@@ -177,11 +177,11 @@ module _ (T : List ℕ) (top : ℕ) (m few last R : List ℕ) (w : Walk) (W : Wa
     unfolding reading room
     fits = listed-fits (length R / 12) (answer T top (rules T top m)) R (omega (arith, count))
 
-    pub list-few : n ≤ 64 → length few ≡ 768 → (x : List ℕ) → x ≡ put 0 (take (12 * n) (drop 0 last)) R → x ≡ listed (reading T top m (length R)) R
+    pub list-few : n ≤ 32 → length few ≡ 384 → (x : List ℕ) → x ≡ put 0 (take (12 * n) (drop 0 last)) R → x ≡ listed (reading T top m (length R)) R
     unfolding concat
     list-few l f x ex = ex ∙ ap (λ (i : ℕ). put 0 (take (12 * i) last) R) count ∙ go (answer T top (rules T top m) .rows) (omega (arith, count)) (λ p. laid-answer T top m last few w W p) ∙ sym fits
       where
-        go : (rs : List Row) → (length rs ≤ 64) × (length rs ≤ length R / 12) → (0 < length rs → last ≡ fill 0 rs few)
+        go : (rs : List Row) → (length rs ≤ 32) × (length rs ≤ length R / 12) → (0 < length rs → last ≡ fill 0 rs few)
             → put 0 (take (12 * length rs) last) R ≡ concat rowBytes rs ++ drop (12 * length rs) R
         go [] b F = put-none 0 R
         go (r ∷ rs) b F =
@@ -191,6 +191,6 @@ module _ (T : List ℕ) (top : ℕ) (m few last R : List ℕ) (w : Walk) (W : Wa
             ap (λ (z : List ℕ). put 0 z R) (ap (take (12 * length (r ∷ rs))) e ∙ take-at all (drop (12 * length (r ∷ rs)) few) (12 * length (r ∷ rs)) len)
             ∙ put-front all R (omega arith) ∙ ap (λ (i : ℕ). all ++ drop i R) len
 
-    pub list-again : 64 < n → (x : List ℕ) (u : Walk) → Walked T top m u R x → x ≡ listed (reading T top m (length R)) R
+    pub list-again : 32 < n → (x : List ℕ) (u : Walk) → Walked T top m u R x → x ≡ listed (reading T top m (length R)) R
     list-again l x u U =
         laid-answer T top m x R u U (omega (arith, count)) ∙ laid (answer T top (rules T top m) .rows) R (omega (arith, count)) ∙ sym fits

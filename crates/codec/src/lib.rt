@@ -34,7 +34,7 @@ pub fn read(table: &[u8], top: u32, message: &[u8], rows: &mut [u8]) -> Reading
     ensures { λ _. ⌜ now (rows .exit) ≡ listed (reading (now (table .entry)) top (now (message .entry)) (length (now (rows .entry)))) (now (rows .entry)) ⌝ }
 {
     let t = top as usize;
-    let mut few = [0u8; 768];
+    let mut few = [0u8; 384];
     let w = reading::walk(table, t, message, &mut few);
     let n = reading::row_count(w);
     let k = rows.len() / 12;
@@ -42,7 +42,7 @@ pub fn read(table: &[u8], top: u32, message: &[u8], rows: &mut [u8]) -> Reading
     if k < n {
         return answer;
     }
-    if n <= 64 {
+    if n <= 32 {
         wire::put_part(rows, 0, &few, 0, 12 * n);
         return answer;
     }
