@@ -3,44 +3,47 @@
 --   content-put                            the bytes of a row
 --   header-put-short, header-put-long      a header
 --   length-put-none, length-put-size, length-put-int   a length field
---   form-here, form-past                   the form of a member, from the forms of the rows
+--   form-here, form-past                   the form of a type row, from the forms of the rows
 --   optional-put                           header, length field and content, one behind another
---   row-due, row-may, row-stop             a row as a required member, as an optional one, as none of this owner
+--   row-stop, row-nothing                  a row that is none of this owner, or none that may come
+--   due-wrong, due-right                   a row as a required member, by the judgement on its bytes
+--   may-wrong, may-tagged, may-right       the same as an optional one
 use mathlib.Core.Path.{_≡_, refl, sym, ap, _∙_}
 use mathlib.Core.Bool.{Bool, true, false}
-use mathlib.Core.Option.{none}
+use mathlib.Core.Option.{some}
 use mathlib.Core.List.{List, [], _∷_, _++_, map}
 use Prim.Native.Nat.{ℕ, zero, suc, _+_, _-_, _*_, _≤_, _<_}
 use native.Mathlib.Omega.{arith}
 use native.Mathlib.Nat.{add-zero, zero-add}
 use lib.ListN.{length, take, drop, getD}
-use lib.Dec.{leb}
-use borrow.Author.Tests.{leb-true}
+use lib.Dec.{leb, ltb}
+use borrow.Author.Tests.{leb-true, lt-ltb, le-ltb, ltb-true, ltb-false, eq-eqb}
 use Rattle.encoding.specs.Result.{pick}
 use Rattle.encoding.specs.Number.{leBytes, sizeBytes}
-use Rattle.encoding.specs.Types.{Ty, broken, Form, formOf}
+use Rattle.encoding.specs.Types.{Ty, broken, formOf}
 use Rattle.encoding.specs.Table.{field, types, typeRows, range, tag, trees, tyOf, memberTy}
 use Rattle.encoding.specs.TableLaws.{ty-past}
-use Rattle.encoding.specs.Optional.{required, optional, pieceBytes, isOptional}
+use Rattle.encoding.specs.Optional.{required, optional, isOptional}
 use Rattle.encoding.specs.Message.{Row}
-use Rattle.encoding.specs.Write.{reach, given, partOf, rowAt}
+use Rattle.encoding.specs.Write.{stop, Reached, reach, given, partOf, rowAt}
 use Rattle.table.specs.Forms.{formNumber, formAt, formsOf}
 use Rattle.wire.specs.Put.{put, headerBits}
 use Rattle.wire.specs.PutLaws.{header-bits}
 use Rattle.writer.specs.declared.Cursor.{Cursor}
 use Rattle.writer.specs.declared.Reach.{Reach}
-use Rattle.writer.specs.declared.Reach.the-variants.{Due, May, Nothing}
-use Rattle.writer.specs.Cursors.{requiredIn, mayMember, stateOf, reachedOf, Near, hereOf}
+use Rattle.writer.specs.declared.Reach.the-variants.{Due, May, Above, Nothing}
+use Rattle.writer.specs.Cursors.{requiredIn, stateOf, mayMember, dueReached, mayReached, Gone, ReachedIn}
+use Rattle.writer.specs.Judged.{partForm, judgedRow}
 use Rattle.writer.specs.Puts.{Puts}
 use Rattle.writer.specs.PutsLaws.{puts-one, puts-none, puts-is, puts-number, puts-byte, puts-size, puts-then}
-use Rattle.writer.specs.Pieces.{headerField, formBits, lengthField, takenOf, pieceAt, RowLaid}
+use Rattle.writer.specs.Pieces.{headerField, formBits, lengthField, formIn, optionalField, hereOf, takenOf, pieceAt, RowLaid}
 use Rattle.writer.specs.PiecesLaws.{required-bytes, optional-bytes, header-short, header-long, length-none, length-size, length-int}
-use Rattle.writer.proofs.Reaches.{near-due, near-may}
+use Rattle.writer.proofs.Judges.{row-none, row-refused, row-right}
 
-pub content-put : (buffer : List ℕ) (r : Row) (p n : ℕ) → p ≡ r .place → n ≡ r .len → (at k : ℕ) (out last : List ℕ)
-    → last ≡ put at (take n (drop p buffer)) out → k ≡ length (partOf buffer r) → Puts at (partOf buffer r) out last (at + k)
+pub content-put : (buffer : List ℕ) (r : Row) (at k : ℕ) (out last : List ℕ)
+    → last ≡ put at (take (r .len) (drop (r .place) buffer)) out → k ≡ length (partOf buffer r) → Puts at (partOf buffer r) out last (at + k)
 unfolding partOf
-content-put buffer r p n ep en at k out last e f = puts-one at _ out last (at + k) (rw (← ep, ← en) e) (ap (λ (z : ℕ). at + z) f)
+content-put buffer r at k out last e f = puts-one at _ out last (at + k) e (ap (λ (z : ℕ). at + z) f)
 
 -- ---- the header
 
@@ -85,58 +88,98 @@ rows-few T = go (leb (types T) 256) refl
     go true e = leb-true (types T) 256 e
     go false e = omega arith
 
-module _ (T forms : List ℕ) (ef : forms ≡ formsOf T) (t : ℕ) (w : Ty) (et : tyOf T t ≡ w) where
-  pub form-here : t < 256 → (r : ℕ) → r ≡ getD forms t 0 → r ≡ formNumber (formOf w)
-  unfolding formsOf formAt
-  form-here h r e = e ∙ ap (λ (l : List ℕ). getD l t 0) ef ∙ getD-range (formAt T) 0 256 t h ∙ ap (formAt T) (zero-add t) ∙ ap (λ (x : Ty). formNumber (formOf x)) et
+module _ (forms : List ℕ) (t : ℕ) where
+  pub form-here : t < 256 → (r : ℕ) → r ≡ getD forms t 0 → r ≡ formIn forms t
+  unfolding formIn
+  form-here h r e = rw (lt-ltb t 256 h) e
 
-  pub form-past : 256 ≤ t → 10 ≡ formNumber (formOf w)
-  unfolding formNumber formOf
-  form-past h = let e : w ≡ broken = sym et ∙ ty-past T t (omega (arith, rows-few T)) in rw e
+  pub form-past : 256 ≤ t → 10 ≡ formIn forms t
+  unfolding formIn
+  form-past h = rw (le-ltb t 256 h)
+
+  form-is : (T : List ℕ) → forms ≡ formsOf T → formIn forms t ≡ formNumber (formOf (tyOf T t))
+  unfolding formIn formsOf formAt formNumber formOf
+  form-is T e = go (ltb t 256) refl
+    where
+      go : (b : Bool) → ltb t 256 ≡ b → pick b (getD forms t 0) 10 ≡ formNumber (formOf (tyOf T t))
+      go true q = ap (λ (l : List ℕ). getD l t 0) e ∙ getD-range (formAt T) 0 256 t (ltb-true t 256 q) ∙ ap (formAt T) (zero-add t)
+      go false q = let f : tyOf T t ≡ broken = ty-past T t (omega (arith, rows-few T, ltb-false t 256 q)) in rw f
 
 -- ---- an optional
 
-pub optional-put : (t : ℕ) (f : Form) (b : List ℕ) (key form k n at : ℕ) (out one two last : List ℕ) (d e g : ℕ)
-    → key ≡ t → form ≡ formNumber f → k ≡ formBits form → n ≡ length b
-    → Puts at (headerField key k) out one d → Puts d (lengthField form n) one two e → Puts e b two last g
-    → Puts at (pieceBytes (optional t f b)) out last g
-optional-put t f b key form k n at out one two last d e g et ef ek en p q r =
-    let z : headerField key k ++ lengthField form n ++ b ≡ headerField t (formBits (formNumber f)) ++ lengthField (formNumber f) (length b) ++ b = rw (et, ek, ef, en) in
-    puts-is at _ _ out last g (z ∙ sym (optional-bytes t f b))
-    (puts-then at (headerField key k ++ lengthField form n) out two e (puts-then at (headerField key k) out one d p (lengthField form n) two e q) b last g r)
+pub optional-put : (t form k n at : ℕ) (b out one two last : List ℕ) (d e g : ℕ) → k ≡ formBits form → n ≡ length b
+    → Puts at (headerField t k) out one d → Puts d (lengthField form n) one two e → Puts e b two last g → Puts at (optionalField t form b) out last g
+unfolding optionalField
+optional-put t form k n at b out one two last d e g ek en p q r =
+    let z : headerField t k ++ lengthField form n ++ b ≡ headerField t (formBits form) ++ lengthField form (length b) ++ b = rw (ek, en) in
+    puts-is at _ _ out last g z (puts-then at (headerField t k ++ lengthField form n) out two e (puts-then at (headerField t k) out one d p (lengthField form n) two e q) b last g r)
 
 -- ---- a row
 
-module _ (T rows buffer : List ℕ) (i m : ℕ) (em : m ≡ rowAt rows i .member) (from : Cursor) (r : Reach)
-    (e : reachedOf T m r ≡ hereOf (from .owner) (reach T m (stateOf T from))) where
-  piece-is : takenOf (partOf buffer (rowAt rows i)) (reachedOf T m r) ≡ pieceAt T rows buffer (stateOf T from) i
-  unfolding pieceAt stateOf
-  piece-is = ap (takenOf (partOf buffer (rowAt rows i))) e ∙ rw em
+-- the piece of what is reached
+piece-is : (T rows buffer : List ℕ) (i : ℕ) (r : Row) → r ≡ rowAt rows i → (from : Cursor) (z : Reached) → reach T (r .member) (stateOf T from) ≡ some z → z .state .owner ≡ from .owner
+    → pieceAt T rows buffer (stateOf T from) i ≡ some (record { piece = given z (partOf buffer r) .piece; state = z .state })
+unfolding pieceAt takenOf hereOf stateOf
+piece-is T rows buffer i r er from z e o = rw (← er, e, eq-eqb (from .owner) (z .state .owner) (sym o))
 
-  module _ (at : ℕ) (out : List ℕ) (n : Near r) (c : Cursor) (last : List ℕ) (end : ℕ) (few : end ≤ at + 66000) where
-    pub row-due : r ≡ Due c → Puts at (partOf buffer (rowAt rows i)) out last end → RowLaid T at out last (pieceAt T rows buffer (stateOf T from) i) c end false
-    unfolding takenOf reachedOf given isOptional
-    row-due q p = record {
-      piece = required (requiredIn T (field T (c .owner) 0) (c .passed - 1)) (partOf buffer (rowAt rows i));
-      is = sym piece-is ∙ rw q;
-      puts = puts-is at _ _ out last end (sym (required-bytes _ _)) p;
-      flag = refl;
-      near = near-due r n c q;
-      few = few;
-    }
+module _ (T rows buffer : List ℕ) (i : ℕ) (r : Row) (er : r ≡ rowAt rows i) (from : Cursor) (a : Reach) (h : ReachedIn T from (r .member) a) where
+  pub row-stop : a ≡ Above → Gone T from (rowAt rows i .member)
+  row-stop q = rw (← er) (rw q at h)
 
-    pub row-may : r ≡ May c → Puts at (pieceBytes (optional (tag T m) (formOf (memberTy T (trees T) m)) (partOf buffer (rowAt rows i)))) out last end
-        → RowLaid T at out last (pieceAt T rows buffer (stateOf T from) i) c end true
-    unfolding takenOf reachedOf given isOptional mayMember
-    row-may q p = record {
-      piece = optional (tag T m) (formOf (memberTy T (trees T) m)) (partOf buffer (rowAt rows i));
-      is = sym piece-is ∙ rw q;
-      puts = p;
-      flag = refl;
-      near = near-may r n c q;
-      few = few;
-    }
+  pub row-nothing : a ≡ Nothing → judgedRow T rows buffer (stateOf T from) i ≡ stop 20 i
+  row-nothing q = row-none T rows buffer i r er (stateOf T from) (rw q at h)
 
-  pub row-stop : r ≡ Nothing → pieceAt T rows buffer (stateOf T from) i ≡ none
-  unfolding takenOf reachedOf
-  row-stop q = sym piece-is ∙ rw q
+  module _ (c : Cursor) (t form : ℕ) (et : tyOf T t ≡ memberTy T (trees T) (r .member)) (ef : form ≡ partForm buffer r (tyOf T t)) where
+    -- the judgement on its bytes
+    form-of : form ≡ partForm buffer r (memberTy T (trees T) (r .member))
+    form-of = ef ∙ ap (partForm buffer r) et
+
+    module _ (q : a ≡ Due c) where
+      due-of : ReachedIn T from (r .member) (Due c)
+      due-of = rw q at h
+
+      pub due-wrong : (form ≡ 0 → ⊥) → judgedRow T rows buffer (stateOf T from) i ≡ stop form i
+      unfolding dueReached
+      due-wrong n = row-refused T rows buffer i r er (stateOf T from) _ (due-of .0) form form-of n
+
+      pub due-right : form ≡ 0 → (at : ℕ) (out last : List ℕ) (end : ℕ) → end ≤ at + 66000 → Puts at (partOf buffer r) out last end → RowLaid T rows buffer from i at out last c end false
+      unfolding dueReached given isOptional stateOf
+      due-right n at out last end few p = record {
+        piece = required (requiredIn T (field T (c .owner) 0) (c .passed - 1)) (partOf buffer r);
+        is = piece-is T rows buffer i r er from _ (due-of .0) (due-of .1);
+        right = row-right T rows buffer i r er (stateOf T from) _ (due-of .0) form form-of n;
+        same = due-of .1;
+        puts = puts-is at _ _ out last end (sym (required-bytes _ _)) p;
+        flag = refl;
+        near = due-of .2;
+        few = few;
+      }
+
+    module _ (q : a ≡ May c) where
+      may-of : ReachedIn T from (r .member) (May c)
+      may-of = rw q at h
+
+      pub may-wrong : (form ≡ 0 → ⊥) → judgedRow T rows buffer (stateOf T from) i ≡ stop form i
+      unfolding mayReached mayMember
+      may-wrong n = row-refused T rows buffer i r er (stateOf T from) _ (may-of .0) form form-of n
+
+      pub may-tagged : 1 ≤ c .least
+      may-tagged = let e : c .least ≡ tag T (r .member) + 1 = may-of .3 in omega arith
+
+      pub may-right : form ≡ 0 → (forms : List ℕ) → forms ≡ formsOf T → (f : ℕ) → f ≡ formIn forms t → (at : ℕ) (out last : List ℕ) (end : ℕ) → end ≤ at + 66000
+          → Puts at (optionalField (c .least - 1) f (partOf buffer r)) out last end → RowLaid T rows buffer from i at out last c end true
+      unfolding mayReached mayMember given isOptional stateOf
+      may-right n forms eo f eq at out last end few p =
+          let least : c .least ≡ tag T (r .member) + 1 = may-of .3 in
+          let k : c .least - 1 ≡ tag T (r .member) = omega arith in
+          let b : f ≡ formNumber (formOf (memberTy T (trees T) (r .member))) = eq ∙ form-is forms t T eo ∙ ap (λ (x : Ty). formNumber (formOf x)) et in
+          record {
+            piece = optional (tag T (r .member)) (formOf (memberTy T (trees T) (r .member))) (partOf buffer r);
+            is = piece-is T rows buffer i r er from _ (may-of .0) (may-of .1);
+            right = row-right T rows buffer i r er (stateOf T from) _ (may-of .0) form form-of n;
+            same = may-of .1;
+            puts = puts-is at _ _ out last end (sym (optional-bytes _ _ _)) (rw (k, b) at p);
+            flag = refl;
+            near = may-of .2;
+            few = few;
+          }

@@ -1,5 +1,6 @@
 -- A slice: its data, and what stands before them. Assumes nothing.
 --
+--   still-wrong                  rows that are refused stay refused
 --   data-marked, data-plain      the rows of an owner, with and without byte 255 behind them
 --   front-sized, front-plain     flags, type ID and, in sliced format, a size
 --   front-long, front-short      how many bytes stand before the data
@@ -19,31 +20,46 @@ use Rattle.wire.specs.Put.{put}
 use Rattle.writer.specs.declared.Laid.{Laid}
 use Rattle.writer.specs.Puts.{Puts}
 use Rattle.writer.specs.PutsLaws.{puts-none, puts-is, puts-number, puts-byte, puts-then, puts-under}
-use Rattle.writer.specs.Slices.{groupOf, sliceOf, formatBy, idField, frontField, sliceField, RowsLaid, DataLaid, SliceLaid}
+use Rattle.writer.specs.Slices.{groupOf, sliceOf, formatBy, idField, frontField, sliceField, Judges, RowsPut, DataPut, SlicePut}
 
 -- ---- the data
 
-module _ (T rows buffer : List ℕ) (count o i at : ℕ) (out mid : List ℕ) (d : Laid) (l : RowsLaid T rows buffer count o i at out mid d) where
-  pub data-marked : d .optionals ≡ true → (last : List ℕ) → last ≡ put (d .end) (leBytes 1 255) mid
-      → DataLaid T rows buffer count o i at out last (record { end = d .end + 1; row = d .row; optionals = true })
-  unfolding dataBytes sliceOf
-  data-marked q last e = record {
-    puts = rw (sym (l .flag) ∙ q) (puts-then at _ out mid (d .end) (l .puts) (255 ∷ []) last (d .end + 1) (puts-byte 255 (d .end) mid last (omega arith) e));
-    next = l .next;
-    flag = sym q ∙ l .flag;
-    within = l .within;
-    few = omega (arith, l .few);
-  }
+pub still-wrong : (T rows buffer : List ℕ) (count o i : ℕ) (r : Laid) (A B : Type 0) → Judges T rows buffer count o i r A → (r .fault ≡ 0 → ⊥) → Judges T rows buffer count o i r B
+still-wrong T rows buffer count o i r A B j n = record { right = λ e. absurd (n e); wrong = j .wrong }
 
-  pub data-plain : d .optionals ≡ false → DataLaid T rows buffer count o i at out mid d
+module _ (T rows buffer : List ℕ) (count o i at : ℕ) (out mid : List ℕ) (d : Laid) (j : RowsPut T rows buffer count o i at out mid d) (z : d .fault ≡ 0) where
+  pub data-marked : d .optionals ≡ true → (last : List ℕ) → last ≡ put (d .end) (leBytes 1 255) mid
+      → DataPut T rows buffer count o i at out last (record { end = d .end + 1; row = d .row; optionals = true; fault = 0 })
   unfolding dataBytes sliceOf
-  data-plain q = record {
-    puts = rw (sym (l .flag) ∙ q) (puts-then at _ out mid (d .end) (l .puts) [] mid (d .end) (puts-none (d .end) mid));
-    next = l .next;
-    flag = l .flag;
-    within = l .within;
-    few = omega (arith, l .few);
-  }
+  data-marked q last e =
+      let l = j .right z in
+      record {
+        right = λ _. record {
+          puts = rw (sym (l .flag) ∙ q) (puts-then at _ out mid (d .end) (l .puts) (255 ∷ []) last (d .end + 1) (puts-byte 255 (d .end) mid last (omega arith) e));
+          next = l .next;
+          flag = sym q ∙ l .flag;
+          within = l .within;
+          rest = l .rest;
+          few = omega (arith, l .few);
+        };
+        wrong = λ n. absurd (n refl);
+      }
+
+  pub data-plain : d .optionals ≡ false → DataPut T rows buffer count o i at out mid d
+  unfolding dataBytes sliceOf
+  data-plain q =
+      let l = j .right z in
+      record {
+        right = λ _. record {
+          puts = rw (sym (l .flag) ∙ q) (puts-then at _ out mid (d .end) (l .puts) [] mid (d .end) (puts-none (d .end) mid));
+          next = l .next;
+          flag = l .flag;
+          within = l .within;
+          rest = l .rest;
+          few = omega (arith, l .few);
+        };
+        wrong = λ n. absurd (n z);
+      }
 
 -- ---- the front
 
@@ -86,17 +102,22 @@ front-short T o id s k e q = rw (q, e) (sym (add-zero _))
 -- ---- the slice
 
 pub slice-laid : (T rows buffer : List ℕ) (count o i at : ℕ) (id s end : Bool) (k n e : ℕ) (out mid last : List ℕ) (d : Laid)
-    → k ≡ 1 + length (idField T o id) + pick s 4 0 → k ≤ 65545 → DataLaid T rows buffer count o i (at + k) out mid d
+    → k ≡ 1 + length (idField T o id) + pick s 4 0 → k ≤ 65545 → DataPut T rows buffer count o i (at + k) out mid d → d .fault ≡ 0
     → n ≡ d .end - (at + k) → Puts at (frontField T o (formatBy s) id (d .optionals) end n) mid last e
-    → SliceLaid T rows buffer count (formatBy s) id end o i at out last d
+    → SlicePut T rows buffer count (formatBy s) id end o i at out last d
 unfolding sliceField
-slice-laid T rows buffer count o i at id s end k n e out mid last d ek h l en p =
+slice-laid T rows buffer count o i at id s end k n e out mid last d ek h j z en p =
+    let l = j .right z in
     let w = dataBytes (sliceOf T rows buffer count o i) in
-    let z : n ≡ length w = omega (arith, l .puts .ends) in
-    let q : frontField T o (formatBy s) id (d .optionals) end n ≡ frontField T o (formatBy s) id (anyOptional (groupOf T rows buffer count o i)) end (length w) = rw (l .flag, z) in
+    let y : n ≡ length w = omega (arith, l .puts .ends) in
+    let q : frontField T o (formatBy s) id (d .optionals) end n ≡ frontField T o (formatBy s) id (anyOptional (groupOf T rows buffer count o i)) end (length w) = rw (l .flag, y) in
     record {
-      puts = puts-under at (at + k) _ w out mid last e (d .end) (omega (arith, front-length T o id s (anyOptional (groupOf T rows buffer count o i)) end (length w))) (l .puts) (puts-is at _ _ mid last e q p);
-      next = l .next;
-      within = l .within;
-      few = omega (arith, l .few);
+      right = λ _. record {
+        puts = puts-under at (at + k) _ w out mid last e (d .end) (omega (arith, front-length T o id s (anyOptional (groupOf T rows buffer count o i)) end (length w))) (l .puts) (puts-is at _ _ mid last e q p);
+        next = l .next;
+        within = l .within;
+        rest = l .rest;
+        few = omega (arith, l .few);
+      };
+      wrong = λ r. absurd (r z);
     }

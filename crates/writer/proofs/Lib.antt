@@ -1,10 +1,10 @@
 -- Laws that several proofs cite.
 pub mod Reaches
 pub mod Parts
+pub mod Judges
 pub mod Fields
 pub mod Groups
 pub mod Names
 pub mod Fronts
 pub mod Walks
-pub mod Judges
 pub mod Writings

@@ -1,27 +1,45 @@
 -- The slices of a chain one after another, and the message. Assumes nothing.
 --
 --   Slicing, slicing-..                             what the loop over the owners of a chain keeps
---   contents-list, contents-class, contents-other   the data of an encapsulation, by the type's kind
---   message-laid                                    size and version put before the data
+--   list-over, list-made                            a parameter list
+--   contents-class, contents-other                  the data of an encapsulation of another kind
+--   message-made, message-wrong                     size and version put before the data, if the rows are right
 use mathlib.Core.Path.{_≡_, refl, sym, ap, _∙_}
 use mathlib.Core.Bool.{Bool, true, false}
 use mathlib.Core.List.{List, [], _∷_, _++_}
-use Prim.Native.Nat.{ℕ, zero, suc, _+_, _-_, _*_, _≤_}
+use Prim.Native.Nat.{ℕ, zero, suc, _+_, _-_, _*_, _≤_, _<_}
 use native.Mathlib.Omega.{arith}
 use lib.ListN.{length}
 use lib.Dec.{eqb}
-use borrow.Author.Tests.{eq-eqb, ne-eqb}
+use borrow.Author.Tests.{lt-ltb, le-ltb, eq-eqb, ne-eqb}
 use Rattle.encoding.specs.Number.{leBytes}
 use Rattle.encoding.specs.Table.{kind, base, upward, chain}
 use Rattle.encoding.specs.TableLaws.{chain-row}
 use Rattle.encoding.specs.Slice.{Format, isSliced, Stand, first, later, due, Slice, hasOptionals, idOf, isLast, sliceFront, slicesBytes}
 use Rattle.encoding.specs.Message.{encapsulate}
+use Rattle.encoding.specs.Write.{Out, out, stop}
 use Rattle.wire.specs.Put.{put}
 use Rattle.writer.specs.declared.Laid.{Laid}
+use Rattle.writer.specs.declared.Put.{Put}
+use Rattle.writer.specs.declared.Put.the-variants.{Made, Wrong}
+use Rattle.writer.specs.Cursors.{start, stateOf}
+use Rattle.writer.specs.Judged.{verdictFrom, verdictAbove}
 use Rattle.writer.specs.Puts.{Puts, Leaves}
 use Rattle.writer.specs.PutsLaws.{puts-is, puts-number, puts-byte, puts-then, puts-under, leaves-begin, leaves-step, leaves-end}
-use Rattle.writer.specs.Slices.{groupOf, sliceOf, slicesFrom, formatBy, idField, frontField, sliceField, RowsLaid, SliceLaid}
-use Rattle.writer.specs.Messages.{contentsOf}
+use Rattle.writer.specs.Slices.{groupOf, sliceOf, slicesFrom, formatBy, idField, frontField, sliceField, RowsPut, SlicePut}
+use Rattle.writer.specs.Messages.{contentsOf, AllPut}
+
+-- ---- the last owner
+
+-- a row left behind it is 20, and none is right
+module _ (T rows buffer : List ℕ) (count up i : ℕ) (z : up ≡ 0) where
+  above-over : i < count → verdictAbove T rows buffer count up i ≡ stop 20 i
+  unfolding verdictAbove
+  above-over h = rw (z, lt-ltb i count h)
+
+  above-right : count ≤ i → verdictAbove T rows buffer count up i ≡ out tt
+  unfolding verdictAbove
+  above-right h = rw (z, le-ltb i count h)
 
 -- ---- the slices of a chain
 
@@ -40,20 +58,22 @@ module _ (T rows buffer : List ℕ) (count : ℕ) (g : Format) where
   last-is o i zero = refl
   last-is o i (suc t) = ap (λ (l : List ℕ). isLast (slicesFrom T rows buffer count (i + length (groupOf T rows buffer count o i)) l)) (chain-row T t) ∙ sym (ne-eqb (suc t) 0 (λ q. omega arith))
 
-pub record Slicing (T rows buffer : List ℕ) (count t : ℕ) (g : Format) (begin : ℕ) (out₀ : List ℕ) (at o : ℕ) (id : Bool) (i : ℕ) (out : List ℕ) : Type 0 where
+pub record Slicing (T rows buffer : List ℕ) (count t : ℕ) (g : Format) (begin : ℕ) (lent : List ℕ) (at o : ℕ) (id : Bool) (i : ℕ) (mid : List ℕ) : Type 0 where
   pub stand : Stand
   pub named : due stand g ≡ id
-  pub leaves : Leaves begin (slicesBytes g first (slicesFrom T rows buffer count 0 (chain T t))) out₀ at (slicesBytes g stand (slicesFrom T rows buffer count i (chain T o))) out
+  pub leaves : Leaves begin (slicesBytes g first (slicesFrom T rows buffer count 0 (chain T t))) lent at (slicesBytes g stand (slicesFrom T rows buffer count i (chain T o))) mid
+  pub rest : verdictFrom T rows buffer count (stateOf T (start t)) 0 ≡ verdictFrom T rows buffer count (stateOf T (start o)) i
   pub within : i ≤ count
   pub below : o ≤ t
   pub few : at ≤ begin + 66000 * (i + (t - o))
 
-pub slicing-begin : (T rows buffer : List ℕ) (count t : ℕ) (g : Format) (begin : ℕ) (out : List ℕ) → Slicing T rows buffer count t g begin out begin t true 0 out
+pub slicing-begin : (T rows buffer : List ℕ) (count t : ℕ) (g : Format) (begin : ℕ) (lent : List ℕ) → Slicing T rows buffer count t g begin lent begin t true 0 lent
 unfolding due
-slicing-begin T rows buffer count t g begin out = record {
+slicing-begin T rows buffer count t g begin lent = record {
   stand = first;
   named = refl;
-  leaves = leaves-begin begin _ out;
+  leaves = leaves-begin begin _ lent;
+  rest = refl;
   within = omega arith;
   below = omega arith;
   few = omega arith;
@@ -63,59 +83,101 @@ sliced-is : (s : Bool) → isSliced (formatBy s) ≡ s
 sliced-is true = refl
 sliced-is false = refl
 
-module _ (T rows buffer : List ℕ) (count t : ℕ) (s : Bool) (begin : ℕ) (out₀ : List ℕ) (at o : ℕ) (id : Bool) (i : ℕ) (out : List ℕ)
-    (w : Slicing T rows buffer count t (formatBy s) begin out₀ at o id i out) (up : ℕ) (e : up ≡ base T o)
-    (last : List ℕ) (d : Laid) (l : SliceLaid T rows buffer count (formatBy s) id (eqb up 0) o i at out last d) where
-  slice-left : Leaves begin (slicesBytes (formatBy s) first (slicesFrom T rows buffer count 0 (chain T t))) out₀ (d .end)
-      (slicesBytes (formatBy s) (later (formatBy s)) (behind T rows buffer count (formatBy s) o i up)) last
-  slice-left =
-      let b : sliceField T rows buffer count (formatBy s) (due (w .stand) (formatBy s)) (isLast (behind T rows buffer count (formatBy s) o i (base T o))) o i
-      ≡ sliceField T rows buffer count (formatBy s) id (eqb up 0) o i
-      = rw (w .named, last-is T rows buffer count (formatBy s) o i (base T o), ← e) in
-      leaves-step begin _ out₀ at _ out (w .leaves) (sliceField T rows buffer count (formatBy s) id (eqb up 0) o i) _ last (d .end)
-      (slices-more T rows buffer count (formatBy s) (w .stand) o i ∙ ap (λ (z : List ℕ). z ++ slicesBytes (formatBy s) (later (formatBy s)) (behind T rows buffer count (formatBy s) o i (base T o))) b ∙ rw e)
-      (l .puts)
+module _ (T rows buffer : List ℕ) (count t : ℕ) (s : Bool) (begin : ℕ) (lent : List ℕ) (at o : ℕ) (id : Bool) (i : ℕ) (mid : List ℕ)
+    (w : Slicing T rows buffer count t (formatBy s) begin lent at o id i mid) (up : ℕ) (e : up ≡ base T o)
+    (last : List ℕ) (d : Laid) (j : SlicePut T rows buffer count (formatBy s) id (eqb up 0) o i at mid last d) where
+  -- the slices of the chain
+  abbrev slices : List ℕ
+  slices = slicesBytes (formatBy s) first (slicesFrom T rows buffer count 0 (chain T t))
 
-  pub slicing-end : up ≡ 0 → Puts begin (slicesBytes (formatBy s) first (slicesFrom T rows buffer count 0 (chain T t))) out₀ last (d .end)
-  unfolding slicesBytes slicesFrom upward
-  slicing-end z = leaves-end begin _ out₀ (d .end) _ last slice-left (rw z)
+  pub slicing-wrong : (d .fault ≡ 0 → ⊥) → AllPut T rows buffer count t begin slices lent last (Wrong (d .fault) (d .row))
+  slicing-wrong n = w .rest ∙ j .wrong n
 
-  pub slicing-next : (up ≡ 0 → ⊥) → up ≤ o → Slicing T rows buffer count t (formatBy s) begin out₀ (d .end) (up - 1) s (d .row) last
-  unfolding due upward
-  slicing-next z h =
-      let q : up ≡ suc (up - 1) = omega (arith, z) in
-      record {
-        stand = later (formatBy s);
-        named = sliced-is s;
-        leaves = rw (l .next) (rw q at slice-left);
-        within = l .within;
-        below = omega (arith, w .below);
-        few = omega (arith, l .few, w .few, w .below, z, l .next);
-      }
+  module _ (f : d .fault ≡ 0) where
+    slice-left : Leaves begin slices lent (d .end) (slicesBytes (formatBy s) (later (formatBy s)) (behind T rows buffer count (formatBy s) o i up)) last
+    slice-left =
+        let b : sliceField T rows buffer count (formatBy s) (due (w .stand) (formatBy s)) (isLast (behind T rows buffer count (formatBy s) o i (base T o))) o i
+        ≡ sliceField T rows buffer count (formatBy s) id (eqb up 0) o i
+        = rw (w .named, last-is T rows buffer count (formatBy s) o i (base T o), ← e) in
+        leaves-step begin _ lent at _ mid (w .leaves) (sliceField T rows buffer count (formatBy s) id (eqb up 0) o i) _ last (d .end)
+        (slices-more T rows buffer count (formatBy s) (w .stand) o i ∙ ap (λ (z : List ℕ). z ++ slicesBytes (formatBy s) (later (formatBy s)) (behind T rows buffer count (formatBy s) o i (base T o))) b ∙ rw e)
+        (j .right f .puts)
+
+    verdict-left : verdictFrom T rows buffer count (stateOf T (start t)) 0 ≡ verdictAbove T rows buffer count up (d .row)
+    verdict-left = w .rest ∙ j .right f .rest ∙ ap (λ (x : ℕ). verdictAbove T rows buffer count x (d .row)) (sym e)
+
+    module _ (z : up ≡ 0) where
+      pub slicing-over : d .row < count → AllPut T rows buffer count t begin slices lent last (Wrong 20 (d .row))
+      slicing-over h = verdict-left ∙ above-over T rows buffer count up (d .row) z h
+
+      pub slicing-end : count ≤ d .row → AllPut T rows buffer count t begin slices lent last (Made (d .end))
+      unfolding slicesBytes slicesFrom upward
+      slicing-end h = (verdict-left ∙ above-right T rows buffer count up (d .row) z h, leaves-end begin _ lent (d .end) _ last slice-left (rw z))
+
+    pub slicing-next : (up ≡ 0 → ⊥) → up ≤ o → Slicing T rows buffer count t (formatBy s) begin lent (d .end) (up - 1) s (d .row) last
+    unfolding due upward verdictAbove
+    slicing-next z h =
+        let l = j .right f in
+        let q : up ≡ suc (up - 1) = omega (arith, z) in
+        record {
+          stand = later (formatBy s);
+          named = sliced-is s;
+          leaves = rw (l .next) (rw q at slice-left);
+          rest = rw q at verdict-left;
+          within = l .within;
+          below = omega (arith, w .below);
+          few = omega (arith, l .few, w .few, w .below, z, l .next);
+        }
 
 -- ---- the message
 
-module _ (T rows buffer : List ℕ) (count : ℕ) (g : Format) (t k : ℕ) (ek : k ≡ kind T t) (out last : List ℕ) where
-  pub contents-list : k ≡ 15 → (d : Laid) → RowsLaid T rows buffer count t 0 6 out last d → Puts 6 (contentsOf T rows buffer count g t) out last (d .end)
-  unfolding contentsOf
-  contents-list z d l = rw (eq-eqb (kind T t) 15 (sym ek ∙ z)) (l .puts)
+no-base : (T : List ℕ) (t : ℕ) → kind T t ≡ 15 → base T t ≡ 0
+unfolding base
+no-base T t e = rw e
 
-  module _ (n : k ≡ 15 → ⊥) (e : ℕ) where
-    pub contents-class : k ≡ 14 → (mid : List ℕ) → mid ≡ put 6 (leBytes 1 1) out
-        → Puts 7 (slicesBytes g first (slicesFrom T rows buffer count 0 (chain T t))) mid last e → Puts 6 (contentsOf T rows buffer count g t) out last e
+module _ (T rows buffer : List ℕ) (count t k : ℕ) (ek : k ≡ kind T t) (z : k ≡ 15) (lent last : List ℕ) (d : Laid) (j : RowsPut T rows buffer count t 0 6 lent last d) (f : d .fault ≡ 0) where
+  pub list-over : d .row < count → verdictFrom T rows buffer count (stateOf T (start t)) 0 ≡ stop 20 (d .row)
+  list-over h = j .right f .rest ∙ above-over T rows buffer count (base T t) (d .row) (no-base T t (sym ek ∙ z)) h
+
+  pub list-made : (g : Format) → count ≤ d .row → AllPut T rows buffer count t 6 (contentsOf T rows buffer count g t) lent last (Made (d .end))
+  unfolding contentsOf
+  list-made g h = (j .right f .rest ∙ above-right T rows buffer count (base T t) (d .row) (no-base T t (sym ek ∙ z)) h, rw (eq-eqb (kind T t) 15 (sym ek ∙ z)) (j .right f .puts))
+
+module _ (T rows buffer : List ℕ) (count : ℕ) (g : Format) (t k : ℕ) (ek : k ≡ kind T t) (lent last : List ℕ) where
+  -- other bytes are put by the same answer
+  all-put : (at to : ℕ) (b c one : List ℕ) (r : Put) → ((n : ℕ) → Puts at b one last n → Puts to c lent last n)
+      → AllPut T rows buffer count t at b one last r → AllPut T rows buffer count t to c lent last r
+  all-put at to b c one (Made n) f p = (p .0, f n (p .1))
+  all-put at to b c one (Wrong n q) f p = p
+
+  module _ (n : k ≡ 15 → ⊥) (r : Put) where
+    pub contents-class : k ≡ 14 → (mid : List ℕ) → mid ≡ put 6 (leBytes 1 1) lent
+        → AllPut T rows buffer count t 7 (slicesBytes g first (slicesFrom T rows buffer count 0 (chain T t))) mid last r → AllPut T rows buffer count t 6 (contentsOf T rows buffer count g t) lent last r
     unfolding contentsOf
     contents-class z mid f p =
-        rw (ne-eqb (kind T t) 15 (λ q. n (ek ∙ q)), eq-eqb (kind T t) 14 (sym ek ∙ z))
-        (puts-then 6 (1 ∷ []) out mid 7 (puts-byte 1 6 out mid (omega arith) f) _ last e p)
+        all-put 7 6 _ _ mid r
+        (λ e q. rw (ne-eqb (kind T t) 15 (λ h. n (ek ∙ h)), eq-eqb (kind T t) 14 (sym ek ∙ z)) (puts-then 6 (1 ∷ []) lent mid 7 (puts-byte 1 6 lent mid (omega arith) f) _ last e q)) p
 
-    pub contents-other : (k ≡ 14 → ⊥) → Puts 6 (slicesBytes g first (slicesFrom T rows buffer count 0 (chain T t))) out last e → Puts 6 (contentsOf T rows buffer count g t) out last e
+    pub contents-other : (k ≡ 14 → ⊥)
+        → AllPut T rows buffer count t 6 (slicesBytes g first (slicesFrom T rows buffer count 0 (chain T t))) lent last r → AllPut T rows buffer count t 6 (contentsOf T rows buffer count g t) lent last r
     unfolding contentsOf
-    contents-other z p = rw (ne-eqb (kind T t) 15 (λ q. n (ek ∙ q)), ne-eqb (kind T t) 14 (λ q. z (ek ∙ q))) p
+    contents-other z p = all-put 6 6 _ _ lent r (λ e q. rw (ne-eqb (kind T t) 15 (λ h. n (ek ∙ h)), ne-eqb (kind T t) 14 (λ h. z (ek ∙ h))) q) p
 
-pub message-laid : (b out one two last : List ℕ) (n : ℕ) → Puts 6 b out one n → two ≡ put 0 (leBytes 4 n) one → last ≡ put 4 (leBytes 2 257) two → Puts 0 (encapsulate b) out last n
+size-put : (b lent one two last : List ℕ) (n : ℕ) → Puts 6 b lent one n → two ≡ put 0 (leBytes 4 n) one → last ≡ put 4 (leBytes 2 257) two → Puts 0 (encapsulate b) lent last n
 unfolding encapsulate leBytes
-message-laid b out one two last n p e f =
+size-put b lent one two last n p e f =
     let z : leBytes 4 n ++ leBytes 2 257 ++ b ≡ leBytes 4 (6 + length b) ++ (1 ∷ 1 ∷ b) = ap (λ (m : ℕ). leBytes 4 m ++ leBytes 2 257 ++ b) (p .ends) in
-    puts-is 0 _ _ out last n z
-    (puts-under 0 6 (leBytes 4 n ++ leBytes 2 257) b out one last 6 n refl p
+    puts-is 0 _ _ lent last n z
+    (puts-under 0 6 (leBytes 4 n ++ leBytes 2 257) b lent one last 6 n refl p
     (puts-then 0 (leBytes 4 n) one two 4 (puts-number 4 n 0 one two e) (leBytes 2 257) last 6 (puts-number 2 257 4 two last f)))
+
+module _ (T rows buffer : List ℕ) (count t : ℕ) (b lent one : List ℕ) (r : Put) (j : AllPut T rows buffer count t 6 b lent one r) where
+  pub message-made : (n : ℕ) → r ≡ Made n → (two last : List ℕ) → two ≡ put 0 (leBytes 4 n) one → last ≡ put 4 (leBytes 2 257) two
+      → AllPut T rows buffer count t 0 (encapsulate b) lent last (Made n)
+  message-made n q two last e f = go (rw q at j)
+    where
+      go : AllPut T rows buffer count t 6 b lent one (Made n) → AllPut T rows buffer count t 0 (encapsulate b) lent last (Made n)
+      go p = (p .0, size-put b lent one two last n (p .1) e f)
+
+  pub message-wrong : (n p : ℕ) → r ≡ Wrong n p → AllPut T rows buffer count t 0 (encapsulate b) lent one (Wrong n p)
+  message-wrong n p q = rw q at j

@@ -1,71 +1,92 @@
 -- The answer, and the output behind it. Assumes nothing.
 --
---   answer-wrong                 a row is wrong: a refusal, and the output stays
+--   answer-few                   too few row bytes: a refusal, and the output stays
+--   answer-wrong                 a row is wrong: the same
 --   answer-over, answer-room     22: the message is too long, or longer than the output
---   answer-made                  the message stands at the output's start
+--   answer-short                 a message put into an array stands, copied, at the output's start
+--   answer-long                  a message put again stands at the output's start
 use mathlib.Core.Path.{_≡_, refl, sym, ap, _∙_}
 use mathlib.Core.Bool.{Bool, true, false, _&&_, not}
-use mathlib.Core.List.{List}
-use Prim.Native.Nat.{ℕ, _≤_, _<_}
+use mathlib.Core.List.{List, _++_}
+use Prim.Native.Nat.{ℕ, _/_, _≤_, _<_}
 use native.Mathlib.Nat.{zero-add}
 use native.Mathlib.Omega.{arith}
-use lib.ListN.{length}
+use lib.ListN.{length, take, drop}
+use lib.Seq.{take-at}
 use lib.Dec.{eqb, leb}
 use borrow.Author.Tests.{le-leb, lt-leb}
 use Rattle.encoding.specs.Result.{pick}
 use Rattle.encoding.specs.Slice.{Format}
 use Rattle.encoding.specs.Message.{encapsulate}
 use Rattle.encoding.specs.Write.{Out, out, stop, bounded, output}
+use Rattle.wire.specs.Put.{put}
 use Rattle.wire.specs.PutLaws.{put-front}
-use Rattle.writer.specs.declared.Outcome.the-variants.{Made, Stopped}
-use Rattle.writer.specs.declared.Verdict.{Verdict}
-use Rattle.writer.specs.declared.Verdict.the-variants.{Right, Wrong}
+use Rattle.writer.specs.declared.Outcome.the-variants.{Made as Told, Stopped}
+use Rattle.writer.specs.declared.Put.{Put}
+use Rattle.writer.specs.declared.Put.the-variants.{Made, Wrong}
+use Rattle.writer.specs.Cursors.{start, stateOf}
+use Rattle.writer.specs.Judged.{verdictFrom}
 use Rattle.writer.specs.Puts.{Puts}
 use Rattle.writer.specs.Slices.{formatBy}
-use Rattle.writer.specs.Messages.{contentsOf, written, outcomeOf}
-use Rattle.writer.specs.MessagesLaws.{written-wrong, written-right, format-is}
-use Rattle.writer.proofs.Judges.{judgement}
+use Rattle.writer.specs.Messages.{contentsOf, AllPut, written, outcomeOf}
+use Rattle.writer.specs.MessagesLaws.{written-few, written-wrong, written-right, format-is}
 
-module _ (T : List ℕ) (top format count : ℕ) (rows buffer lent : List ℕ) (v : Verdict) (e : v ≡ judgement T rows buffer count top) where
+module _ (T : List ℕ) (top format count : ℕ) (rows buffer lent : List ℕ) where
   -- what is written
   abbrev result : Out (List ℕ)
   result = written T top format count rows buffer (length lent)
 
-  pub answer-wrong : (n p : ℕ) → v ≡ Wrong n p → (Stopped n p ≡ outcomeOf result) × (lent ≡ output result lent)
+  -- the message
+  abbrev message : List ℕ
+  message = encapsulate (contentsOf T rows buffer count (formatBy (not (eqb format 0))) top)
+
+  refused : (n p : ℕ) → result ≡ stop n p → (Stopped n p ≡ outcomeOf result) × (lent ≡ output result lent)
   unfolding outcomeOf output
-  answer-wrong n p q =
-      let w = written-wrong T top format count rows buffer (length lent) n p (sym q ∙ e) in
-      (sym (ap outcomeOf w), sym (ap (λ (x : Out (List ℕ)). output x lent) w))
+  refused n p w = (sym (ap outcomeOf w), sym (ap (λ (x : Out (List ℕ)). output x lent) w))
 
-  module _ (q : v ≡ Right) (any last : List ℕ) (n : ℕ) (p : Puts 0 (encapsulate (contentsOf T rows buffer count (formatBy (not (eqb format 0))) top)) any last n) where
-    -- the message
-    abbrev message : List ℕ
-    message = encapsulate (contentsOf T rows buffer count (formatBy (not (eqb format 0))) top)
+  pub answer-few : length rows / 12 < count → (Stopped 20 count ≡ outcomeOf result) × (lent ≡ output result lent)
+  answer-few h = refused 20 count (written-few T top format count rows buffer (length lent) h)
 
-    long : length message ≡ n
-    long = sym (p .ends ∙ zero-add (length message))
+  module _ (enough : count ≤ length rows / 12) (few last : List ℕ) (r : Put) (j : AllPut T rows buffer count top 0 message few last r) where
+    pub answer-wrong : (n p : ℕ) → r ≡ Wrong n p → (Stopped n p ≡ outcomeOf result) × (lent ≡ output result lent)
+    answer-wrong n p q = refused n p (written-wrong T top format count rows buffer (length lent) enough n p (rw q at j))
 
-    result-is : (a b : Bool) → leb (length message) 65536 ≡ a → leb (length message) (length lent) ≡ b → result ≡ pick (a && b) (out message) (stop 22 n)
-    unfolding bounded
-    result-is a b f g =
-        written-right T top format count rows buffer (length lent) (sym q ∙ e)
-        ∙ ap (λ (x : Format). bounded (length lent) (encapsulate (contentsOf T rows buffer count x top))) (format-is format)
-        ∙ rw (f, g, long)
+    module _ (n : ℕ) (q : r ≡ Made n) where
+      all-right : (verdictFrom T rows buffer count (stateOf T (start top)) 0 ≡ out tt) × Puts 0 message few last n
+      all-right = rw q at j
 
-    refused : result ≡ stop 22 n → (Stopped 22 n ≡ outcomeOf result) × (lent ≡ output result lent)
-    unfolding outcomeOf output
-    refused w = (sym (ap outcomeOf w), sym (ap (λ (x : Out (List ℕ)). output x lent) w))
+      long : length message ≡ n
+      long = sym (all-right .1 .ends ∙ zero-add (length message))
 
-    pub answer-over : 65536 < n → (Stopped 22 n ≡ outcomeOf result) × (lent ≡ output result lent)
-    answer-over h = refused (result-is false (leb (length message) (length lent)) (lt-leb (length message) 65536 (omega (arith, long))) refl)
+      result-is : (a b : Bool) → leb (length message) 65536 ≡ a → leb (length message) (length lent) ≡ b → result ≡ pick (a && b) (out message) (stop 22 n)
+      unfolding bounded
+      result-is a b f g =
+          written-right T top format count rows buffer (length lent) enough (all-right .0)
+          ∙ ap (λ (x : Format). bounded (length lent) (encapsulate (contentsOf T rows buffer count x top))) (format-is format)
+          ∙ rw (f, g, long)
 
-    pub answer-room : n ≤ 65536 → length lent < n → (Stopped 22 n ≡ outcomeOf result) × (lent ≡ output result lent)
-    answer-room h l = refused (result-is true false (le-leb (length message) 65536 (omega (arith, long))) (lt-leb (length message) (length lent) (omega (arith, long))))
+      pub answer-over : 65536 < n → (Stopped 22 n ≡ outcomeOf result) × (lent ≡ output result lent)
+      answer-over h = refused 22 n (result-is false (leb (length message) (length lent)) (lt-leb (length message) 65536 (omega (arith, long))) refl)
 
-    pub answer-made : n ≤ 65536 → n ≤ length lent → (end : List ℕ) (m : ℕ) → Puts 0 message lent end m → (Made n ≡ outcomeOf result) × (end ≡ output result lent)
-    unfolding outcomeOf output
-    answer-made h l end m w =
-        let r = result-is true true (le-leb (length message) 65536 (omega (arith, long))) (le-leb (length message) (length lent) (omega (arith, long))) in (
-          sym (ap outcomeOf r ∙ ap Made long),
-          w .lays (omega (arith, long)) ∙ put-front message lent (omega (arith, long)) ∙ sym (ap (λ (x : Out (List ℕ)). output x lent) r),
-        )
+      module _ (h : n ≤ 65536) where
+        pub answer-room : length lent < n → (Stopped 22 n ≡ outcomeOf result) × (lent ≡ output result lent)
+        answer-room l = refused 22 n (result-is true false (le-leb (length message) 65536 (omega (arith, long))) (lt-leb (length message) (length lent) (omega (arith, long))))
+
+        module _ (l : n ≤ length lent) (end : List ℕ) where
+          -- the message stands at the output's start
+          made : end ≡ put 0 message lent → (Told n ≡ outcomeOf result) × (end ≡ output result lent)
+          unfolding outcomeOf output
+          made e =
+              let w = result-is true true (le-leb (length message) 65536 (omega (arith, long))) (le-leb (length message) (length lent) (omega (arith, long))) in
+              (sym (ap outcomeOf w ∙ ap Told long), e ∙ put-front message lent (omega (arith, long)) ∙ sym (ap (λ (x : Out (List ℕ)). output x lent) w))
+
+          pub answer-short : n ≤ length few → end ≡ put 0 (take n (drop 0 last)) lent → (Told n ≡ outcomeOf result) × (end ≡ output result lent)
+          answer-short m e =
+              let s : last ≡ message ++ drop (length message) few = all-right .1 .lays (omega (arith, long)) ∙ put-front message few (omega (arith, long)) in
+              let t : take n last ≡ message = ap (take n) s ∙ take-at message (drop (length message) few) n long in
+              made (e ∙ ap (λ (b : List ℕ). put 0 b lent) t)
+
+          -- the rows are right again
+          pub answer-long : (again : Put) → AllPut T rows buffer count top 0 message lent end again → (Told n ≡ outcomeOf result) × (end ≡ output result lent)
+          answer-long (Made k) a = made (a .1 .lays (omega (arith, long)))
+          answer-long (Wrong k p) a = let f : stop k p ≡ out tt = sym a ∙ all-right .0 in let y : _≡_ {A = ℕ} 0 1 = cc in absurd (omega arith)

@@ -1,7 +1,7 @@
 -- Laws of `Cursors`: what is due, and what is reached, from a cursor. Assumes nothing.
 --
 --   due-begin, due-more, due-skip, due-none    what is due of an owner, row by row
---   may-row                                    an optional of an owner is found by its row number
+--   may-outside, may-inside                    an optional of an owner is found by its row number
 --   reach-.. of a state                        what is reached where a member is due, where an optional comes, and above
 --   still-.. of a state                        what is still due at the end, here and above
 use mathlib.Core.Path.{_≡_, refl, sym, ap, _∙_}
@@ -12,15 +12,15 @@ use Prim.Native.Nat.{ℕ, zero, suc, _+_, _-_, _≤_, _<_}
 use native.Mathlib.Nat.{add-zero}
 use native.Mathlib.Numerals.{add-one}
 use native.Mathlib.Omega.{arith}
-use lib.Dec.{eqb, leb, ltb}
-use borrow.Author.Tests.{leb-true, leb-false, ltb-true, ltb-false, eqb-true, eqb-false, eq-eqb, ne-eqb}
+use lib.Dec.{eqb, leb}
+use borrow.Author.Tests.{eqb-true, eqb-false, eq-eqb, ne-eqb}
 use Rattle.encoding.specs.Result.{pick}
 use Rattle.encoding.specs.Types.{Ty}
-use Rattle.encoding.specs.Table.{field, mark, tag, takes, range, Member, ownRows, trees, memberTy, requiredOf, required, optionalOf, optional, any, base, upward}
+use Rattle.encoding.specs.Table.{field, mark, tag, range, Member, ownRows, trees, memberTy, requiredOf, required, optionalOf, optional, any, base, upward}
 use Rattle.encoding.specs.TableLaws.{chain-row}
 use Rattle.encoding.specs.Write.{optionalRow, orAbove, entered, reachDue, reachMay, reach, anyOf, stillDue}
 use Rattle.writer.specs.declared.Cursor.{Cursor}
-use Rattle.writer.specs.Cursors.{requiredIn, dueFrom, bases, stateOf, mayRow, dueMember, mayMember}
+use Rattle.writer.specs.Cursors.{requiredIn, dueIn, dueFrom, bases, start, stateOf, mayMember}
 
 -- ---- required members
 
@@ -49,28 +49,29 @@ range-at a b k h =
     let f : suc (a + k) ≡ a + (k + 1) = omega arith in
     rw (e, f)
 
-module _ (T : List ℕ) (o : ℕ) where
-  pub due-begin : dueFrom T o 0 ≡ required T o
-  unfolding dueFrom requiredIn required ownRows
-  due-begin = let e : field T o 1 - 0 ≡ field T o 1 = omega arith in rw (add-zero, e)
+pub due-begin : (T : List ℕ) (o : ℕ) → dueFrom T o 0 ≡ required T o
+unfolding dueIn requiredIn required ownRows
+due-begin T o = let e : field T o 1 - 0 ≡ field T o 1 = omega arith in rw (add-zero, e)
 
-  pub due-more : (k : ℕ) → k < field T o 1 → mark T (field T o 0 + k) ≡ 0 → dueFrom T o k ≡ dueMember T o k ∷ dueFrom T o (k + 1)
-  unfolding dueFrom dueMember
-  due-more k h e =
-      ap (requiredOf T (trees T) (requiredIn T (field T o 0) k)) (range-at (field T o 0) (field T o 1) k h)
+module _ (T : List ℕ) (a b k : ℕ) where
+  pub due-more : k < b → mark T (a + k) ≡ 0
+      → dueIn T a b k ≡ record { row = a + k; key = requiredIn T a k; ty = memberTy T (trees T) (a + k) } ∷ dueIn T a b (k + 1)
+  unfolding dueIn
+  due-more h e =
+      ap (requiredOf T (trees T) (requiredIn T a k)) (range-at a b k h)
       ∙ required-here T (trees T) _ _ _ e
-      ∙ rw (count-here T (field T o 0) k e)
+      ∙ rw (count-here T a k e)
 
-  pub due-skip : (k : ℕ) → k < field T o 1 → (mark T (field T o 0 + k) ≡ 0 → ⊥) → dueFrom T o k ≡ dueFrom T o (k + 1)
-  unfolding dueFrom
-  due-skip k h e =
-      ap (requiredOf T (trees T) (requiredIn T (field T o 0) k)) (range-at (field T o 0) (field T o 1) k h)
+  pub due-skip : k < b → (mark T (a + k) ≡ 0 → ⊥) → dueIn T a b k ≡ dueIn T a b (k + 1)
+  unfolding dueIn
+  due-skip h e =
+      ap (requiredOf T (trees T) (requiredIn T a k)) (range-at a b k h)
       ∙ required-over T (trees T) _ _ _ e
-      ∙ rw (count-over T (field T o 0) k e)
+      ∙ rw (count-over T a k e)
 
-  pub due-none : (k : ℕ) → field T o 1 ≤ k → dueFrom T o k ≡ []
-  unfolding dueFrom range requiredOf
-  due-none k h = let e : field T o 1 - k ≡ 0 = omega arith in rw e
+  pub due-none : b ≤ k → dueIn T a b k ≡ []
+  unfolding dueIn range requiredOf
+  due-none h = let e : b - k ≡ 0 = omega arith in rw e
 
 -- ---- optional members
 
@@ -119,16 +120,15 @@ module _ (T : List ℕ) (m least : ℕ) where
       go true e ih = let q : m ≡ a = eqb-true m a e in rw (sym q) (optional-first b)
       go false e ih = over (eqb (mark T a) 0) e (ih (eqb-false m a e))
 
-  pub may-row : (o : ℕ) → optionalRow m least (optional T o) ≡ pick (mayRow T o least m) (some (mayMember T m)) none
-  unfolding optional ownRows takes
-  may-row o = go (leb (field T o 0) m) (ltb m (field T o 0 + field T o 1)) refl refl
-    where
-      go : (t u : Bool) → leb (field T o 0) m ≡ t → ltb m (field T o 0 + field T o 1) ≡ u
-          → optionalRow m least (optionalOf T (trees T) (range (field T o 0) (field T o 1)))
-          ≡ pick ((t && u) && (not (eqb (mark T m) 0) && leb least (tag T m))) (some (mayMember T m)) none
-      go true true e f = optional-in (field T o 0) (field T o 1) (leb-true _ _ e) (ltb-true _ _ f)
-      go true false e f = let g = ltb-false m (field T o 0 + field T o 1) f in optional-out (field T o 0) (field T o 1) (λ i h l q. omega arith)
-      go false u e f = let g = leb-false (field T o 0) m e in optional-out (field T o 0) (field T o 1) (λ i h l q. omega arith)
+  -- the test is made where the member row is one of the owner's
+  pub may-outside : (o : ℕ) → (field T o 0 ≤ m → m < field T o 0 + field T o 1 → ⊥) → optionalRow m least (optional T o) ≡ none
+  unfolding optional ownRows
+  may-outside o f = optional-out (field T o 0) (field T o 1) (λ i h l q. f (omega arith) (omega arith))
+
+  pub may-inside : (o : ℕ) → field T o 0 ≤ m → m < field T o 0 + field T o 1
+      → optionalRow m least (optional T o) ≡ pick (not (eqb (mark T m) 0) && leb least (tag T m)) (some (mayMember T m)) none
+  unfolding optional ownRows
+  may-inside o h l = optional-in (field T o 0) (field T o 1) h l
 
 -- ---- what is reached
 
@@ -157,7 +157,7 @@ module _ (T : List ℕ) (m : ℕ) (c : Cursor) where
   reach-end e f z = reach-free e ∙ rw (z, f)
 
   pub reach-above : (t : ℕ) → dueFrom T (c .owner) (c .passed) ≡ [] → optionalRow m (c .least) (optional T (c .owner)) ≡ none → base T (c .owner) ≡ suc t
-      → reach T m (stateOf T c) ≡ reach T m (stateOf T (record { owner = t; passed = 0; least = 0 }))
+      → reach T m (stateOf T c) ≡ reach T m (stateOf T (start t))
   unfolding reachMay orAbove upward reach entered stateOf
   reach-above t e f z = reach-free e ∙ rw (z, chain-row T t, f, due-begin T t)
 
@@ -173,10 +173,6 @@ module _ (T : List ℕ) (c : Cursor) where
   still-none e z = rw (e, z)
 
   pub still-above : (t : ℕ) → dueFrom T (c .owner) (c .passed) ≡ [] → base T (c .owner) ≡ suc t
-      → stillDue T (stateOf T c) ≡ stillDue T (stateOf T (record { owner = t; passed = 0; least = 0 }))
+      → stillDue T (stateOf T c) ≡ stillDue T (stateOf T (start t))
   unfolding stillDue anyOf stateOf any upward
   still-above t e z = rw (e, z, chain-row T t, due-begin T t)
-
-  pub still-least : stillDue T (stateOf T (record { owner = c .owner; passed = c .passed; least = 0 })) ≡ stillDue T (stateOf T c)
-  unfolding stillDue stateOf
-  still-least = refl

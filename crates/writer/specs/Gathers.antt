@@ -4,6 +4,7 @@
 --   begin-is                   the state at the start of an owner is that of a cursor
 --   Where, reach-where         what is reached is of the same owner, or is reached from the base's start
 --   reach-low                  its owner is this one or a base
+--   gone-none                  a row that is none of the owner gives no piece
 --   contents-are               rows that were judged right make the data of the encapsulation
 -- On the way: First, a first row that was judged right; Split, the pieces of the owner are those of the first rows, the slices above are made of the rest.
 use mathlib.Core.Path.{_≡_, refl, sym, ap, ap₂, _∙_}
@@ -23,10 +24,12 @@ use Rattle.encoding.specs.Optional.{Piece, pieceBytes}
 use Rattle.encoding.specs.Slice.{Format, first, Slice, known, slicesBytes}
 use Rattle.encoding.specs.Message.{Row, list, exception, class, encode}
 use Rattle.encoding.specs.Write.{Out, out, stop, next, State, above, begin, Reached, reachDue, optionalRow, orAbove, entered, reachMay, reach, stillDue, Given, given, partOf, judge, prepend, judgeAll, piecesOf, slicesOf, gathered, rowAt}
-use Rattle.writer.specs.Cursors.{bases, stateOf, hereOf}
-use Rattle.writer.specs.CursorsLaws.{due-begin}
-use Rattle.writer.specs.Pieces.{takenOf, pieceAt, grown, group}
-use Rattle.writer.specs.Slices.{start, groupOf, sliceOf, slicesFrom}
+use Rattle.writer.specs.declared.Cursor.{Cursor}
+use Rattle.writer.specs.Cursors.{bases, start, stateOf, Gone}
+use Rattle.writer.specs.CursorsLaws.{due-begin, reach-end, reach-above}
+use Rattle.writer.specs.JudgedLaws.{judged-up}
+use Rattle.writer.specs.Pieces.{hereOf, Taken, takenOf, pieceAt, grown, group}
+use Rattle.writer.specs.Slices.{groupOf, sliceOf, slicesFrom}
 use Rattle.writer.specs.Messages.{contentsOf}
 
 -- ---- bases
@@ -121,6 +124,27 @@ module _ (T : List ℕ) (m : ℕ) where
           let b : us ≡ ts = cc in
           let l : z .state .owner ≤ t = ih (ap₂ (λ (x : ℕ) (y : List ℕ). reach T m (begin T x y)) (sym a) (sym b) ∙ sym q ∙ r) in
           omega (arith, u .0)
+
+-- none of the owner where nothing of it is due and no optional of it may come
+pub gone-none : (T rows buffer : List ℕ) (c : Cursor) (i : ℕ) → Gone T c (rowAt rows i .member) → pieceAt T rows buffer (stateOf T c) i ≡ none
+unfolding pieceAt takenOf hereOf stateOf
+gone-none T rows buffer c i g = go (base T (c .owner)) refl
+  where
+    m : ℕ
+    m = rowAt rows i .member
+
+    taken : Option Reached → Option Taken
+    taken w = takenOf (partOf buffer (rowAt rows i)) (hereOf (c .owner) w)
+
+    lower : (t : ℕ) → t < c .owner → (w : Option Reached) → reach T m (stateOf T (start t)) ≡ w → taken w ≡ none
+    lower t l none e = refl
+    lower t l (some z) e =
+        let h : z .state .owner ≤ t = reach-low T m (bases T t) (stateOf T (start t)) z refl (under-bases T (bases T t) t refl) e in
+        rw (ne-eqb (c .owner) (z .state .owner) (λ q. omega arith))
+
+    go : (up : ℕ) → base T (c .owner) ≡ up → taken (reach T m (stateOf T c)) ≡ none
+    go zero e = ap taken (reach-end T m c (g .due) (g .may) e)
+    go (suc t) e = ap taken (reach-above T m c t (g .due) (g .may) e) ∙ lower t (omega (arith, base-below T (c .owner))) (reach T m (stateOf T (start t))) refl
 
 -- ---- a first row that was judged right
 
@@ -231,12 +255,6 @@ module _ (T rows buffer : List ℕ) where
           free = λ u q. S .free u (omega arith);
         }
 
-  -- what is judged from the base's start
-  judged-up : (s z : State) (i k : ℕ) → reach T (rowAt rows i .member) s ≡ reach T (rowAt rows i .member) z
-      → judgeAll T buffer s i (from i (suc k)) ≡ judgeAll T buffer z i (from i (suc k))
-  unfolding judgeAll range
-  judged-up s z i k e = rw e
-
   split-end : (count : ℕ) (s : State) (i : ℕ) (gs : List Given) → count - i ≡ 0 → judgeAll T buffer s i (from i 0) ≡ out gs → Split count s i 0 gs
   unfolding judgeAll range group piecesOf
   split-end count s i gs n e = go (stillDue T s) e
@@ -282,7 +300,7 @@ module _ (T rows buffer : List ℕ) where
               let m = bases-more T (s .owner) t ts b in
               split-up count s i k gs F t ts e (m .1) (m .0)
               (reach-low T (rowAt rows i .member) ts (begin T t ts) (F .z) refl (under-bases T ts t (m .1)) (sym r ∙ F .reached))
-              n (rec (sym (judged-up s (begin T t ts) i k r) ∙ j))
+              n (rec (sym (judged-up T rows buffer s (begin T t ts) i k r) ∙ j))
 
   split : (count k : ℕ) (s : State) (i : ℕ) (gs : List Given) → s .above ≡ bases T (s .owner) → count - i ≡ k → judgeAll T buffer s i (from i k) ≡ out gs → Split count s i k gs
   split count zero s i gs b n j = split-end count s i gs n j

@@ -1,23 +1,22 @@
--- What judging the rows gives, as the code answers it.
+-- What judging the rows gives.
 --
 --   partForm       20 where a part lies outside the buffer, 21 where it isn't exactly a value of a type, else 0
 --   stateFrom      where the rows stand behind a row that was judged
---   turnOf         the same of the code's answer
+--   judgedRow      row i, judged where the rows stand
 --   verdictOf      whether every row is right
-use mathlib.Core.List.{List}
-use Prim.Native.Nat.{ℕ, _+_, _≤_}
+--   verdictFrom    the verdict on row i and those behind it, of `count` rows
+--   verdictAbove   the same where the rows go on with the owners above: from a base row + 1 on, or there is none
+use mathlib.Core.List.{List, map}
+use Prim.Native.Nat.{ℕ, zero, suc, _+_, _-_}
 use lib.ListN.{length}
-use lib.Dec.{leb}
+use lib.Dec.{leb, ltb}
 use Rattle.encoding.specs.Result.{pick}
 use Rattle.encoding.specs.Types.{Ty}
 use Rattle.encoding.specs.Value.{exact}
+use Rattle.encoding.specs.Table.{range}
 use Rattle.encoding.specs.Message.{Row}
-use Rattle.encoding.specs.Write.{Out, out, stop, State, Reached, Given, partOf}
-use Rattle.writer.specs.declared.Turn.{Turn}
-use Rattle.writer.specs.declared.Turn.the-variants.{Next, Refused}
-use Rattle.writer.specs.declared.Verdict.{Verdict}
-use Rattle.writer.specs.declared.Verdict.the-variants.{Right, Wrong}
-use Rattle.writer.specs.Cursors.{stateOf}
+use Rattle.encoding.specs.Write.{Out, out, stop, State, Reached, reach, Given, partOf, judge, judgeAll, rowAt}
+use Rattle.writer.specs.Cursors.{start, stateOf}
 
 unfoldable pub partForm : List ℕ → Row → Ty → ℕ
 partForm buffer r t = pick (leb (r .place + r .len) (length buffer)) (pick (exact t (partOf buffer r)) 0 21) 20
@@ -26,15 +25,17 @@ unfoldable pub stateFrom : Out Reached → Out State
 stateFrom (out z) = out (z .state)
 stateFrom (stop n p) = stop n p
 
-unfoldable pub turnOf : List ℕ → ℕ → Turn → Out State
-turnOf T i (Next c) = out (stateOf T c)
-turnOf T i (Refused n) = stop n i
+unfoldable pub judgedRow : List ℕ → List ℕ → List ℕ → State → ℕ → Out State
+judgedRow T rows buffer s i = stateFrom (judge buffer i (rowAt rows i) (reach T (rowAt rows i .member) s))
 
--- the cursor of an answer has passed at most 65,536 rows
-abbrev pub Close : Turn → Type 0
-Close (Next c) = c .passed ≤ 65536
-Close (Refused n) = Unit {0}
+unfoldable pub verdictOf : Out (List Given) → Out (Unit {0})
+verdictOf (out gs) = out tt
+verdictOf (stop n p) = stop n p
 
-unfoldable pub verdictOf : Out (List Given) → Verdict
-verdictOf (out gs) = Right
-verdictOf (stop n p) = Wrong n p
+unfoldable pub verdictFrom : List ℕ → List ℕ → List ℕ → ℕ → State → ℕ → Out (Unit {0})
+verdictFrom T rows buffer count s i = verdictOf (judgeAll T buffer s i (map (rowAt rows) (range i (count - i))))
+
+-- a row behind the last owner is 20
+unfoldable pub verdictAbove : List ℕ → List ℕ → List ℕ → ℕ → ℕ → ℕ → Out (Unit {0})
+verdictAbove T rows buffer count zero i = pick (ltb i count) (stop 20 i) (out tt)
+verdictAbove T rows buffer count (suc t) i = verdictFrom T rows buffer count (stateOf T (start t)) i

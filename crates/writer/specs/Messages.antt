@@ -1,9 +1,10 @@
 -- The message that the rows make, as the code puts it.
 --
 --   contentsOf    the data of the encapsulation
---   messageOf     the message
+--   AllPut        every row is right and bytes are put; or the verdict is the rows' refusal
 --   written       what follows the judgements before the rows: the message or a refusal
 --   outcomeOf     the answer as the code gives it
+use mathlib.Core.Path.{_≡_}
 use mathlib.Core.List.{List, _∷_}
 use Prim.Native.Nat.{ℕ}
 use lib.ListN.{length}
@@ -16,6 +17,11 @@ use Rattle.encoding.specs.Message.{encode, encapsulate}
 use Rattle.encoding.specs.Write.{Out, out, stop, next, begin, above, judgeAll, gathered, formatOf, bounded, rowsGiven}
 use Rattle.writer.specs.declared.Outcome.{Outcome}
 use Rattle.writer.specs.declared.Outcome.the-variants.{Made, Stopped}
+use Rattle.writer.specs.declared.Put.{Put}
+use Rattle.writer.specs.declared.Put.the-variants.{Made as Laid, Wrong}
+use Rattle.writer.specs.Cursors.{start, stateOf}
+use Rattle.writer.specs.Judged.{verdictFrom}
+use Rattle.writer.specs.Puts.{Puts}
 use Rattle.writer.specs.Slices.{groupOf, slicesFrom}
 
 -- a parameter list, a class instance behind its marker, or an exception
@@ -24,6 +30,11 @@ contentsOf T rows buffer count g type =
     pick (eqb (kind T type) 15) (concat pieceBytes (groupOf T rows buffer count type 0))
     (pick (eqb (kind T type) 14) (1 ∷ slicesBytes g first (slicesFrom T rows buffer count 0 (chain T type)))
     (slicesBytes g first (slicesFrom T rows buffer count 0 (chain T type))))
+
+-- the rows are judged from the start of row t
+abbrev pub AllPut : List ℕ → List ℕ → List ℕ → ℕ → ℕ → ℕ → List ℕ → List ℕ → List ℕ → Put → Type 0
+AllPut T rows buffer count t at b lent last (Laid n) = (verdictFrom T rows buffer count (stateOf T (start t)) 0 ≡ out tt) × Puts at b lent last n
+AllPut T rows buffer count t at b lent last (Wrong n p) = verdictFrom T rows buffer count (stateOf T (start t)) 0 ≡ stop n p
 
 -- row bytes, each row 20 then 21, then 22
 unfoldable pub written : List ℕ → ℕ → ℕ → ℕ → List ℕ → List ℕ → ℕ → Out (List ℕ)

@@ -14,7 +14,7 @@ use Rattle.encoding.specs.Number.{leBytes, sizeBytes}
 use Rattle.encoding.specs.Types.{f1, f2, f4, f8, size, vsize, fsize, class, bits, Form, bare, own, counted, sized, bitsOf}
 use Rattle.encoding.specs.Optional.{required, optional, headerBytes, lengthBytes, frontBytes, contentBytes, pieceBytes}
 use Rattle.table.specs.Forms.{formNumber}
-use Rattle.writer.specs.Pieces.{headerField, formBits, lengthField}
+use Rattle.writer.specs.Pieces.{headerField, formBits, lengthField, optionalField}
 
 form-bits : (f : Form) → bits (bitsOf f) ≡ formBits (formNumber f)
 unfolding formBits formNumber
@@ -48,9 +48,8 @@ pub required-bytes : (i : ℕ) (b : List ℕ) → pieceBytes (required i b) ≡ 
 unfolding pieceBytes frontBytes contentBytes
 required-bytes i b = refl
 
-pub optional-bytes : (t : ℕ) (f : Form) (b : List ℕ)
-    → pieceBytes (optional t f b) ≡ headerField t (formBits (formNumber f)) ++ lengthField (formNumber f) (length b) ++ b
-unfolding pieceBytes frontBytes contentBytes headerBytes headerField
+pub optional-bytes : (t : ℕ) (f : Form) (b : List ℕ) → pieceBytes (optional t f b) ≡ optionalField t (formNumber f) b
+unfolding pieceBytes frontBytes contentBytes headerBytes headerField optionalField
 optional-bytes t f b = rw (form-bits f, length-field f b)
 
 module _ (t k : ℕ) where

@@ -1,12 +1,13 @@
 -- The members of an owner and its slice as they are put.
 --
---   start                  the cursor at the start of an owner
 --   groupOf                the pieces of an owner from row i on, of `count` rows
 --   sliceOf                its slice
 --   slicesFrom             the slices of owners, one after another, from row i on
 --   formatBy               sliced or compact
 --   idField, frontField    a slice's type ID, where one is due; all that stands before its data
 --   RowsLaid, DataLaid, SliceLaid   what is put of an owner's rows, of its slice's data, of its slice, and what the code answers of it
+--   Judges                 the owner's rows are right and that much is put; or the verdict is their refusal
+--   RowsPut, DataPut, SlicePut      the code's answers
 use mathlib.Core.Path.{_≡_}
 use mathlib.Core.Bool.{Bool}
 use mathlib.Core.List.{List, [], _∷_, _++_}
@@ -14,17 +15,15 @@ use Prim.Native.Nat.{ℕ, _+_, _-_, _*_, _≤_}
 use lib.ListN.{length}
 use Rattle.encoding.specs.Result.{pick, concat}
 use Rattle.encoding.specs.Number.{leBytes, stringBytes}
-use Rattle.encoding.specs.Table.{nameOf}
+use Rattle.encoding.specs.Table.{nameOf, base}
 use Rattle.encoding.specs.Optional.{Piece, pieceBytes}
 use Rattle.encoding.specs.Slice.{Format, compact, sliced, isSliced, Slice, known, anyOptional, dataBytes, flagBits}
-use Rattle.writer.specs.declared.Cursor.{Cursor}
+use Rattle.encoding.specs.Write.{stop}
 use Rattle.writer.specs.declared.Laid.{Laid}
-use Rattle.writer.specs.Cursors.{stateOf}
+use Rattle.writer.specs.Cursors.{start, stateOf}
+use Rattle.writer.specs.Judged.{verdictFrom, verdictAbove}
 use Rattle.writer.specs.Puts.{Puts}
 use Rattle.writer.specs.Pieces.{group}
-
-abbrev pub start : ℕ → Cursor
-start o = record { owner = o; passed = 0; least = 0 }
 
 unfoldable pub groupOf : List ℕ → List ℕ → List ℕ → ℕ → ℕ → ℕ → List Piece
 groupOf T rows buffer count o i = group T rows buffer (stateOf T (start o)) i (count - i)
@@ -51,6 +50,7 @@ pub record RowsLaid (T rows buffer : List ℕ) (count o i at : ℕ) (out last : 
   pub next : r .row ≡ i + length (groupOf T rows buffer count o i)
   pub flag : r .optionals ≡ anyOptional (groupOf T rows buffer count o i)
   pub within : r .row ≤ count
+  pub rest : verdictFrom T rows buffer count (stateOf T (start o)) i ≡ verdictAbove T rows buffer count (base T o) (r .row)
   pub few : r .end ≤ at + 66000 * (r .row - i)
 
 pub record DataLaid (T rows buffer : List ℕ) (count o i at : ℕ) (out last : List ℕ) (r : Laid) : Type 0 where
@@ -58,6 +58,7 @@ pub record DataLaid (T rows buffer : List ℕ) (count o i at : ℕ) (out last : 
   pub next : r .row ≡ i + length (groupOf T rows buffer count o i)
   pub flag : r .optionals ≡ anyOptional (groupOf T rows buffer count o i)
   pub within : r .row ≤ count
+  pub rest : verdictFrom T rows buffer count (stateOf T (start o)) i ≡ verdictAbove T rows buffer count (base T o) (r .row)
   pub few : r .end ≤ at + 66000 * (r .row - i) + 1
 
 -- the slice's front and data
@@ -70,4 +71,18 @@ pub record SliceLaid (T rows buffer : List ℕ) (count : ℕ) (g : Format) (id e
   pub puts : Puts at (sliceField T rows buffer count g id end o i) out last (r .end)
   pub next : r .row ≡ i + length (groupOf T rows buffer count o i)
   pub within : r .row ≤ count
+  pub rest : verdictFrom T rows buffer count (stateOf T (start o)) i ≡ verdictAbove T rows buffer count (base T o) (r .row)
   pub few : r .end ≤ at + 66000 * (r .row - i) + 66000
+
+pub record Judges (T rows buffer : List ℕ) (count o i : ℕ) (r : Laid) (Right : Type 0) : Type 0 where
+  pub right : r .fault ≡ 0 → Right
+  pub wrong : (r .fault ≡ 0 → ⊥) → verdictFrom T rows buffer count (stateOf T (start o)) i ≡ stop (r .fault) (r .row)
+
+abbrev pub RowsPut : List ℕ → List ℕ → List ℕ → ℕ → ℕ → ℕ → ℕ → List ℕ → List ℕ → Laid → Type 0
+RowsPut T rows buffer count o i at out last r = Judges T rows buffer count o i r (RowsLaid T rows buffer count o i at out last r)
+
+abbrev pub DataPut : List ℕ → List ℕ → List ℕ → ℕ → ℕ → ℕ → ℕ → List ℕ → List ℕ → Laid → Type 0
+DataPut T rows buffer count o i at out last r = Judges T rows buffer count o i r (DataLaid T rows buffer count o i at out last r)
+
+abbrev pub SlicePut : List ℕ → List ℕ → List ℕ → ℕ → Format → Bool → Bool → ℕ → ℕ → ℕ → List ℕ → List ℕ → Laid → Type 0
+SlicePut T rows buffer count g id end o i at out last r = Judges T rows buffer count o i r (SliceLaid T rows buffer count g id end o i at out last r)

@@ -1,7 +1,6 @@
 // Rows to a message. Each function equals its definition on any table, rows, buffer and output.
-// rows.rt reads the row bytes, state.rt follows the members that the rows give, judge.rt judges the rows, piece.rt puts one member, slice.rt the members of an owner and its slice,
-// message.rt the whole.
-pub mod judge;
+// One pass judges the rows and puts the message. rows.rt reads the row bytes, state.rt says which member of an owner a row gives,
+// piece.rt judges a row and puts its member, slice.rt does so for the rows of an owner and puts its slice, message.rt for all owners.
 pub mod message;
 pub mod piece;
 pub mod rows;
@@ -22,24 +21,41 @@ pub struct Cursor {
     pub least: usize,
 }
 
-// The member of a row: a required one that is due, or an optional one, and where the rows stand behind it; or none.
+// A row's three numbers: its member row, and the place and length of its part of the buffer.
+pub struct RowNumbers {
+    pub member: usize,
+    pub place: usize,
+    pub len: usize,
+}
+
+// What an owner answers of a member row: a required member that is due, or an optional one, and where the rows stand behind it;
+// none of this owner, so one of an owner above may come; or none at all, since another required member is due.
 pub enum Reach {
     Due(Cursor),
     May(Cursor),
+    Above,
     Nothing,
 }
 
-// A member was put: where the rows stand then, where its bytes end, whether it is an optional one; or the row is none of this owner.
+// A row was put: where the rows stand then, where its bytes end, whether it is an optional one; or it is none of this owner; or the number of its refusal.
 pub enum Placed {
     Row(Cursor, usize, bool),
     Stop,
+    Wrong(usize),
 }
 
-// Where the bytes put end, the next row, and whether an optional member was put.
+// Where the bytes put end, the next row, whether an optional member was put, and the number of the refusal at that row or 0.
 pub struct Laid {
     pub end: usize,
     pub row: usize,
     pub optionals: bool,
+    pub fault: usize,
+}
+
+// Where the bytes put end, every row being right; or a refusal's number and place.
+pub enum Put {
+    Made(usize),
+    Wrong(usize, usize),
 }
 
 // The message's length; or a refusal's number and place.
@@ -48,20 +64,8 @@ pub enum Outcome {
     Stopped(usize, usize),
 }
 
-// Where the rows stand behind a row; or the number of its refusal.
-pub enum Turn {
-    Next(Cursor),
-    Refused(usize),
-}
-
-// Every row is right; or a refusal's number and place.
-pub enum Verdict {
-    Right,
-    Wrong(usize, usize),
-}
-
 // Rows to a message, behind the judgements on table, type, format and buffer: judges the rows, each 20 then 21, then 22, and puts the message at the output's start.
-// The message is put into no room first, which gives its length.
+// The message is put into an array of 256 bytes first, which judges the rows and gives its length; a message that fits there is copied, a longer one is put again.
 pub fn write_rows(
     table: &[u8],
     forms: &[u8; 256],
@@ -76,27 +80,24 @@ pub fn write_rows(
     requires { ⌜ (top < 65536) × (count ≤ 4294967296) × (length (now buffer) ≤ 65536) ⌝ }
     ensures { λ r. ⌜ (r ≡ outcomeOf (written (now (table .entry)) top format count (now (rows .entry)) (now (buffer .entry)) (length (now (out .entry))))) × (now (out .exit) ≡ output (written (now (table .entry)) top format count (now (rows .entry)) (now (buffer .entry)) (length (now (out .entry)))) (now (out .entry))) ⌝ }
 {
-    let verdict = judge::all(table, top, count, rows, buffer);
-    match verdict {
-        Verdict::Wrong(number, place) => Outcome::Stopped(number, place),
-        Verdict::Right => {
-            let sliced = format != 0;
-            let mut nothing = [0u8; 1];
-            let n = message::put_message(
-                table,
-                forms,
-                &mut nothing,
-                top,
-                sliced,
-                count,
-                rows,
-                buffer,
-            );
+    if rows.len() / 12 < count {
+        return Outcome::Stopped(20, count);
+    }
+    let sliced = format != 0;
+    let mut few = [0u8; 256];
+    let put = message::put_message(table, forms, &mut few, top, sliced, count, rows, buffer);
+    match put {
+        Put::Wrong(number, place) => Outcome::Stopped(number, place),
+        Put::Made(n) => {
             if 65536 < n {
                 return Outcome::Stopped(22, n);
             }
             if out.len() < n {
                 return Outcome::Stopped(22, n);
+            }
+            if n <= 256 {
+                wire::put_part(out, 0, &few, 0, n);
+                return Outcome::Made(n);
             }
             message::put_message(table, forms, out, top, sliced, count, rows, buffer);
             Outcome::Made(n)

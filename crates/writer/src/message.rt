@@ -1,4 +1,5 @@
-// Puts the slices of a chain, and a message.
+// Judges the rows and puts the slices of a chain, and a message.
+use crate::Put;
 use crate::slice;
 ghost use mathlib.Core.Path.{_≡_};
 ghost use Prim.Native.Nat.{_≤_, _<_};
@@ -7,11 +8,10 @@ ghost use Rattle.encoding.specs.Table.{chain};
 ghost use Rattle.encoding.specs.Slice.{first, slicesBytes};
 ghost use Rattle.encoding.specs.Message.{encapsulate};
 ghost use Rattle.table.specs.Forms.{formsOf};
-ghost use Rattle.writer.specs.Puts.{Puts};
 ghost use Rattle.writer.specs.Slices.{formatBy, slicesFrom};
-ghost use Rattle.writer.specs.Messages.{contentsOf};
+ghost use Rattle.writer.specs.Messages.{contentsOf, AllPut};
 
-// Puts the slices of row t and its bases, and gives their end.
+// Judges the rows and puts the slices of row t and its bases.
 fn put_slices(
     table: &[u8],
     forms: &[u8; 256],
@@ -22,10 +22,10 @@ fn put_slices(
     count: usize,
     rows: &[u8],
     buffer: &[u8],
-) -> usize
+) -> Put
     requires { ⌜ now forms ≡ formsOf (now table) ⌝ }
     requires { ⌜ (start ≤ 7) × (t < 65536) × (count ≤ 4294967296) × (length (now buffer) ≤ 65536) ⌝ }
-    ensures { λ r. ⌜ Puts start (slicesBytes (formatBy sliced) first (slicesFrom (now (table .entry)) (now (rows .entry)) (now (buffer .entry)) count 0 (chain (now (table .entry)) t))) (now (out .entry)) (now (out .exit)) r ⌝ }
+    ensures { λ r. ⌜ AllPut (now (table .entry)) (now (rows .entry)) (now (buffer .entry)) count t start (slicesBytes (formatBy sliced) first (slicesFrom (now (table .entry)) (now (rows .entry)) (now (buffer .entry)) count 0 (chain (now (table .entry)) t))) (now (out .entry)) (now (out .exit)) r ⌝ }
 {
     let mut at = start;
     let mut o = t;
@@ -47,8 +47,14 @@ fn put_slices(
             rows,
             buffer,
         );
+        if d.fault != 0 {
+            return Put::Wrong(d.fault, d.row);
+        }
         if up == 0 {
-            return d.end;
+            if d.row < count {
+                return Put::Wrong(20, d.row);
+            }
+            return Put::Made(d.end);
         }
         at = d.end;
         o = up - 1;
@@ -57,7 +63,7 @@ fn put_slices(
     }
 }
 
-// Puts the data of an encapsulation, and gives their end: a parameter list, a class instance behind its marker, or an exception.
+// Judges the rows and puts the data of an encapsulation: a parameter list, a class instance behind its marker, or an exception.
 fn put_contents(
     table: &[u8],
     forms: &[u8; 256],
@@ -67,15 +73,21 @@ fn put_contents(
     count: usize,
     rows: &[u8],
     buffer: &[u8],
-) -> usize
+) -> Put
     requires { ⌜ now forms ≡ formsOf (now table) ⌝ }
     requires { ⌜ (t < 65536) × (count ≤ 4294967296) × (length (now buffer) ≤ 65536) ⌝ }
-    ensures { λ r. ⌜ Puts 6 (contentsOf (now (table .entry)) (now (rows .entry)) (now (buffer .entry)) count (formatBy sliced) t) (now (out .entry)) (now (out .exit)) r ⌝ }
+    ensures { λ r. ⌜ AllPut (now (table .entry)) (now (rows .entry)) (now (buffer .entry)) count t 6 (contentsOf (now (table .entry)) (now (rows .entry)) (now (buffer .entry)) count (formatBy sliced) t) (now (out .entry)) (now (out .exit)) r ⌝ }
 {
     let k = table::kind(table, t);
     if k == 15 {
         let d = slice::put_rows(table, forms, out, 6, t, 0, count, rows, buffer);
-        return d.end;
+        if d.fault != 0 {
+            return Put::Wrong(d.fault, d.row);
+        }
+        if d.row < count {
+            return Put::Wrong(20, d.row);
+        }
+        return Put::Made(d.end);
     }
     if k == 14 {
         wire::put_number(out, 6, 1, 1);
@@ -84,7 +96,7 @@ fn put_contents(
     put_slices(table, forms, out, 6, t, sliced, count, rows, buffer)
 }
 
-// Puts the message, and gives its length: the data, then the size and the version before them.
+// Judges the rows and puts the message: the data, then the size and the version before them.
 pub fn put_message(
     table: &[u8],
     forms: &[u8; 256],
@@ -94,13 +106,18 @@ pub fn put_message(
     count: usize,
     rows: &[u8],
     buffer: &[u8],
-) -> usize
+) -> Put
     requires { ⌜ now forms ≡ formsOf (now table) ⌝ }
     requires { ⌜ (t < 65536) × (count ≤ 4294967296) × (length (now buffer) ≤ 65536) ⌝ }
-    ensures { λ r. ⌜ Puts 0 (encapsulate (contentsOf (now (table .entry)) (now (rows .entry)) (now (buffer .entry)) count (formatBy sliced) t)) (now (out .entry)) (now (out .exit)) r ⌝ }
+    ensures { λ r. ⌜ AllPut (now (table .entry)) (now (rows .entry)) (now (buffer .entry)) count t 0 (encapsulate (contentsOf (now (table .entry)) (now (rows .entry)) (now (buffer .entry)) count (formatBy sliced) t)) (now (out .entry)) (now (out .exit)) r ⌝ }
 {
-    let n = put_contents(table, forms, out, t, sliced, count, rows, buffer);
-    wire::put_number(out, 0, 4, n);
-    wire::put_number(out, 4, 2, 257);
-    n
+    let put = put_contents(table, forms, out, t, sliced, count, rows, buffer);
+    match put {
+        Put::Made(n) => {
+            wire::put_number(out, 0, 4, n);
+            wire::put_number(out, 4, 2, 257);
+            Put::Made(n)
+        }
+        Put::Wrong(number, place) => Put::Wrong(number, place),
+    }
 }

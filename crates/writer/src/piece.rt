@@ -1,34 +1,27 @@
-// Puts one member: its header, its length field, its bytes.
+// Judges one row and puts its member: its header, its length field, its bytes.
 use crate::Cursor;
 use crate::Placed;
 use crate::Reach;
+use crate::RowNumbers;
 use crate::rows;
 use crate::state;
 ghost use mathlib.Core.Path.{_≡_};
 ghost use Prim.Native.Nat.{_+_, _≤_, _<_};
 ghost use lib.ListN.{length};
-ghost use Rattle.encoding.specs.Types.{formOf};
-ghost use Rattle.encoding.specs.Table.{tag, trees, memberTy};
-ghost use Rattle.encoding.specs.Optional.{optional, pieceBytes};
-ghost use Rattle.encoding.specs.Write.{rowAt, partOf};
-ghost use Rattle.table.specs.Forms.{formNumber, formsOf};
-ghost use Rattle.writer.specs.Cursors.{stateOf};
+ghost use Rattle.encoding.specs.Table.{tyOf};
+ghost use Rattle.encoding.specs.Write.{partOf};
+ghost use Rattle.table.specs.Forms.{formsOf};
 ghost use Rattle.writer.specs.Puts.{Puts};
-ghost use Rattle.writer.specs.Pieces.{headerField, formBits, lengthField, pieceAt, RowPut};
+ghost use Rattle.writer.specs.Judged.{partForm};
+ghost use Rattle.writer.specs.Pieces.{rowOf, headerField, formBits, lengthField, formIn, optionalField, RowPut};
 
-// Puts the bytes of row i, and gives their end.
-fn put_content(out: &mut [u8], at: usize, rows: &[u8], i: usize, buffer: &[u8]) -> usize
-    requires { ⌜ (at ≤ 1152921504606847000) × (i < 4294967296) ⌝ }
-    ensures { λ r. ⌜ Puts at (partOf (now (buffer .entry)) (rowAt (now (rows .entry)) i)) (now (out .entry)) (now (out .exit)) r × (r ≤ at + length (now (buffer .entry))) ⌝ }
+// Puts the bytes of a row, and gives their end.
+fn put_content(out: &mut [u8], at: usize, row: RowNumbers, buffer: &[u8]) -> usize
+    requires { ⌜ (at ≤ 1152921504606847000) × (length (now buffer) ≤ 65536) ⌝ }
+    ensures { λ r. ⌜ Puts at (partOf (now (buffer .entry)) (rowOf row)) (now (out .entry)) (now (out .exit)) r × (r ≤ at + length (now (buffer .entry))) ⌝ }
 {
-    wire::put_part(
-        out,
-        at,
-        buffer,
-        rows::place_of(rows, i),
-        rows::length_of(rows, i),
-    );
-    at + rows::part_len(rows, i, buffer)
+    wire::put_part(out, at, buffer, row.place, row.len);
+    at + rows::part_len(row, buffer)
 }
 
 // Puts an optional's header, and gives its end.
@@ -74,40 +67,51 @@ fn put_length(out: &mut [u8], at: usize, form: usize, n: usize) -> usize
     at + 4
 }
 
-// The form of an optional of member row m's type.
-fn form_of(table: &[u8], forms: &[u8; 256], m: usize) -> usize
-    requires { ⌜ now forms ≡ formsOf (now table) ⌝ }
-    ensures { λ r. ⌜ r ≡ formNumber (formOf (memberTy (now (table .entry)) (trees (now (table .entry))) m)) ⌝ }
+// The form of an optional of type row t, of the forms of the rows.
+fn form_of(forms: &[u8; 256], t: usize) -> usize
+    ensures { λ r. ⌜ r ≡ formIn (now (forms .entry)) t ⌝ }
 {
-    let t = table::type_of_member(table, m);
     if t < 256 {
         return wire::wide(forms[t]);
     }
     10
 }
 
-// Puts row i as an optional member of member row m, and gives its end.
-fn put_optional(
-    table: &[u8],
-    forms: &[u8; 256],
-    out: &mut [u8],
-    at: usize,
-    m: usize,
-    rows: &[u8],
-    i: usize,
-    buffer: &[u8],
-) -> usize
-    requires { ⌜ now forms ≡ formsOf (now table) ⌝ }
-    requires { ⌜ (at ≤ 1152921504606846976) × (i < 4294967296) ⌝ }
-    ensures { λ r. ⌜ Puts at (pieceBytes (optional (tag (now (table .entry)) m) (formOf (memberTy (now (table .entry)) (trees (now (table .entry))) m)) (partOf (now (buffer .entry)) (rowAt (now (rows .entry)) i)))) (now (out .entry)) (now (out .exit)) r × (r ≤ at + 11 + length (now (buffer .entry))) ⌝ }
+// 20 where a row's part lies outside the buffer, 21 where it isn't exactly a value of type row t, else 0.
+fn part_form(table: &[u8], t: usize, row: RowNumbers, buffer: &[u8]) -> usize
+    requires { ⌜ length (now buffer) ≤ 65536 ⌝ }
+    ensures { λ r. ⌜ r ≡ partForm (now (buffer .entry)) (rowOf row) (tyOf (now (table .entry)) t) ⌝ }
 {
-    let form = form_of(table, forms, m);
-    let a = put_header(out, at, table::tag(table, m), form_bits(form));
-    let b = put_length(out, a, form, rows::part_len(rows, i, buffer));
-    put_content(out, b, rows, i, buffer)
+    let place = row.place;
+    let len = row.len;
+    if wire::fits(buffer.len(), place, len) {
+        let e = place + len;
+        if value::exact_value(table, t, &buffer[place..e]) {
+            return 0;
+        }
+        return 21;
+    }
+    20
 }
 
-// Puts row i, if it is a member of the owner where the rows stand.
+// Puts a row as an optional of a tag and form, and gives its end.
+fn put_optional(
+    out: &mut [u8],
+    at: usize,
+    tag: usize,
+    form: usize,
+    row: RowNumbers,
+    buffer: &[u8],
+) -> usize
+    requires { ⌜ (at ≤ 1152921504606846976) × (length (now buffer) ≤ 65536) ⌝ }
+    ensures { λ r. ⌜ Puts at (optionalField tag form (partOf (now (buffer .entry)) (rowOf row))) (now (out .entry)) (now (out .exit)) r × (r ≤ at + 11 + length (now (buffer .entry))) ⌝ }
+{
+    let a = put_header(out, at, tag, form_bits(form));
+    let b = put_length(out, a, form, rows::part_len(row, buffer));
+    put_content(out, b, row, buffer)
+}
+
+// Judges row i, each 20 then 21, and puts it, if it is a member of the owner where the rows stand.
 pub fn put_row(
     table: &[u8],
     forms: &[u8; 256],
@@ -120,19 +124,30 @@ pub fn put_row(
 ) -> Placed
     requires { ⌜ now forms ≡ formsOf (now table) ⌝ }
     requires { ⌜ (at ≤ 1152921504606846976) × (i < 4294967296) × (from .passed ≤ 65536) × (length (now buffer) ≤ 65536) ⌝ }
-    ensures { λ r. ⌜ RowPut (now (table .entry)) at (now (out .entry)) (now (out .exit)) (pieceAt (now (table .entry)) (now (rows .entry)) (now (buffer .entry)) (stateOf (now (table .entry)) from) i) r ⌝ }
+    ensures { λ r. ⌜ RowPut (now (table .entry)) (now (rows .entry)) (now (buffer .entry)) from i at (now (out .entry)) (now (out .exit)) r ⌝ }
 {
-    let m = rows::member_of(rows, i);
-    let r = state::reach_here(table, from, m);
+    let row = rows::row_at(rows, i);
+    let r = state::reach_in(table, from, row.member);
     match r {
         Reach::Due(c) => {
-            let end = put_content(out, at, rows, i, buffer);
+            let t = table::type_of_member(table, row.member);
+            let fault = part_form(table, t, row, buffer);
+            if fault != 0 {
+                return Placed::Wrong(fault);
+            }
+            let end = put_content(out, at, row, buffer);
             Placed::Row(c, end, false)
         }
         Reach::May(c) => {
-            let end = put_optional(table, forms, out, at, m, rows, i, buffer);
+            let t = table::type_of_member(table, row.member);
+            let fault = part_form(table, t, row, buffer);
+            if fault != 0 {
+                return Placed::Wrong(fault);
+            }
+            let end = put_optional(out, at, c.least - 1, form_of(forms, t), row, buffer);
             Placed::Row(c, end, true)
         }
-        Reach::Nothing => Placed::Stop,
+        Reach::Above => Placed::Stop,
+        Reach::Nothing => Placed::Wrong(20),
     }
 }

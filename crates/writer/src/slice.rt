@@ -1,8 +1,9 @@
-// Puts the members of an owner, and its slice.
+// Judges and puts the rows of an owner, and its slice.
 use crate::Cursor;
 use crate::Laid;
 use crate::Placed;
 use crate::piece;
+use crate::state;
 ghost use mathlib.Core.Path.{_≡_};
 ghost use Prim.Native.Nat.{_+_, _≤_, _<_};
 ghost use lib.ListN.{length};
@@ -10,9 +11,9 @@ ghost use Rattle.encoding.specs.Result.{pick};
 ghost use Rattle.encoding.specs.Table.{nameOf};
 ghost use Rattle.table.specs.Forms.{formsOf};
 ghost use Rattle.writer.specs.Puts.{Puts};
-ghost use Rattle.writer.specs.Slices.{formatBy, idField, frontField, RowsLaid, DataLaid, SliceLaid};
+ghost use Rattle.writer.specs.Slices.{formatBy, idField, frontField, RowsPut, DataPut, SlicePut};
 
-// Puts the rows of owner o from row `first` on.
+// Judges and puts the rows of owner o from row `first` on.
 pub fn put_rows(
     table: &[u8],
     forms: &[u8; 256],
@@ -26,7 +27,7 @@ pub fn put_rows(
 ) -> Laid
     requires { ⌜ now forms ≡ formsOf (now table) ⌝ }
     requires { ⌜ (start ≤ 576460752303423488) × (first ≤ count) × (count ≤ 4294967296) × (length (now buffer) ≤ 65536) ⌝ }
-    ensures { λ r. ⌜ RowsLaid (now (table .entry)) (now (rows .entry)) (now (buffer .entry)) count o first start (now (out .entry)) (now (out .exit)) r ⌝ }
+    ensures { λ r. ⌜ RowsPut (now (table .entry)) (now (rows .entry)) (now (buffer .entry)) count o first start (now (out .entry)) (now (out .exit)) r ⌝ }
 {
     let mut from = Cursor {
         owner: o,
@@ -50,14 +51,32 @@ pub fn put_rows(
                     end: at,
                     row: i,
                     optionals: optionals,
+                    fault: 0,
+                };
+            }
+            Placed::Wrong(number) => {
+                return Laid {
+                    end: at,
+                    row: i,
+                    optionals: optionals,
+                    fault: number,
                 };
             }
         }
+    }
+    if state::is_due(table, from) {
+        return Laid {
+            end: at,
+            row: i,
+            optionals: optionals,
+            fault: 20,
+        };
     }
     Laid {
         end: at,
         row: i,
         optionals: optionals,
+        fault: 0,
     }
 }
 
@@ -99,7 +118,7 @@ fn put_id(table: &[u8], out: &mut [u8], at: usize, o: usize, id: bool) -> usize
     at
 }
 
-// Puts a slice's data: the rows of owner o and, behind optionals, byte 255.
+// Judges the rows of owner o and puts a slice's data: the rows and, behind optionals, byte 255.
 fn put_data(
     table: &[u8],
     forms: &[u8; 256],
@@ -113,15 +132,19 @@ fn put_data(
 ) -> Laid
     requires { ⌜ now forms ≡ formsOf (now table) ⌝ }
     requires { ⌜ (start ≤ 576460752303423488) × (first ≤ count) × (count ≤ 4294967296) × (length (now buffer) ≤ 65536) ⌝ }
-    ensures { λ r. ⌜ DataLaid (now (table .entry)) (now (rows .entry)) (now (buffer .entry)) count o first start (now (out .entry)) (now (out .exit)) r ⌝ }
+    ensures { λ r. ⌜ DataPut (now (table .entry)) (now (rows .entry)) (now (buffer .entry)) count o first start (now (out .entry)) (now (out .exit)) r ⌝ }
 {
     let d = put_rows(table, forms, out, start, o, first, count, rows, buffer);
+    if d.fault != 0 {
+        return d;
+    }
     if d.optionals {
         wire::put_number(out, d.end, 1, 255);
         return Laid {
             end: d.end + 1,
             row: d.row,
             optionals: true,
+            fault: 0,
         };
     }
     d
@@ -162,7 +185,7 @@ fn put_front(
     a
 }
 
-// Puts the slice of owner o: the data first, then what stands before them.
+// Judges the rows of owner o and puts its slice: the data first, then what stands before them.
 pub fn put_slice(
     table: &[u8],
     forms: &[u8; 256],
@@ -179,10 +202,13 @@ pub fn put_slice(
 ) -> Laid
     requires { ⌜ now forms ≡ formsOf (now table) ⌝ }
     requires { ⌜ (at ≤ 288230376151711744) × (first ≤ count) × (count ≤ 4294967296) × (length (now buffer) ≤ 65536) ⌝ }
-    ensures { λ r. ⌜ SliceLaid (now (table .entry)) (now (rows .entry)) (now (buffer .entry)) count (formatBy sliced) id last o first at (now (out .entry)) (now (out .exit)) r ⌝ }
+    ensures { λ r. ⌜ SlicePut (now (table .entry)) (now (rows .entry)) (now (buffer .entry)) count (formatBy sliced) id last o first at (now (out .entry)) (now (out .exit)) r ⌝ }
 {
     let start = at + front_len(table, o, id, sliced);
     let d = put_data(table, forms, out, start, o, first, count, rows, buffer);
+    if d.fault != 0 {
+        return d;
+    }
     let n = d.end - start;
     put_front(table, out, at, o, id, sliced, d.optionals, last, n);
     d

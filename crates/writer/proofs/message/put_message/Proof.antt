@@ -1,6 +1,6 @@
--- Size and version are put before the data. Assumes nothing.
+-- Size and version are put before the data, if the rows are right. Assumes nothing.
 use borrow.Author.Needs.{needs}
-use Rattle.writer.proofs.Walks.{message-laid}
+use Rattle.writer.proofs.Walks.{message-made, message-wrong}
 use Rattle.writer.proofs.message.put_message.Statement.{statement}
 use Rattle.writer.proofs.message.put_message.Tie as tie
 
@@ -9,7 +9,11 @@ put-message-spec =
     tie.close
     (tie.spec
     (λ c κs. search needs)  -- put-contents-requires
+    (λ c. search needs)  -- enum-known-put
     (λ c κs. search needs)  -- put-number-requires
     (λ c κs. search needs)  -- put-number-requires-2
+    (λ c. search needs)  -- enum-known-put-2
     (λ c. search needs)  -- same-length
-    (λ c. message-laid _ _ _ _ _ _ (c .before .before .before .before .before .before .before .before .before .before .put-contents .ensures) (c .before .before .before .before .before .before .put-number .ensures) (c .before .before .put-number2 .ensures)))  -- returns
+    (λ c. message-made _ _ _ _ _ _ _ _ (c .before .before .before .before .before .before .before .before .before .before .before .before .before .put-contents .result) (c .before .before .before .before .before .before .before .before .before .before .before .before .before .put-contents .ensures) _ (c .before .before .before .before .before .before .before .before .before .put .given .1) _ _ (c .before .before .before .before .before .before .put-number .ensures) (c .before .before .put-number2 .ensures))  -- returns
+    (λ c. search needs)  -- same-length-2
+    (λ c. message-wrong _ _ _ _ _ _ _ _ (c .before .before .before .before .before .put-contents .result) (c .before .before .before .before .before .put-contents .ensures) _ _ (c .before .put2 .given .1)))  -- returns-2

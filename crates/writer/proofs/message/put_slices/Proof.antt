@@ -1,10 +1,10 @@
--- The loop's invariant: the slices from the owner at hand on are still to be put. The measure is the owner, since a base is smaller. Assumes nothing.
+-- The loop's invariant: the slices from the owner at hand on are still to be put, and the rows left decide. The measure is the owner, since a base is smaller. Assumes nothing.
 use borrow.Author.Needs.{needs}
 use mathlib.Core.Path.{_≡_, refl}
 use native.Mathlib.Omega.{arith}
 use lib.ListN.{length}
 use Rattle.writer.specs.Slices.{formatBy}
-use Rattle.writer.proofs.Walks.{Slicing, slicing-begin, slicing-end, slicing-next}
+use Rattle.writer.proofs.Walks.{Slicing, slicing-begin, slicing-wrong, slicing-over, slicing-end, slicing-next}
 use Rattle.writer.proofs.message.put_slices.Statement.{statement}
 use Rattle.writer.proofs.message.put_slices.Tie as tie
 
@@ -22,9 +22,13 @@ put-slices-spec =
     μ-loop
     (λ c. (refl, search slicing-begin))  -- loop-holds
     (λ c κs. search needs)  -- base-requires
-    (λ c κs. (c .before .before .before .before .before .before .before .pre .0, (omega (arith, c .before .before .loop .inv .1 .few, c .before .before .loop .inv .1 .within, c .before .before .loop .inv .1 .below), c .before .before .loop .inv .1 .within, omega arith, omega arith)))  -- put-slice-requires
+    (λ c κs. ((c .before .before .before .before .before .before .before .pre .0), (omega (arith, (c .before .before .loop .inv .1 .few), (c .before .before .loop .inv .1 .within), (c .before .before .loop .inv .1 .below)), (c .before .before .loop .inv .1 .within), omega arith, omega arith)))  -- put-slice-requires
     (λ c. search needs)  -- same-length
-    (λ c. slicing-end _ _ _ _ _ (c .before .before .before .before .before .before .before .before .before .before .before .args .sliced) _ _ _ _ _ _ _ (c .before .before .before .before .before .before .loop .inv .1) _ (c .before .before .before .before .before .base .ensures .0) _ _ (c .before .before .before .put-slice .ensures) (c .if1 .taken))  -- returns
+    (λ c. slicing-wrong _ _ _ _ _ (c .before .before .before .before .before .before .before .before .before .before .before .before .args .sliced) _ _ _ _ _ _ _ (c .before .before .before .before .before .before .before .loop .inv .1) _ (c .before .before .before .before .before .before .base .ensures .0) _ _ (c .before .before .before .before .put-slice .ensures) (c .if1 .taken))  -- returns
+    (λ c. search needs)  -- same-length-2
+    (λ c. slicing-over _ _ _ _ _ (c .before .before .before .before .before .before .before .before .before .before .before .before .before .before .before .args .sliced) _ _ _ _ _ _ _ (c .before .before .before .before .before .before .before .before .before .before .loop .inv .1) _ (c .before .before .before .before .before .before .before .before .before .base .ensures .0) _ _ (c .before .before .before .before .before .before .before .put-slice .ensures) (c .before .before .before .if1 .left) (c .before .before .if2 .taken) (c .if3 .taken))  -- returns-2
+    (λ c. search needs)  -- same-length-3
+    (λ c. slicing-end _ _ _ _ _ (c .before .before .before .before .before .before .before .before .before .before .before .before .before .before .before .args .sliced) _ _ _ _ _ _ _ (c .before .before .before .before .before .before .before .before .before .before .loop .inv .1) _ (c .before .before .before .before .before .before .before .before .before .base .ensures .0) _ _ (c .before .before .before .before .before .before .before .put-slice .ensures) (c .before .before .before .if1 .left) (c .before .before .if2 .taken) (c .if3 .left))  -- returns-3
     (λ c. omega arith)  -- sub-o
     (λ c. omega arith)  -- loop-less
-    (λ c. (search needs, slicing-next _ _ _ _ _ (c .before .before .before .before .before .before .before .before .before .before .before .args .sliced) _ _ _ _ _ _ _ (c .before .before .before .before .before .before .loop .inv .1) _ (c .before .before .before .before .before .base .ensures .0) _ _ (c .before .before .before .put-slice .ensures) (c .if1 .left) (c .before .before .before .before .before .base .ensures .1))))  -- loop-again
+    (λ c. (search needs, slicing-next _ _ _ _ _ (c .before .before .before .before .before .before .before .before .before .before .before .before .before .args .sliced) _ _ _ _ _ _ _ (c .before .before .before .before .before .before .before .before .loop .inv .1) _ (c .before .before .before .before .before .before .before .base .ensures .0) _ _ (c .before .before .before .before .before .put-slice .ensures) (c .before .if1 .left) (c .if2 .left) (c .before .before .before .before .before .before .before .base .ensures .1))))  -- loop-again

@@ -1,4 +1,4 @@
--- From the forms of the rows; a row past them has no tree. Assumes nothing.
+-- From the forms of the rows. Assumes nothing.
 use borrow.Author.Needs.{needs}
 use Rattle.writer.proofs.Fields.{form-here, form-past}
 use Rattle.writer.proofs.piece.form_of.Statement.{statement}
@@ -8,7 +8,6 @@ pub form-of-spec : {M : Type 1} → statement M
 form-of-spec =
     tie.close
     (tie.spec
-    (λ c κs. search needs)  -- type-of-member-requires
     (λ c. search needs)  -- element-copy-out-wide
     (λ c κs. search needs)  -- wide-requires
     (λ c. search form-here)  -- returns

@@ -8,8 +8,6 @@ pub put-content-spec : {M : Type 1} → statement M
 put-content-spec =
     tie.close
     (tie.spec
-    (λ c κs. search needs)  -- place-of-requires
-    (λ c κs. search needs)  -- length-of-requires
     (λ c κs. search needs)  -- put-part-requires
     (λ c κs. search needs)  -- part-len-requires
     (λ c. search needs)  -- add-result

@@ -9,12 +9,10 @@ pub put-optional-spec : {M : Type 1} → statement M
 put-optional-spec =
     tie.close
     (tie.spec
-    (λ c κs. search needs)  -- form-of-requires
-    (λ c κs. search needs)  -- tag-requires
     (λ c κs. search needs)  -- form-bits-requires
     (λ c κs. search needs)  -- put-header-requires
     (λ c κs. search needs)  -- part-len-requires
     (λ c κs. search needs)  -- put-length-requires
     (λ c κs. search needs)  -- put-content-requires
     (λ c. search needs)  -- same-length
-    (λ c. (optional-put _ _ _ _ _ _ _ _ _ _ _ _ _ _ _ (c .before .before .before .before .before .before .before .before .before .before .before .before .before .tag .ensures .0) (c .before .before .before .before .before .before .before .before .before .before .before .before .before .before .before .form-of .ensures) (c .before .before .before .before .before .before .before .before .before .before .before .before .form-bits .ensures .0) (c .before .before .before .before .before .before .before .part-len .ensures .0) (c .before .before .before .before .before .before .before .before .before .before .before .put-header .ensures .0) (c .before .before .before .before .before .before .put-length .ensures .0) (c .before .before .put-content .ensures .0), omega arith)))  -- returns
+    (λ c. (search optional-put, omega arith)))  -- returns

@@ -1,10 +1,10 @@
--- The loop's invariant: the rows from the next on give the pieces still to be put. The measure is the rows left. Assumes nothing.
+-- The loop's invariant: the rows from the next on give the pieces still to be put, and the verdict. The measure is the rows left. Assumes nothing.
 use borrow.Author.Needs.{needs}
 use Prim.Native.Nat.{_-_}
 use mathlib.Core.Path.{_≡_, refl}
 use native.Mathlib.Omega.{arith}
 use lib.ListN.{length}
-use Rattle.writer.proofs.Groups.{Grouping, grouping-begin, grouping-next, grouping-stop, grouping-end}
+use Rattle.writer.proofs.Groups.{Grouping, grouping-begin, grouping-next, grouping-stop, grouping-wrong, grouping-due, grouping-end}
 use Rattle.writer.proofs.slice.put_rows.Statement.{statement}
 use Rattle.writer.proofs.slice.put_rows.Tie as tie
 
@@ -25,9 +25,15 @@ put-rows-spec =
     (λ c. search needs)  -- enum-known-p
     (λ c. omega arith)  -- add-i
     (λ c. omega arith)  -- loop-less
-    (λ c. (search needs, grouping-next _ _ _ _ _ _ _ _ _ _ _ _ _ (c .before .before .before .before .before .before .before .before .loop .inv .1) _ _ (c .before .before .before .before .before .put-row .ensures) (c .before .before .before .before .before .before .before .loop-test .taken) _ _ _ (c .before .p .given .1)))  -- loop-again
+    (λ c. (search needs, search grouping-next))  -- loop-again
     (λ c. search needs)  -- enum-told
     (λ c. search needs)  -- same-length
-    (λ c. grouping-stop _ _ _ _ _ _ _ _ _ _ _ _ _ (c .before .before .before .before .before .before .before .loop .inv .1) _ _ (c .before .before .before .before .put-row .ensures) (c .enum-told .given .1))  -- returns
-    (λ c. c .before .loop .inv .0)  -- same-length-2
-    (λ c. search grouping-end))  -- returns-2
+    (λ c. search grouping-stop)  -- returns
+    (λ c. search needs)  -- enum-known-p-2
+    (λ c. search needs)  -- same-length-2
+    (λ c. search grouping-wrong)  -- returns-2
+    (λ c κs. search needs)  -- is-due-requires
+    (λ c. search needs)  -- same-length-3
+    (λ c. search grouping-due)  -- returns-3
+    (λ c. search needs)  -- same-length-4
+    (λ c. search grouping-end))  -- returns-4

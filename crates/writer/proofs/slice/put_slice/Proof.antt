@@ -1,7 +1,8 @@
--- The front is put before the data. Assumes nothing.
+-- The front is put before the data; or the rows are refused. Assumes nothing.
 use borrow.Author.Needs.{needs}
 use mathlib.Core.Path.{refl}
-use Rattle.writer.proofs.Fronts.{slice-laid}
+use native.Mathlib.Omega.{arith}
+use Rattle.writer.proofs.Fronts.{still-wrong, slice-laid}
 use Rattle.writer.proofs.slice.put_slice.Statement.{statement}
 use Rattle.writer.proofs.slice.put_slice.Tie as tie
 
@@ -12,7 +13,9 @@ put-slice-spec =
     (λ c κs. search needs)  -- front-len-requires
     (λ c. search needs)  -- add-start
     (λ c κs. search needs)  -- put-data-requires
-    (λ c. search needs)  -- sub-n
-    (λ c κs. search needs)  -- put-front-requires
     (λ c. search needs)  -- same-length
-    (λ c. slice-laid _ _ _ _ _ _ _ _ (c .before .before .before .before .before .before .before .before .before .before .before .before .before .before .args .sliced) _ _ _ _ _ _ _ _ (c .before .before .before .before .before .before .before .before .before .front-len .ensures .0) (c .before .before .before .before .before .before .before .before .before .front-len .ensures .1) (c .before .before .before .before .before .before .before .put-data .ensures) refl (c .before .before .put-front .ensures)))  -- returns
+    (λ c. still-wrong _ _ _ _ _ _ _ _ _ (c .before .before .before .before .put-data .ensures) (c .if1 .taken))  -- returns
+    (λ c. omega (arith, c .before .before .before .before .before .put-data .ensures .right (c .before .if1 .left) .puts .ends))  -- sub-n
+    (λ c κs. (omega arith, omega (arith, c .before .before .before .before .before .before .put-data .ensures .right (c .before .before .if1 .left) .few, c .before .before .before .before .before .before .put-data .ensures .right (c .before .before .if1 .left) .within)))  -- put-front-requires
+    (λ c. search needs)  -- same-length-2
+    (λ c. slice-laid _ _ _ _ _ _ _ _ (c .before .before .before .before .before .before .before .before .before .before .before .before .before .before .before .before .args .sliced) _ _ _ _ _ _ _ _ (c .before .before .before .before .before .before .before .before .before .before .before .front-len .ensures .0) (c .before .before .before .before .before .before .before .before .before .before .before .front-len .ensures .1) (c .before .before .before .before .before .before .before .before .before .put-data .ensures) (c .before .before .before .before .before .if1 .left) refl (c .before .before .put-front .ensures)))  -- returns-2

@@ -8,10 +8,10 @@ use Rattle.writer.proofs.state.next_due.Statement.{statement}
 use Rattle.writer.proofs.state.next_due.Tie as tie
 
 abbrev Inv-loop : tie.InvT-loop
-Inv-loop table o passed a b k₀ k = Passing table o passed k
+Inv-loop table a b passed k₀ k = Passing table a b passed k
 
 abbrev μ-loop : tie.MeasureT-loop
-μ-loop table o passed a b k₀ k = b - k
+μ-loop table a b passed k₀ k = b - k
 
 pub next-due-spec : {M : Type 1} → statement M
 next-due-spec =
@@ -19,11 +19,9 @@ next-due-spec =
     (tie.spec
     Inv-loop
     μ-loop
-    (λ c κs. search needs)  -- field-requires
-    (λ c κs. search needs)  -- field-requires-2
     (λ c. (omega arith, refl))  -- loop-holds
-    (λ c. omega arith)  -- add-mark
-    (λ c κs. search needs)  -- mark-requires
+    (λ c. omega arith)  -- add-member-row
+    (λ c κs. search needs)  -- member-row-requires
     (λ c. search passing-here)  -- returns
     (λ c. omega arith)  -- add-k
     (λ c. omega arith)  -- loop-less
