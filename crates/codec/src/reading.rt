@@ -38,7 +38,8 @@ pub fn walk(table: &[u8], top: usize, message: &[u8], out: &mut [u8]) -> Walk
     if 65536 < n {
         return Walk::Stop(3, 0);
     }
-    let forms = table::forms::all(table);
+    let mut forms = [0u8; 256];
+    table::forms::fill(table, &mut forms);
     reader::body(table, &forms, top, message, out)
 }
 

@@ -71,7 +71,8 @@ pub fn outcome(
             if n != 0 {
                 return Outcome::Stopped(n, 0);
             }
-            let forms = table::forms::all(table);
+            let mut forms = [0u8; 256];
+            table::forms::fill(table, &mut forms);
             writer::write_rows(table, &forms, top, format, count, rows, buffer, out)
         }
     }

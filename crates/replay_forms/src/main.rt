@@ -11,7 +11,8 @@ fn letter(form: u8) {
 }
 
 fn show(table: &[u8]) {
-    let forms = table::forms::all(table);
+    let mut forms = [0u8; 256];
+    table::forms::fill(table, &mut forms);
     let n = table::rows(table);
     let mut t = 0;
     while t < n {

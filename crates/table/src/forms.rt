@@ -126,12 +126,3 @@ pub fn fill(table: &[u8], forms: &mut [u8; 256])
         t += 1;
     }
 }
-
-// The forms of all rows.
-pub fn all(table: &[u8]) -> [u8; 256]
-    ensures { λ r. ⌜ r ≡ formsOf (now (table .entry)) ⌝ }
-{
-    let mut forms = [10u8; 256];
-    fill(table, &mut forms);
-    forms
-}

@@ -17,7 +17,7 @@ show-spec =
     (tie.spec
     Inv-loop
     μ-loop
-    (λ c κs. search needs)  -- all-requires
+    (λ c κs. search needs)  -- fill-requires
     (λ c κs. search needs)  -- rows-requires
     (λ c. omega arith)  -- loop-holds
     (λ c. omega arith)  -- array-read-letter

@@ -33,7 +33,7 @@ walk-spec =
     (λ c κs. search needs)  -- kind-requires
     returns-3
     returns-4
-    (λ c κs. search needs)  -- all-requires
+    (λ c κs. search needs)  -- fill-requires
     (λ c κs. search needs)  -- body-requires
     (λ c. search needs)  -- same-length
     returns-5)

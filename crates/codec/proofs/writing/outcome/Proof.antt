@@ -26,7 +26,7 @@ outcome-spec =
     (λ c. search needs)  -- enum-told
     (λ c κs. search needs)  -- early-requires
     returns
-    (λ c κs. search needs)  -- all-requires
+    (λ c κs. search needs)  -- fill-requires
     write-rows-requires
     returns-2
     (λ c. search needs)  -- same-length
