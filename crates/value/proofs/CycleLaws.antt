@@ -1,6 +1,6 @@
 -- What the readers of values, structs, sequences and dictionaries make of the answers of those that they call. Assumes nothing.
 --
---   row-not, as-bool .. as-other                             a value by its row's kind
+--   row-not, as-bool .. as-other                             a value by its row's kind; as-bytes one that may be any bytes
 --   struct-begin, member-gone, -read, -next, -fault, -done   the loop over members
 --   seq-none, -took, -bad                                    a sequence: its size, then its elements
 --   dict-none, -took, -bad                                   a dictionary: its size, then its entries
@@ -13,7 +13,7 @@
 use mathlib.Core.Path.{_≡_, refl, sym, ap, _∙_}
 use mathlib.Core.Bool.{false}
 use mathlib.Core.List.{List}
-use Prim.Native.Nat.{ℕ, suc, _+_, _-_, _*_, _≤_, _<_, zero-le}
+use Prim.Native.Nat.{ℕ, zero, suc, _+_, _-_, _*_, _≤_, _<_, zero-le}
 use native.Mathlib.Omega.{arith}
 use native.Mathlib.Nat.{add-zero}
 use lib.ListN.{length, take, drop}
@@ -34,7 +34,7 @@ use Rattle.wire.specs.declared.Sized.{Sized}
 use Rattle.wire.specs.declared.Sized.the-variants.{Is, Isnt}
 use Rattle.wire.specs.Steps.{stepOf, sizedOf}
 use Rattle.wire.specs.StepLaws.{step-fault, took-held, then-none, then-took, then-bad, with-none, with-took, with-bad, Left, left-begin, left-next, left-fault, left-done, turns-begin, turns-next, turns-fault, turns-done}
-use Rattle.value.specs.Parts.{partTy, entry}
+use Rattle.value.specs.Parts.{partTy, width, entry}
 use Rattle.value.proofs.Room.{TookFits, took-fits, BadFits, bad-fits}
 
 -- ---- a value by its row's kind
@@ -81,6 +81,21 @@ module _ (T : List ℕ) (t e : ℕ) (s : List ℕ) where
     pub as-double : k ≡ 6 → r ≡ stepOf (skip 8 s) → r ≡ stepOf (value (partTy T t e) s)
     unfolding rowTy value
     as-double z g = by-row (num double) (rw (sym q ∙ z)) g
+
+    -- one that may be any bytes
+    pub as-bytes : (n : ℕ) → n ≡ width k → 0 < n → r ≡ stepOf (skip n s) → r ≡ stepOf (value (partTy T t e) s)
+    unfolding width
+    as-bytes n w h g = go k refl w
+      where
+        go : (i : ℕ) → k ≡ i → n ≡ width i → r ≡ stepOf (value (partTy T t e) s)
+        go zero z v = absurd (omega arith)
+        go (suc zero) z v = as-byte z (rw v at g)
+        go (suc (suc zero)) z v = as-short z (rw v at g)
+        go (suc (suc (suc zero))) z v = as-int z (rw v at g)
+        go (suc (suc (suc (suc zero)))) z v = as-long z (rw v at g)
+        go (suc (suc (suc (suc (suc zero))))) z v = as-float z (rw v at g)
+        go (suc (suc (suc (suc (suc (suc zero)))))) z v = as-double z (rw v at g)
+        go (suc (suc (suc (suc (suc (suc (suc i))))))) z v = absurd (omega arith)
 
     pub as-string : k ≡ 7 → r ≡ stepOf (Proxy.text s) → r ≡ stepOf (value (partTy T t e) s)
     unfolding rowTy value

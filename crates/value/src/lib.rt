@@ -1,7 +1,8 @@
 // What a value of a table's type takes: on any bytes and any table. plain.rt has the values without parts, proxy.rt the proxies.
 //
 // The readers of values, structs, sequences and dictionaries are one cycle of calls. Each has a bound: a type is one of the rows
-// below it, any other row is broken. The bound falls with each part.
+// below it, any other row is broken. The bound falls with each part. `part` is small enough to be laid into the loops that call it;
+// `value`, called from two places, is not.
 mod plain;
 mod proxy;
 
@@ -44,19 +45,34 @@ fn value(table: &[u8], t: usize, e: usize, s: &[u8]) -> Step
     }
 }
 
+// The same; a value that may be any bytes is taken at once.
+fn part(table: &[u8], t: usize, e: usize, s: &[u8]) -> Step
+    ensures { λ r. ⌜ r ≡ stepOf (value (partTy (now (table .entry)) t e) (now (s .entry))) ⌝ }
+{
+    if e < t {
+        let k = plain::width(table::kind(table, e));
+        if 0 < k {
+            return plain::skip(s, k);
+        }
+    }
+    value(table, t, e, s)
+}
+
 // The members of struct row t, one after another.
 fn struct_value(table: &[u8], t: usize, s: &[u8]) -> Step
     ensures { λ r. ⌜ r ≡ stepOf (value (struct (memberTys (now (table .entry)) (tys (now (table .entry)) t) (ownRows (now (table .entry)) t))) (now (s .entry))) ⌝ }
 {
     let all = table::members(table);
-    let mut m = table::field(table, t, 0);
-    let mut left = table::field(table, t, 1);
+    let owner = table::type_row(table, t);
+    let mut m = owner.a;
+    let mut left = owner.b;
     let mut at: usize = 0;
     while left > 0 {
         if all <= m {
             return Step::Fault(1, at);
         }
-        let step = value(table, t, table::member_type(table, m), &s[at..]);
+        let row = table::member_row(table, m);
+        let step = part(table, t, row.of, &s[at..]);
         match step {
             Step::Took(n) => {
                 at += n;
@@ -95,7 +111,7 @@ fn elements(table: &[u8], t: usize, e: usize, n: usize, s: &[u8]) -> Step
     let mut left = n;
     let mut at: usize = 0;
     while left > 0 {
-        let step = value(table, t, e, &s[at..]);
+        let step = part(table, t, e, &s[at..]);
         match step {
             Step::Took(m) => {
                 at += m;
@@ -154,10 +170,10 @@ fn entries(table: &[u8], t: usize, n: usize, s: &[u8]) -> Step
 fn pair(table: &[u8], t: usize, k: usize, v: usize, s: &[u8]) -> Step
     ensures { λ r. ⌜ r ≡ stepOf (entry (partTy (now (table .entry)) t k) (partTy (now (table .entry)) t v) (now (s .entry))) ⌝ }
 {
-    let first = value(table, t, k, s);
+    let first = part(table, t, k, s);
     match first {
         Step::Took(n) => {
-            let step = value(table, t, v, &s[n..]);
+            let step = part(table, t, v, &s[n..]);
             match step {
                 Step::Took(m) => Step::Took(n + m),
                 Step::Fault(f, p) => Step::Fault(f, n + p),
@@ -171,14 +187,14 @@ fn pair(table: &[u8], t: usize, k: usize, v: usize, s: &[u8]) -> Step
 pub fn read_value(table: &[u8], t: usize, s: &[u8]) -> Step
     ensures { λ r. ⌜ r ≡ stepOf (value (tyOf (now (table .entry)) t) (now (s .entry))) ⌝ }
 {
-    value(table, table::rows(table), t, s)
+    part(table, table::rows(table), t, s)
 }
 
 // The bytes are exactly one value of row t.
 pub fn exact_value(table: &[u8], t: usize, s: &[u8]) -> bool
     ensures { λ r. ⌜ r ≡ exact (tyOf (now (table .entry)) t) (now (s .entry)) ⌝ }
 {
-    let step = read_value(table, t, s);
+    let step = value(table, table::rows(table), t, s);
     match step {
         Step::Took(n) => n == s.len(),
         Step::Fault(f, p) => false,

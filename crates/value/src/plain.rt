@@ -6,8 +6,24 @@ ghost use Rattle.encoding.specs.Proxy.{text};
 ghost use Rattle.encoding.specs.Types.{upto, enum};
 ghost use Rattle.encoding.specs.Value.{value};
 ghost use Rattle.wire.specs.Steps.{stepOf};
+ghost use Rattle.value.specs.Parts.{width};
 use wire::Sized;
 use wire::Step;
+
+// How many bytes a value of kind k has, where it may be any bytes; else 0.
+pub fn width(k: usize) -> usize
+    ensures { λ r. ⌜ r ≡ width k ⌝ }
+{
+    match k {
+        1 => 1,
+        2 => 2,
+        3 => 4,
+        4 => 8,
+        5 => 4,
+        6 => 8,
+        _ => 0,
+    }
+}
 
 // k bytes of any content.
 pub fn skip(s: &[u8], k: usize) -> Step

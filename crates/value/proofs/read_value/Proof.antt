@@ -3,15 +3,11 @@ use borrow.Author.Needs.{needs}
 use Rattle.value.proofs.CycleLaws.{value-row}
 use Rattle.value.proofs.read_value.Statement.{statement}
 use Rattle.value.proofs.read_value.Tie as tie
-use Rattle.value.proofs.read_value.Reads as reads
-use Rattle.value.proofs.read_value.Lts as lts
-use Rattle.table.proofs.rows.Reads as rows-reads
-use Rattle.value.proofs.value.Reads as value-reads
 
 pub read-value-spec : {M : Type 1} → statement M
 read-value-spec =
     tie.close
     (tie.spec
     (λ c κs. search needs)  -- rows-requires
-    (λ c κs. search needs)  -- value-requires
+    (λ c κs. search needs)  -- part-requires
     (λ c. search value-row))  -- returns

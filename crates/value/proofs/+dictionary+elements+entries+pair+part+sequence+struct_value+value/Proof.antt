@@ -1,5 +1,5 @@
 -- The proof of the cycle of calls. Each function has a bound t, below which the rows of parts lie; it falls from a value to the parts
--- of its row. The measure is 4 t for `value`, 4 t + 1 for `elements` and `pair`, 4 t + 2 for `entries`, 4 t + 3 for the three others.
+-- of its row. The measure is 5 t for `value`, 5 t + 1 for `part`, 5 t + 2 for `elements` and `pair`, 5 t + 3 for `entries`, 5 t + 4 for the three others.
 use Prim.Native.Nat.{ℕ, _+_, _*_, _<_}
 use native.Mathlib.Omega.{arith}
 use borrow.Author.Needs.{needs}
@@ -11,63 +11,71 @@ use Rattle.wire.specs.Steps.{stepOf}
 use Rattle.wire.specs.StepLaws.{Left}
 use Rattle.value.specs.Parts.{partTy, entry}
 use Rattle.value.proofs.ProxyLaws.{size-end}
-use Rattle.value.proofs.CycleLaws.{row-not, as-bool, as-byte, as-short, as-int, as-long, as-float, as-double, as-string, as-enum, as-struct, as-seq, as-dict, as-proxy, as-other, struct-begin, member-gone, member-read, member-next, member-fault, member-done, seq-none, seq-took, seq-bad, dict-none, dict-took, dict-bad, element-begin, element-next, element-fault, element-done, entry-begin, entry-next, entry-fault, entry-done, key-end, pair-none, pair-took, pair-bad, value-took-fits, value-bad-fits, elements-took-fits, elements-bad-fits, entry-took-fits, entry-bad-fits, entries-took-fits, entries-bad-fits}
+use Rattle.value.proofs.CycleLaws.{row-not, as-bool, as-byte, as-short, as-int, as-long, as-float, as-double, as-bytes, as-string, as-enum, as-struct, as-seq, as-dict, as-proxy, as-other, struct-begin, member-gone, member-read, member-next, member-fault, member-done, seq-none, seq-took, seq-bad, dict-none, dict-took, dict-bad, element-begin, element-next, element-fault, element-done, entry-begin, entry-next, entry-fault, entry-done, key-end, pair-none, pair-took, pair-bad, value-took-fits, value-bad-fits, elements-took-fits, elements-bad-fits, entry-took-fits, entry-bad-fits, entries-took-fits, entries-bad-fits}
 use borrow.Fn.Kinds.{In}
 use borrow.Fn.PlainCycle.{Measures, is, falls, and}
 use Rattle.value.proofs.dictionary.Reads as dictionary
 use Rattle.value.proofs.dictionary.Kinds as dictionary-kinds
-use Rattle.value.proofs.+dictionary+elements+entries+pair+sequence+struct_value+value.Lts-dictionary as dictionary-lts
+use Rattle.value.proofs.+dictionary+elements+entries+pair+part+sequence+struct_value+value.Lts-dictionary as dictionary-lts
 use Rattle.value.proofs.elements.Reads as elements
 use Rattle.value.proofs.elements.Kinds as elements-kinds
-use Rattle.value.proofs.+dictionary+elements+entries+pair+sequence+struct_value+value.Lts-elements as elements-lts
+use Rattle.value.proofs.+dictionary+elements+entries+pair+part+sequence+struct_value+value.Lts-elements as elements-lts
 use Rattle.value.proofs.entries.Reads as entries
 use Rattle.value.proofs.entries.Kinds as entries-kinds
-use Rattle.value.proofs.+dictionary+elements+entries+pair+sequence+struct_value+value.Lts-entries as entries-lts
+use Rattle.value.proofs.+dictionary+elements+entries+pair+part+sequence+struct_value+value.Lts-entries as entries-lts
 use Rattle.value.proofs.pair.Reads as pair
 use Rattle.value.proofs.pair.Kinds as pair-kinds
-use Rattle.value.proofs.+dictionary+elements+entries+pair+sequence+struct_value+value.Lts-pair as pair-lts
+use Rattle.value.proofs.+dictionary+elements+entries+pair+part+sequence+struct_value+value.Lts-pair as pair-lts
+use Rattle.value.proofs.part.Reads as part
+use Rattle.value.proofs.part.Kinds as part-kinds
+use Rattle.value.proofs.+dictionary+elements+entries+pair+part+sequence+struct_value+value.Lts-part as part-lts
 use Rattle.value.proofs.sequence.Reads as sequence
 use Rattle.value.proofs.sequence.Kinds as sequence-kinds
-use Rattle.value.proofs.+dictionary+elements+entries+pair+sequence+struct_value+value.Lts-sequence as sequence-lts
+use Rattle.value.proofs.+dictionary+elements+entries+pair+part+sequence+struct_value+value.Lts-sequence as sequence-lts
 use Rattle.value.proofs.struct_value.Reads as struct-value
 use Rattle.value.proofs.struct_value.Kinds as struct-value-kinds
-use Rattle.value.proofs.+dictionary+elements+entries+pair+sequence+struct_value+value.Lts-struct_value as struct-value-lts
+use Rattle.value.proofs.+dictionary+elements+entries+pair+part+sequence+struct_value+value.Lts-struct_value as struct-value-lts
 use Rattle.value.proofs.value.Reads as value
 use Rattle.value.proofs.value.Kinds as value-kinds
-use Rattle.value.proofs.+dictionary+elements+entries+pair+sequence+struct_value+value.Lts-value as value-lts
+use Rattle.value.proofs.+dictionary+elements+entries+pair+part+sequence+struct_value+value.Lts-value as value-lts
 use Rattle.table.proofs.field.Reads as field-reads
 use Rattle.table.proofs.kind.Reads as kind-reads
-use Rattle.table.proofs.member_type.Reads as member-type-reads
+use Rattle.table.proofs.member_row.Reads as member-row-reads
 use Rattle.table.proofs.members.Reads as members-reads
+use Rattle.table.proofs.type_row.Reads as type-row-reads
 use Rattle.value.proofs.plain.bool.Reads as bool-reads
 use Rattle.value.proofs.plain.enumerator.Reads as enumerator-reads
 use Rattle.value.proofs.plain.skip.Reads as skip-reads
 use Rattle.value.proofs.plain.text.Reads as text-reads
+use Rattle.value.proofs.plain.width.Reads as width-reads
 use Rattle.value.proofs.proxy.proxy.Reads as proxy-reads
 use Rattle.wire.proofs.read_size.Reads as read-size-reads
-use Rattle.value.proofs.+dictionary+elements+entries+pair+sequence+struct_value+value.{statement}
-use Rattle.value.proofs.+dictionary+elements+entries+pair+sequence+struct_value+value.Tie.{close}
+use Rattle.value.proofs.+dictionary+elements+entries+pair+part+sequence+struct_value+value.{statement}
+use Rattle.value.proofs.+dictionary+elements+entries+pair+part+sequence+struct_value+value.Tie.{close}
 
 abbrev μ-dictionary : Measures 2 dictionary-kinds.ps ℕ
-μ-dictionary κs a = 4 * a .1 .0 + 3
+μ-dictionary κs a = 5 * a .1 .0 + 4
 
 abbrev μ-elements : Measures 2 elements-kinds.ps ℕ
-μ-elements κs a = 4 * a .1 .0 + 1
+μ-elements κs a = 5 * a .1 .0 + 2
 
 abbrev μ-entries : Measures 2 entries-kinds.ps ℕ
-μ-entries κs a = 4 * a .1 .0 + 2
+μ-entries κs a = 5 * a .1 .0 + 3
 
 abbrev μ-pair : Measures 2 pair-kinds.ps ℕ
-μ-pair κs a = 4 * a .1 .0 + 1
+μ-pair κs a = 5 * a .1 .0 + 2
+
+abbrev μ-part : Measures 2 part-kinds.ps ℕ
+μ-part κs a = 5 * a .1 .0 + 1
 
 abbrev μ-sequence : Measures 2 sequence-kinds.ps ℕ
-μ-sequence κs a = 4 * a .1 .0 + 3
+μ-sequence κs a = 5 * a .1 .0 + 4
 
 abbrev μ-struct-value : Measures 2 struct-value-kinds.ps ℕ
-μ-struct-value κs a = 4 * a .1 .0 + 3
+μ-struct-value κs a = 5 * a .1 .0 + 4
 
 abbrev μ-value : Measures 2 value-kinds.ps ℕ
-μ-value κs a = 4 * a .1 .0
+μ-value κs a = 5 * a .1 .0
 
 abbrev dictionary-at : ℕ → In 2 dictionary-kinds.ps
 dictionary-at t = and 2 dictionary-kinds.ps (is 2 dictionary-kinds.ps μ-dictionary t) dictionary.Pre
@@ -93,6 +101,12 @@ pair-at t = and 2 pair-kinds.ps (is 2 pair-kinds.ps μ-pair t) pair.Pre
 abbrev pair-below : ℕ → In 2 pair-kinds.ps
 pair-below t = and 2 pair-kinds.ps (falls 2 pair-kinds.ps _<_ μ-pair t) pair.Pre
 
+abbrev part-at : ℕ → In 2 part-kinds.ps
+part-at t = and 2 part-kinds.ps (is 2 part-kinds.ps μ-part t) part.Pre
+
+abbrev part-below : ℕ → In 2 part-kinds.ps
+part-below t = and 2 part-kinds.ps (falls 2 part-kinds.ps _<_ μ-part t) part.Pre
+
 abbrev sequence-at : ℕ → In 2 sequence-kinds.ps
 sequence-at t = and 2 sequence-kinds.ps (is 2 sequence-kinds.ps μ-sequence t) sequence.Pre
 
@@ -115,19 +129,22 @@ abbrev dictionary-calls : ℕ → dictionary-lts.Claims
 dictionary-calls t = (read-size-reads.Asked, read-size-reads.Learnt, entries-below t, entries.Post)
 
 abbrev elements-calls : ℕ → elements-lts.Claims
-elements-calls t = (value-below t, value.Post)
+elements-calls t = (part-below t, part.Post)
 
 abbrev entries-calls : ℕ → entries-lts.Claims
 entries-calls t = (field-reads.Asked, field-reads.Learnt, pair-below t, pair.Post)
 
 abbrev pair-calls : ℕ → pair-lts.Claims
-pair-calls t = (value-below t, value.Post)
+pair-calls t = (part-below t, part.Post)
+
+abbrev part-calls : ℕ → part-lts.Claims
+part-calls t = (kind-reads.Asked, kind-reads.Learnt, width-reads.Asked, width-reads.Learnt, skip-reads.Asked, skip-reads.Learnt, value-below t, value.Post)
 
 abbrev sequence-calls : ℕ → sequence-lts.Claims
 sequence-calls t = (read-size-reads.Asked, read-size-reads.Learnt, field-reads.Asked, field-reads.Learnt, elements-below t, elements.Post)
 
 abbrev struct-value-calls : ℕ → struct-value-lts.Claims
-struct-value-calls t = (members-reads.Asked, members-reads.Learnt, field-reads.Asked, field-reads.Learnt, member-type-reads.Asked, member-type-reads.Learnt, value-below t, value.Post)
+struct-value-calls t = (members-reads.Asked, members-reads.Learnt, type-row-reads.Asked, type-row-reads.Learnt, member-row-reads.Asked, member-row-reads.Learnt, part-below t, part.Post)
 
 abbrev value-calls : ℕ → value-lts.Claims
 value-calls t = (kind-reads.Asked, kind-reads.Learnt, bool-reads.Asked, bool-reads.Learnt, skip-reads.Asked, skip-reads.Learnt, text-reads.Asked, text-reads.Learnt, field-reads.Asked, field-reads.Learnt, enumerator-reads.Asked, enumerator-reads.Learnt, struct-value-below t, struct-value.Post, sequence-below t, sequence.Post, dictionary-below t, dictionary.Post, proxy-reads.Asked, proxy-reads.Learnt)
@@ -150,9 +167,9 @@ struct-value-Inv-loop table t s all m₀ left₀ at₀ m left at = Left s (stepO
 abbrev struct-value-μ-loop : struct-value-lts.MeasureT-loop
 struct-value-μ-loop table t s all m₀ left₀ at₀ m left at = left
 
-pub +dictionary+elements+entries+pair+sequence+struct-value+value-spec : {M : Type 1} → statement M
-+dictionary+elements+entries+pair+sequence+struct-value+value-spec =
-    close μ-dictionary μ-elements μ-entries μ-pair μ-sequence μ-struct-value μ-value
+pub +dictionary+elements+entries+pair+part+sequence+struct-value+value-spec : {M : Type 1} → statement M
++dictionary+elements+entries+pair+part+sequence+struct-value+value-spec =
+    close μ-dictionary μ-elements μ-entries μ-pair μ-part μ-sequence μ-struct-value μ-value
     (λ t. dictionary-lts.spec (dictionary-calls t) (dictionary-at t) dictionary.Post
     (λ c κs. search needs)  -- read-size-requires
     (λ c. search needs)  -- enum-known-z
@@ -170,10 +187,10 @@ pub +dictionary+elements+entries+pair+sequence+struct-value+value-spec : {M : Ty
     (λ c. search dict-none))  -- returns-3
     (λ t. elements-lts.spec (elements-calls t) (elements-at t) elements.Post elements-Inv-loop elements-μ-loop
     (λ c. search element-begin)  -- loop-holds
-    (λ c. search needs)  -- sub-value
-    (λ c. search needs)  -- part-value-start
-    (λ c. search needs)  -- part-value-end
-    (λ c κs. search needs)  -- value-requires
+    (λ c. search needs)  -- sub-part
+    (λ c. search needs)  -- part-part-start
+    (λ c. search needs)  -- part-part-end
+    (λ c κs. search needs)  -- part-requires
     (λ c. search needs)  -- enum-known-step
     (λ c. search value-took-fits)  -- add-at
     (λ c. search needs)  -- enum-known-step-2
@@ -201,12 +218,12 @@ pub +dictionary+elements+entries+pair+sequence+struct-value+value-spec : {M : Ty
     (λ c. search entry-next)  -- loop-again
     (λ c. search entry-done))  -- returns-2
     (λ t. pair-lts.spec (pair-calls t) (pair-at t) pair.Post
-    (λ c κs. search needs)  -- value-requires
+    (λ c κs. search needs)  -- part-requires
     (λ c. search needs)  -- enum-known-first
-    (λ c. search key-end)  -- sub-value
-    (λ c. search key-end)  -- part-value-start
-    (λ c. search needs)  -- part-value-end
-    (λ c κs. search needs)  -- value-requires-2
+    (λ c. search key-end)  -- sub-part
+    (λ c. search key-end)  -- part-part-start
+    (λ c. search needs)  -- part-part-end
+    (λ c κs. search needs)  -- part-requires-2
     (λ c. search needs)  -- enum-known-step
     (λ c. search (value-took-fits, key-end))  -- add-t20
     (λ c. search needs)  -- enum-known-step-2
@@ -215,6 +232,13 @@ pub +dictionary+elements+entries+pair+sequence+struct-value+value-spec : {M : Ty
     (λ c. search pair-took)  -- returns
     (λ c. search pair-bad)  -- returns-2
     (λ c. search pair-none))  -- returns-3
+    (λ t. part-lts.spec (part-calls t) (part-at t) part.Post
+    (λ c κs. search needs)  -- kind-requires
+    (λ c κs. search needs)  -- width-requires
+    (λ c κs. search needs)  -- skip-requires
+    (λ c. search as-bytes)  -- returns
+    (λ c κs. search needs)  -- value-requires
+    (λ c. search needs))  -- returns-2
     (λ t. sequence-lts.spec (sequence-calls t) (sequence-at t) sequence.Post
     (λ c κs. search needs)  -- read-size-requires
     (λ c. search needs)  -- enum-known-z
@@ -233,19 +257,18 @@ pub +dictionary+elements+entries+pair+sequence+struct-value+value-spec : {M : Ty
     (λ c. search seq-none))  -- returns-3
     (λ t. struct-value-lts.spec (struct-value-calls t) (struct-value-at t) struct-value.Post struct-value-Inv-loop struct-value-μ-loop
     (λ c κs. search needs)  -- members-requires
-    (λ c κs. search needs)  -- field-requires
-    (λ c κs. search needs)  -- field-requires-2
+    (λ c κs. search needs)  -- type-row-requires
     (λ c. search struct-begin)  -- loop-holds
     (λ c. search member-gone)  -- returns
-    (λ c κs. search needs)  -- member-type-requires
-    (λ c. search needs)  -- sub-value
-    (λ c. search needs)  -- part-value-start
-    (λ c. search needs)  -- part-value-end
-    (λ c κs. search needs)  -- value-requires
+    (λ c κs. search needs)  -- member-row-requires
+    (λ c. search needs)  -- sub-part
+    (λ c. search needs)  -- part-part-start
+    (λ c. search needs)  -- part-part-end
+    (λ c κs. search needs)  -- part-requires
     (λ c. search needs)  -- enum-known-step
     (λ c. search value-took-fits)  -- add-at
     (λ c. search needs)  -- enum-known-step-2
-    (λ c. search value-bad-fits)  -- add-t18
+    (λ c. search value-bad-fits)  -- add-t19
     (λ c. search (member-fault, member-read))  -- returns-2
     (λ c. search needs)  -- add-m
     (λ c. omega arith)  -- sub-left
