@@ -50,7 +50,7 @@ pub enum Part {
 }
 
 // The row of the type of member m, of `all` members, whose row says `of`; where there is no such member, a row without a tree.
-pub fn type_of(all: usize, m: usize, of: usize) -> usize
+fn type_of(all: usize, m: usize, of: usize) -> usize
     ensures { λ r. ⌜ r ≡ typeOf all m of ⌝ }
 {
     if m < all { of } else { 256 }
