@@ -18,13 +18,13 @@ use Rattle.encoding.specs.Write.{State, stop, anyOf}
 use Rattle.writer.specs.declared.Cursor.{Cursor}
 use Rattle.writer.specs.declared.Placed.{Placed}
 use Rattle.writer.specs.declared.Placed.the-variants.{Row, Stop, Wrong}
-use Rattle.writer.specs.Cursors.{dueFrom, start, stateOf, Gone}
+use Rattle.writer.specs.Cursors.{dueFrom, start, stateOf}
 use Rattle.writer.specs.Judged.{verdictFrom, verdictAbove}
 use Rattle.writer.specs.JudgedLaws.{verdict-right, verdict-wrong, verdict-due, leave-row, leave-end}
 use Rattle.writer.specs.Puts.{Leaves}
-use Rattle.writer.specs.PutsLaws.{leaves-begin, leaves-step, leaves-end}
+use Rattle.writer.specs.PutsLaws.{leaves-begin, leaves-next, leaves-end}
 use Rattle.writer.specs.Pieces.{pieceAt, grown, group, RowLaid, RowPut}
-use Rattle.writer.specs.Slices.{groupOf, RowsLaid, RowsPut}
+use Rattle.writer.specs.Slices.{groupOf, RowsPut}
 use Rattle.writer.specs.Gathers.{gone-none}
 
 module _ (T rows buffer : List ℕ) (s : State) (i count : ℕ) where
@@ -90,7 +90,7 @@ module _ (T rows buffer : List ℕ) (count o first begin : ℕ) (out₀ : List �
   row-next last l d end optional r =
       let e = group-more T rows buffer (stateOf T c) i count l (r .piece) (stateOf T d) (r .is) in
       record {
-        leaves = leaves-step begin _ out₀ at _ out (g .leaves) (pieceBytes (r .piece)) _ last end (ap (concat pieceBytes) e) (r .puts);
+        leaves = leaves-next begin _ out₀ at _ out (g .leaves) (pieceBytes (r .piece)) _ last end (ap (concat pieceBytes) e) (r .puts);
         left = omega (arith, g .left, ap length e);
         flags = ap (λ (b : Bool). (optionals || b) || anyOptional (group T rows buffer (stateOf T d) (i + 1) (count - (i + 1)))) (r .flag)
             ∙ or-assoc optionals (isOptional (r .piece)) _ ∙ sym (ap (λ (l : List Piece). optionals || anyOptional l) e) ∙ g .flags;

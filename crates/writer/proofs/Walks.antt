@@ -17,7 +17,7 @@ use Rattle.encoding.specs.Table.{kind, base, upward, chain}
 use Rattle.encoding.specs.TableLaws.{chain-row}
 use Rattle.encoding.specs.Slice.{Format, isSliced, Stand, first, later, due, Slice, hasOptionals, idOf, isLast, sliceFront, slicesBytes}
 use Rattle.encoding.specs.Message.{encapsulate}
-use Rattle.encoding.specs.Write.{Out, out, stop}
+use Rattle.encoding.specs.Write.{out, stop}
 use Rattle.wire.specs.Put.{put}
 use Rattle.writer.specs.declared.Laid.{Laid}
 use Rattle.writer.specs.declared.Put.{Put}
@@ -25,7 +25,7 @@ use Rattle.writer.specs.declared.Put.the-variants.{Made, Wrong}
 use Rattle.writer.specs.Cursors.{start, stateOf}
 use Rattle.writer.specs.Judged.{verdictFrom, verdictAbove}
 use Rattle.writer.specs.Puts.{Puts, Leaves}
-use Rattle.writer.specs.PutsLaws.{puts-is, puts-number, puts-byte, puts-then, puts-under, leaves-begin, leaves-step, leaves-end}
+use Rattle.writer.specs.PutsLaws.{puts-is, puts-number, puts-byte, puts-then, puts-under, leaves-begin, leaves-next, leaves-end}
 use Rattle.writer.specs.Slices.{groupOf, sliceOf, slicesFrom, formatBy, idField, frontField, sliceField, RowsPut, SlicePut}
 use Rattle.writer.specs.Messages.{contentsOf, AllPut}
 
@@ -99,7 +99,7 @@ module _ (T rows buffer : List ℕ) (count t : ℕ) (s : Bool) (begin : ℕ) (le
         let b : sliceField T rows buffer count (formatBy s) (due (w .stand) (formatBy s)) (isLast (behind T rows buffer count (formatBy s) o i (base T o))) o i
         ≡ sliceField T rows buffer count (formatBy s) id (eqb up 0) o i
         = rw (w .named, last-is T rows buffer count (formatBy s) o i (base T o), ← e) in
-        leaves-step begin _ lent at _ mid (w .leaves) (sliceField T rows buffer count (formatBy s) id (eqb up 0) o i) _ last (d .end)
+        leaves-next begin _ lent at _ mid (w .leaves) (sliceField T rows buffer count (formatBy s) id (eqb up 0) o i) _ last (d .end)
         (slices-more T rows buffer count (formatBy s) (w .stand) o i ∙ ap (λ (z : List ℕ). z ++ slicesBytes (formatBy s) (later (formatBy s)) (behind T rows buffer count (formatBy s) o i (base T o))) b ∙ rw e)
         (j .right f .puts)
 

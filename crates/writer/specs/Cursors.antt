@@ -6,7 +6,7 @@
 --   bases            the bases of a row, one after another
 --   start            the cursor at the start of an owner
 --   stateOf          the state of a cursor
---   dueMember        a required member, by its owner and how many member rows stand before it; mayMember an optional one
+--   mayMember        an optional member
 --   dueReached       a row gives a required member, the last one passed by a cursor; mayReached an optional one
 --   Settled          the code's answer to the next required member
 --   Gone             no member is due of the owner, and a member row is no optional that may come
@@ -50,9 +50,6 @@ stateOf T c = record {
   least = c .least;
   above = bases T (c .owner);
 }
-
-unfoldable pub dueMember : List ℕ → ℕ → ℕ → Member
-dueMember T o k = record { row = field T o 0 + k; key = requiredIn T (field T o 0) k; ty = memberTy T (trees T) (field T o 0 + k) }
 
 unfoldable pub mayMember : List ℕ → ℕ → Member
 mayMember T m = record { row = m; key = tag T m; ty = memberTy T (trees T) m }

@@ -18,7 +18,7 @@ use Rattle.encoding.specs.Write.{Out, out, stop, next, begin, above, judgeAll, 
 use Rattle.writer.specs.declared.Outcome.{Outcome}
 use Rattle.writer.specs.declared.Outcome.the-variants.{Made, Stopped}
 use Rattle.writer.specs.declared.Put.{Put}
-use Rattle.writer.specs.declared.Put.the-variants.{Made as Laid, Wrong}
+use Rattle.writer.specs.declared.Put.the-variants.{Made as PutMade, Wrong}
 use Rattle.writer.specs.Cursors.{start, stateOf}
 use Rattle.writer.specs.Judged.{verdictFrom}
 use Rattle.writer.specs.Puts.{Puts}
@@ -33,7 +33,7 @@ contentsOf T rows buffer count g type =
 
 -- the rows are judged from the start of row t
 abbrev pub AllPut : List ℕ → List ℕ → List ℕ → ℕ → ℕ → ℕ → List ℕ → List ℕ → List ℕ → Put → Type 0
-AllPut T rows buffer count t at b lent last (Laid n) = (verdictFrom T rows buffer count (stateOf T (start t)) 0 ≡ out tt) × Puts at b lent last n
+AllPut T rows buffer count t at b lent last (PutMade n) = (verdictFrom T rows buffer count (stateOf T (start t)) 0 ≡ out tt) × Puts at b lent last n
 AllPut T rows buffer count t at b lent last (Wrong n p) = verdictFrom T rows buffer count (stateOf T (start t)) 0 ≡ stop n p
 
 -- row bytes, each row 20 then 21, then 22

@@ -25,7 +25,7 @@ use Rattle.encoding.specs.Message.{Row}
 use Rattle.encoding.specs.Write.{out, stop, State, Reached, reach, given, partOf, rowAt}
 use Rattle.writer.specs.declared.Cursor.{Cursor}
 use Rattle.writer.specs.declared.Placed.{Placed}
-use Rattle.writer.specs.declared.Placed.the-variants.{Row as Put, Stop, Wrong}
+use Rattle.writer.specs.declared.Placed.the-variants.{Row as PutRow, Stop, Wrong}
 use Rattle.writer.specs.declared.RowNumbers.{RowNumbers}
 use Rattle.writer.specs.Cursors.{stateOf, Gone}
 use Rattle.writer.specs.Judged.{judgedRow}
@@ -84,6 +84,6 @@ pub record RowLaid (T rows buffer : List ℕ) (from : Cursor) (i at : ℕ) (lent
   pub few : end ≤ at + 66000
 
 abbrev pub RowPut : List ℕ → List ℕ → List ℕ → Cursor → ℕ → ℕ → List ℕ → List ℕ → Placed → Type 0
-RowPut T rows buffer from i at lent last (Put c end optional) = RowLaid T rows buffer from i at lent last c end optional
+RowPut T rows buffer from i at lent last (PutRow c end optional) = RowLaid T rows buffer from i at lent last c end optional
 RowPut T rows buffer from i at lent last Stop = Gone T from (rowAt rows i .member) × (last ≡ lent)
 RowPut T rows buffer from i at lent last (Wrong n) = (judgedRow T rows buffer (stateOf T from) i ≡ stop n i) × (0 < n)

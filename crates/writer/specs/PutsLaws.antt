@@ -3,7 +3,7 @@
 --   puts-one, puts-none, puts-is            one put; no bytes; the same bytes
 --   puts-number, puts-byte, puts-size       a number, a byte, a size
 --   puts-then, puts-under                   bytes behind those laid; bytes before those laid
---   leaves-begin, leaves-step, leaves-end   what is still to be laid, at first, behind more bytes, at the end
+--   leaves-begin, leaves-next, leaves-end   what is still to be laid, at first, behind more bytes, at the end
 use mathlib.Core.Path.{_≡_, refl, sym, ap, ap₂, subst, _∙_}
 use mathlib.Core.List.{List, [], _∷_, _++_, append-assoc}
 use Prim.Native.Nat.{ℕ, _+_, _%_, _≤_, _<_}
@@ -82,8 +82,8 @@ pub leaves-begin : (at : ℕ) (w out : List ℕ) → Leaves at w out at w out
 leaves-begin at w out = record { ends = refl; same = λ h. refl; lays = λ h. refl }
 
 module _ (start : ℕ) (w first : List ℕ) (at : ℕ) (rest out : List ℕ) (l : Leaves start w first at rest out) where
-  pub leaves-step : (b more last : List ℕ) (end : ℕ) → rest ≡ b ++ more → Puts at b out last end → Leaves start w first end more last
-  leaves-step b more last end e p =
+  pub leaves-next : (b more last : List ℕ) (end : ℕ) → rest ≡ b ++ more → Puts at b out last end → Leaves start w first end more last
+  leaves-next b more last end e p =
       let n : length rest ≡ length b + length more = ap length e ∙ length-append b more in
       record {
         ends = omega (arith, p .ends, l .ends);

@@ -1,6 +1,5 @@
 -- By the row bytes, by the verdict on the rows, then by the message's length. Assumes nothing.
 use borrow.Author.Needs.{needs}
-use native.Mathlib.Omega.{arith}
 use Rattle.writer.proofs.Writings.{answer-few, answer-wrong, answer-over, answer-room, answer-short, answer-long}
 use Rattle.writer.proofs.write_rows.Statement.{statement}
 use Rattle.writer.proofs.write_rows.Tie as tie
