@@ -2,11 +2,11 @@
 --
 --   row-here, row-past                              where a type row begins, or the table's end for a row past it
 --   member-here, member-short, member-far           the same of a member row
---   at-from                                         a number of the part that begins at a place
---   kind-is .. tag-is                               a field of a row, read from the part that begins at the row
+--   Shows                                           the first bytes of a part are those of the table from a place on
+--   rest-shows, row-shows, member-shows             the part from a place to the end; a row's own bytes
+--   kind-direct                                     a kind read at its place
+--   kind-is .. tag-is                               a field of a row, read from a part that shows the row
 --   field-past                                      a field past the table's end
---   at-within                                       a number of a part that holds it whole
---   kind-within .. tag-within                       a field of a row, read from the row's own bytes
 --   rows-few, rows-many                             how many rows have a tree
 --   rows-below                                      at most 256 rows have a tree
 --   member-row, no-member                           the row of a member's type
@@ -52,44 +52,15 @@ module _ (T : List ℕ) (m n : ℕ) (e : n ≡ types T) where
   unfolding memberAt membersAt rowAt typesAt
   member-far l h = past T (12 + 12 * types T + 8 * m) (omega arith)
 
-module _ (T : List ℕ) (a p : ℕ) (e : drop a T ≡ drop p T) (r : ℕ) where
-  pub at-from : (k i : ℕ) → r ≡ at (take (length T - a) (drop a T)) k i → r ≡ at T k (p + i)
-  unfolding at
-  at-from k i h =
-      let z : take (length T - a) (drop a T) ≡ drop a T = take-all (length T - a) (drop a T) (omega (arith, length-drop a T)) in
-      h ∙ rw (z, e, drop-drop)
+-- the first w bytes of a part are those of the table from p on
+pub record Shows (T s : List ℕ) (p w : ℕ) : Type 0 where
+  pub same : (k i : ℕ) → i + k ≤ w → at s k i ≡ at T k (p + i)
 
-module _ (T : List ℕ) (t a : ℕ) (e : drop a T ≡ drop (rowAt T t) T) (r : ℕ) where
-  pub kind-is : r ≡ at (take (length T - a) (drop a T)) 1 0 → r ≡ kind T t
-  unfolding kind
-  kind-is h = at-from T a (rowAt T t) e r 1 0 h ∙ rw add-zero
-
-  pub spare-is : r ≡ at (take (length T - a) (drop a T)) 1 1 → r ≡ at T 1 (rowAt T t + 1)
-  spare-is h = at-from T a (rowAt T t) e r 1 1 h
-
-  pub field-is : (i : ℕ) → r ≡ at (take (length T - a) (drop a T)) 2 (2 + 2 * i) → r ≡ field T t i
-  unfolding field
-  field-is i h = at-from T a (rowAt T t) e r 2 (2 + 2 * i) h ∙ ap (at T 2) (omega arith)
-
-pub field-past : (T : List ℕ) (t i : ℕ) → length T / 2 ≤ i → 0 ≡ field T t i
-unfolding field rowAt typesAt
-field-past T t i h = sym (at-past T 2 _ (omega arith))
-
-module _ (T : List ℕ) (m a : ℕ) (e : drop a T ≡ drop (memberAt T m) T) (r : ℕ) where
-  pub member-type-is : r ≡ at (take (length T - a) (drop a T)) 2 0 → r ≡ memberType T m
-  unfolding memberType
-  member-type-is h = at-from T a (memberAt T m) e r 2 0 h ∙ rw add-zero
-
-  pub mark-is : r ≡ at (take (length T - a) (drop a T)) 1 2 → r ≡ mark T m
-  unfolding mark
-  mark-is h = at-from T a (memberAt T m) e r 1 2 h
-
-  pub member-spare-is : r ≡ at (take (length T - a) (drop a T)) 1 3 → r ≡ at T 1 (memberAt T m + 3)
-  member-spare-is h = at-from T a (memberAt T m) e r 1 3 h
-
-  pub tag-is : r ≡ at (take (length T - a) (drop a T)) 4 4 → r ≡ tag T m
-  unfolding tag
-  tag-is h = at-from T a (memberAt T m) e r 4 4 h
+pub rest-shows : (T : List ℕ) (a p w : ℕ) → drop a T ≡ drop p T → Shows T (take (length T - a) (drop a T)) p w
+unfolding at
+rest-shows T a p w e =
+    let z : take (length T - a) (drop a T) ≡ drop a T = take-all (length T - a) (drop a T) (omega (arith, length-drop a T)) in
+    record { same = λ k i h. rw (z, e, drop-drop) }
 
 -- a part of a part lies in the whole
 part-part : (l : List ℕ) (i k n : ℕ) → i + k ≤ n → take k (drop i (take n l)) ≡ take k (drop i l)
@@ -98,44 +69,55 @@ part-part [] (suc i) k n h = rw (take-nil {A = ℕ} n)
 part-part (x ∷ l) (suc i) k zero h = absurd (omega arith)
 part-part (x ∷ l) (suc i) k (suc n) h = part-part l i k n (omega arith)
 
-pub at-within : (T : List ℕ) (a e k i r : ℕ) → i + k ≤ e - a → r ≡ at (take (e - a) (drop a T)) k i → r ≡ at T k (a + i)
+part-shows : (T : List ℕ) (a e w : ℕ) → w ≤ e - a → Shows T (take (e - a) (drop a T)) a w
 unfolding at
-at-within T a e k i r l h = h ∙ ap val (part-part (drop a T) i k (e - a) l) ∙ rw drop-drop
+part-shows T a e w l = record { same = λ k i h. ap val (part-part (drop a T) i k (e - a) (omega arith)) ∙ rw drop-drop }
 
--- the row's 12 bytes
-module _ (T : List ℕ) (t r : ℕ) where
-  pub kind-within : r ≡ at (take (12 + 12 * t + 12 - (12 + 12 * t)) (drop (12 + 12 * t) T)) 1 0 → r ≡ kind T t
-  unfolding kind rowAt typesAt
-  kind-within h = at-within T (12 + 12 * t) (12 + 12 * t + 12) 1 0 r (omega arith) h ∙ rw add-zero
+pub row-shows : (T : List ℕ) (t w : ℕ) → w ≤ 12 → Shows T (take (12 + 12 * t + 12 - (12 + 12 * t)) (drop (12 + 12 * t) T)) (rowAt T t) w
+unfolding rowAt typesAt
+row-shows T t w h = part-shows T (12 + 12 * t) (12 + 12 * t + 12) w (omega arith)
 
-  pub spare-within : r ≡ at (take (12 + 12 * t + 12 - (12 + 12 * t)) (drop (12 + 12 * t) T)) 1 1 → r ≡ at T 1 (rowAt T t + 1)
-  unfolding rowAt typesAt
-  spare-within h = at-within T (12 + 12 * t) (12 + 12 * t + 12) 1 1 r (omega arith) h
+pub member-shows : (T : List ℕ) (m n : ℕ) → n ≡ types T → Shows T (take (12 + 12 * n + 8 * m + 8 - (12 + 12 * n + 8 * m)) (drop (12 + 12 * n + 8 * m) T)) (memberAt T m) 8
+unfolding memberAt membersAt rowAt typesAt
+member-shows T m n e = rw (← e) (part-shows T (12 + 12 * n + 8 * m) (12 + 12 * n + 8 * m + 8) 8 (omega arith))
 
-  pub field-within : (i p : ℕ) → p ≡ 2 + 2 * i → i < 5 → r ≡ at (take (12 + 12 * t + 12 - (12 + 12 * t)) (drop (12 + 12 * t) T)) 2 p → r ≡ field T t i
-  unfolding field rowAt typesAt
-  field-within i p e l h = at-within T (12 + 12 * t) (12 + 12 * t + 12) 2 p r (omega arith) h ∙ ap (at T 2) (omega arith)
+-- fields of a type row
+pub kind-direct : (T : List ℕ) (t r : ℕ) → r ≡ at T 1 (12 + 12 * t) → r ≡ kind T t
+unfolding kind rowAt typesAt
+kind-direct T t r h = h
 
--- the member row's 8 bytes
-module _ (T : List ℕ) (m n : ℕ) (e : n ≡ types T) (r : ℕ) where
-  within-member : (k i : ℕ) → i + k ≤ 8 → r ≡ at (take (12 + 12 * n + 8 * m + 8 - (12 + 12 * n + 8 * m)) (drop (12 + 12 * n + 8 * m) T)) k i → r ≡ at T k (memberAt T m + i)
-  unfolding memberAt membersAt rowAt typesAt
-  within-member k i l h = at-within T (12 + 12 * n + 8 * m) (12 + 12 * n + 8 * m + 8) k i r (omega arith) h ∙ rw e
+module _ (T s : List ℕ) (t r : ℕ) where
+  pub kind-is : Shows T s (rowAt T t) 1 → r ≡ at s 1 0 → r ≡ kind T t
+  unfolding kind
+  kind-is shows h = h ∙ shows .same 1 0 (omega arith) ∙ rw add-zero
 
-  pub member-type-within : r ≡ at (take (12 + 12 * n + 8 * m + 8 - (12 + 12 * n + 8 * m)) (drop (12 + 12 * n + 8 * m) T)) 2 0 → r ≡ memberType T m
+  pub spare-is : Shows T s (rowAt T t) 2 → r ≡ at s 1 1 → r ≡ at T 1 (rowAt T t + 1)
+  spare-is shows h = h ∙ shows .same 1 1 (omega arith)
+
+  pub field-is : (i : ℕ) → Shows T s (rowAt T t) (4 + 2 * i) → r ≡ at s 2 (2 + 2 * i) → r ≡ field T t i
+  unfolding field
+  field-is i shows h = h ∙ shows .same 2 (2 + 2 * i) (omega arith) ∙ ap (at T 2) (omega arith)
+
+pub field-past : (T : List ℕ) (t i : ℕ) → length T / 2 ≤ i → 0 ≡ field T t i
+unfolding field rowAt typesAt
+field-past T t i h = sym (at-past T 2 _ (omega arith))
+
+-- fields of a member row
+module _ (T s : List ℕ) (m : ℕ) (shows : Shows T s (memberAt T m) 8) (r : ℕ) where
+  pub member-type-is : r ≡ at s 2 0 → r ≡ memberType T m
   unfolding memberType
-  member-type-within h = within-member 2 0 (omega arith) h ∙ rw add-zero
+  member-type-is h = h ∙ shows .same 2 0 (omega arith) ∙ rw add-zero
 
-  pub mark-within : r ≡ at (take (12 + 12 * n + 8 * m + 8 - (12 + 12 * n + 8 * m)) (drop (12 + 12 * n + 8 * m) T)) 1 2 → r ≡ mark T m
+  pub mark-is : r ≡ at s 1 2 → r ≡ mark T m
   unfolding mark
-  mark-within h = within-member 1 2 (omega arith) h
+  mark-is h = h ∙ shows .same 1 2 (omega arith)
 
-  pub member-spare-within : r ≡ at (take (12 + 12 * n + 8 * m + 8 - (12 + 12 * n + 8 * m)) (drop (12 + 12 * n + 8 * m) T)) 1 3 → r ≡ at T 1 (memberAt T m + 3)
-  member-spare-within h = within-member 1 3 (omega arith) h
+  pub member-spare-is : r ≡ at s 1 3 → r ≡ at T 1 (memberAt T m + 3)
+  member-spare-is h = h ∙ shows .same 1 3 (omega arith)
 
-  pub tag-within : r ≡ at (take (12 + 12 * n + 8 * m + 8 - (12 + 12 * n + 8 * m)) (drop (12 + 12 * n + 8 * m) T)) 4 4 → r ≡ tag T m
+  pub tag-is : r ≡ at s 4 4 → r ≡ tag T m
   unfolding tag
-  tag-within h = within-member 4 4 (omega arith) h
+  tag-is h = h ∙ shows .same 4 4 (omega arith)
 
 module _ (T : List ℕ) (n : ℕ) (e : n ≡ types T) where
   pub rows-few : n ≤ 256 → n ≡ typeRows T

@@ -10,10 +10,10 @@ ghost use Rattle.table.specs.Found.{rowFound, hasTag};
 pub fn base(table: &[u8], t: usize) -> usize
     ensures { λ r. ⌜ (r ≡ base (now (table .entry)) t) × (r ≤ t) ⌝ }
 {
-    if crate::is_record(crate::kind(table, t)) {
-        let b = crate::field(table, t, 2);
-        if b <= t {
-            return b;
+    let row = crate::type_row(table, t);
+    if crate::is_record(row.kind) {
+        if row.c <= t {
+            return row.c;
         }
     }
     0
@@ -40,11 +40,11 @@ pub fn in_chain(table: &[u8], t: usize, top: usize) -> bool
 pub fn takes(table: &[u8], t: usize, m: usize) -> bool
     ensures { λ r. ⌜ r ≡ takes (now (table .entry)) t m ⌝ }
 {
-    let a = crate::field(table, t, 0);
-    if m < a {
+    let row = crate::type_row(table, t);
+    if m < row.a {
         return false;
     }
-    m < a + crate::field(table, t, 1)
+    m < row.a + row.b
 }
 
 // Member row m is one of row t or of its bases.
@@ -68,18 +68,20 @@ pub fn of_chain(table: &[u8], t: usize, m: usize) -> bool
 pub fn has_tag(table: &[u8], m: usize, tag: usize) -> bool
     ensures { λ r. ⌜ r ≡ hasTag (now (table .entry)) tag m ⌝ }
 {
-    if crate::mark(table, m) == 0 {
+    let row = crate::member_row(table, m);
+    if row.mark == 0 {
         return false;
     }
-    tag == crate::tag(table, m)
+    tag == row.tag
 }
 
 // The optional member of row t that has a tag.
 pub fn tag_member(table: &[u8], t: usize, tag: usize) -> Found
     ensures { λ r. ⌜ r ≡ rowFound (lookup tag (optional (now (table .entry)) t)) ⌝ }
 {
-    let mut m = crate::field(table, t, 0);
-    let mut left = crate::field(table, t, 1);
+    let row = crate::type_row(table, t);
+    let mut m = row.a;
+    let mut left = row.b;
     while left > 0 {
         if has_tag(table, m, tag) {
             return Found::At(m);

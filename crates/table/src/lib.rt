@@ -76,7 +76,7 @@ pub fn rows(table: &[u8]) -> usize
 }
 
 // Where type row t begins, or the table's end.
-pub fn row(table: &[u8], t: usize) -> usize
+fn row(table: &[u8], t: usize) -> usize
     ensures { λ r. ⌜ (r ≤ length (now (table .entry))) × (drop r (now (table .entry)) ≡ drop (rowAt (now (table .entry)) t) (now (table .entry))) ⌝ }
 {
     if table.len() / 12 <= t {
@@ -86,7 +86,7 @@ pub fn row(table: &[u8], t: usize) -> usize
 }
 
 // Where member row m begins, or the table's end.
-pub fn member(table: &[u8], m: usize) -> usize
+fn member(table: &[u8], m: usize) -> usize
     ensures { λ r. ⌜ (r ≤ length (now (table .entry))) × (drop r (now (table .entry)) ≡ drop (memberAt (now (table .entry)) m) (now (table .entry))) ⌝ }
 {
     let start = 12 + 12 * types(table);
@@ -103,12 +103,15 @@ pub fn member(table: &[u8], m: usize) -> usize
 pub fn kind(table: &[u8], t: usize) -> usize
     ensures { λ r. ⌜ (r ≡ kind (now (table .entry)) t) × (r < 256) ⌝ }
 {
+    if t < 65536 {
+        return wire::byte_at(table, 12 + 12 * t);
+    }
     let a = row(table, t);
     wire::byte_at(&table[a..], 0)
 }
 
 // A type row's zero byte.
-pub fn spare(table: &[u8], t: usize) -> usize
+fn spare(table: &[u8], t: usize) -> usize
     ensures { λ r. ⌜ (r ≡ at (now (table .entry)) 1 (rowAt (now (table .entry)) t + 1)) × (r < 256) ⌝ }
 {
     let a = row(table, t);
@@ -150,7 +153,7 @@ pub fn tag(table: &[u8], m: usize) -> usize
     wire::int_at(&table[a..], 4)
 }
 
-// Type row t by the look-ups, for a row that is not wholly inside.
+// Type row t by the look-ups, for a row that is not wholly inside. Called at two places, so that it stays apart and `type_row` small.
 fn type_row_outside(table: &[u8], t: usize) -> TypeRow
     ensures { λ r. ⌜ IsTypeRow (now (table .entry)) t r ⌝ }
 {
@@ -189,7 +192,7 @@ pub fn type_row(table: &[u8], t: usize) -> TypeRow
     }
 }
 
-// Member row m by the look-ups, for a row that is not wholly inside.
+// Member row m by the look-ups, for a row that is not wholly inside. Called at two places, so that it stays apart and `member_row` small.
 fn member_row_outside(table: &[u8], m: usize) -> MemberRow
     ensures { λ r. ⌜ IsMemberRow (now (table .entry)) m r ⌝ }
 {
@@ -251,7 +254,7 @@ pub fn type_of_member(table: &[u8], m: usize) -> usize
     ensures { λ r. ⌜ (tyOf (now (table .entry)) r ≡ memberTy (now (table .entry)) (trees (now (table .entry))) m) × (r < 65536) ⌝ }
 {
     if m < members(table) {
-        return member_type(table, m);
+        return member_row(table, m).of;
     }
     256
 }

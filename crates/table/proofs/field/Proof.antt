@@ -1,6 +1,6 @@
 -- The part that begins at the row has field i at 2 + 2 i; a field past half the table's length lies past its end. Assumes nothing.
 use borrow.Author.Needs.{needs}
-use Rattle.table.proofs.Places.{field-past, field-is}
+use Rattle.table.proofs.Places.{field-past, field-is, rest-shows}
 use Rattle.table.proofs.field.Statement.{statement}
 use Rattle.table.proofs.field.Tie as tie
 
@@ -16,4 +16,4 @@ field-spec =
     (λ c. search needs)  -- mul-short-at
     (λ c. search needs)  -- add-short-at
     (λ c κs. search needs)  -- short-at-requires
-    (λ c. search (needs, field-is)))  -- returns-2
+    (λ c. search (needs, field-is, rest-shows)))  -- returns-2

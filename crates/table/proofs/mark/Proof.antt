@@ -1,6 +1,6 @@
 -- The part that begins at the member row has the mark at 2. Assumes nothing.
 use borrow.Author.Needs.{needs}
-use Rattle.table.proofs.Places.{mark-is}
+use Rattle.table.proofs.Places.{mark-is, rest-shows}
 use Rattle.table.proofs.mark.Statement.{statement}
 use Rattle.table.proofs.mark.Tie as tie
 
@@ -13,4 +13,4 @@ mark-spec =
     (λ c. search needs)  -- part-byte-at-start
     (λ c. search needs)  -- part-byte-at-end
     (λ c κs. search needs)  -- byte-at-requires
-    (λ c. search (needs, mark-is)))  -- returns
+    (λ c. search (needs, mark-is, rest-shows)))  -- returns

@@ -1,6 +1,6 @@
 -- A member row that lies inside is read from its own 8 bytes; any other by the look-ups. Assumes nothing.
 use borrow.Author.Needs.{needs}
-use Rattle.table.proofs.Places.{member-type-within, mark-within, member-spare-within, tag-within}
+use Rattle.table.proofs.Places.{member-shows, member-type-is, mark-is, member-spare-is, tag-is}
 use Rattle.table.proofs.member_row.Statement.{statement}
 use Rattle.table.proofs.member_row.Tie as tie
 
@@ -25,4 +25,4 @@ member-row-spec =
     (λ c κs. search needs)  -- byte-at-requires
     (λ c κs. search needs)  -- byte-at-requires-2
     (λ c κs. search needs)  -- int-at-requires
-    (λ c. search (needs, member-type-within, mark-within, member-spare-within, tag-within)))  -- returns-3
+    (λ c. search (needs, member-shows, member-type-is, mark-is, member-spare-is, tag-is)))  -- returns-3

@@ -1,6 +1,6 @@
 -- Each field by its look-up; the zero byte from the part that begins at the member row. Assumes nothing.
 use borrow.Author.Needs.{needs}
-use Rattle.table.proofs.Places.{member-spare-is}
+use Rattle.table.proofs.Places.{member-spare-is, rest-shows}
 use Rattle.table.proofs.member_row_outside.Statement.{statement}
 use Rattle.table.proofs.member_row_outside.Tie as tie
 
@@ -16,4 +16,4 @@ member-row-outside-spec =
     (λ c. search needs)  -- part-byte-at-end
     (λ c κs. search needs)  -- byte-at-requires
     (λ c κs. search needs)  -- tag-requires
-    (λ c. search (needs, member-spare-is)))  -- returns
+    (λ c. search (needs, member-spare-is, rest-shows)))  -- returns

@@ -1,6 +1,6 @@
 -- The part that begins at the member row has the type first. Assumes nothing.
 use borrow.Author.Needs.{needs}
-use Rattle.table.proofs.Places.{member-type-is}
+use Rattle.table.proofs.Places.{member-type-is, rest-shows}
 use Rattle.table.proofs.member_type.Statement.{statement}
 use Rattle.table.proofs.member_type.Tie as tie
 
@@ -13,4 +13,4 @@ member-type-spec =
     (λ c. search needs)  -- part-short-at-start
     (λ c. search needs)  -- part-short-at-end
     (λ c κs. search needs)  -- short-at-requires
-    (λ c. search (needs, member-type-is)))  -- returns
+    (λ c. search (needs, member-type-is, rest-shows)))  -- returns

@@ -1,6 +1,6 @@
 -- The part that begins at the row has the zero byte second. Assumes nothing.
 use borrow.Author.Needs.{needs}
-use Rattle.table.proofs.Places.{spare-is}
+use Rattle.table.proofs.Places.{spare-is, rest-shows}
 use Rattle.table.proofs.spare.Statement.{statement}
 use Rattle.table.proofs.spare.Tie as tie
 
@@ -13,4 +13,4 @@ spare-spec =
     (λ c. search needs)  -- part-byte-at-start
     (λ c. search needs)  -- part-byte-at-end
     (λ c κs. search needs)  -- byte-at-requires
-    (λ c. search (needs, spare-is)))  -- returns
+    (λ c. search (needs, spare-is, rest-shows)))  -- returns

@@ -9,6 +9,6 @@ type-of-member-spec =
     tie.close
     (tie.spec
     (λ c κs. search needs)  -- members-requires
-    (λ c κs. search needs)  -- member-type-requires
+    (λ c κs. search needs)  -- member-row-requires
     (λ c. search (needs, member-row))  -- returns
     (λ c. search (needs, no-member)))  -- returns-2

@@ -1,7 +1,7 @@
 -- A row that lies inside is read from its own 12 bytes; any other by the look-ups. Assumes nothing.
 use borrow.Author.Needs.{needs}
 use native.Mathlib.Omega.{arith}
-use Rattle.table.proofs.Places.{kind-within, spare-within, field-within}
+use Rattle.table.proofs.Places.{row-shows, kind-is, spare-is, field-is}
 use Rattle.table.proofs.type_row.Statement.{statement}
 use Rattle.table.proofs.type_row.Tie as tie
 
@@ -27,13 +27,13 @@ type-row-spec =
     (λ c κs. search needs)  -- short-at-requires-4
     (λ c κs. search needs)  -- short-at-requires-5
     (λ c. record {
-      kind-is = search kind-within;
-      spare-is = search spare-within;
-      a-is = field-within _ _ _ 0 2 (omega arith) (omega arith) (search);
-      b-is = field-within _ _ _ 1 4 (omega arith) (omega arith) (search);
-      c-is = field-within _ _ _ 2 6 (omega arith) (omega arith) (search);
-      d-is = field-within _ _ _ 3 8 (omega arith) (omega arith) (search);
-      e-is = field-within _ _ _ 4 10 (omega arith) (omega arith) (search);
+      kind-is = kind-is _ _ _ _ (row-shows _ _ _ (omega arith)) (search);
+      spare-is = spare-is _ _ _ _ (row-shows _ _ _ (omega arith)) (search);
+      a-is = field-is _ _ _ _ 0 (row-shows _ _ _ (omega arith)) (search);
+      b-is = field-is _ _ _ _ 1 (row-shows _ _ _ (omega arith)) (search);
+      c-is = field-is _ _ _ _ 2 (row-shows _ _ _ (omega arith)) (search);
+      d-is = field-is _ _ _ _ 3 (row-shows _ _ _ (omega arith)) (search);
+      e-is = field-is _ _ _ _ 4 (row-shows _ _ _ (omega arith)) (search);
       kind-small = search;
       spare-small = search;
       a-small = search;

@@ -1,4 +1,4 @@
--- By the record's field, where it is no row above. Assumes nothing.
+-- By the record's field c, where it is no row above. Assumes nothing.
 use borrow.Author.Needs.{needs}
 use Rattle.table.proofs.Chains.{base-is, base-above, base-none}
 use Rattle.table.proofs.chain.base.Statement.{statement}
@@ -8,9 +8,8 @@ pub base-spec : {M : Type 1} → statement M
 base-spec =
     tie.close
     (tie.spec
-    (λ c κs. search needs)  -- kind-requires
+    (λ c κs. search needs)  -- type-row-requires
     (λ c κs. search needs)  -- is-record-requires
-    (λ c κs. search needs)  -- field-requires
     (λ c. search (needs, base-is))  -- returns
     (λ c. search (needs, base-above))  -- returns-2
     (λ c. search (needs, base-none)))  -- returns-3

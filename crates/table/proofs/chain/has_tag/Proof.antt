@@ -8,7 +8,6 @@ pub has-tag-spec : {M : Type 1} → statement M
 has-tag-spec =
     tie.close
     (tie.spec
-    (λ c κs. search needs)  -- mark-requires
+    (λ c κs. search needs)  -- member-row-requires
     (λ c. search tag-none)  -- returns
-    (λ c κs. search needs)  -- tag-requires
     (λ c. search tag-has))  -- returns-2

@@ -17,8 +17,7 @@ tag-member-spec =
     (tie.spec
     Inv-loop
     μ-loop
-    (λ c κs. search needs)  -- field-requires
-    (λ c κs. search needs)  -- field-requires-2
+    (λ c κs. search needs)  -- type-row-requires
     (λ c. search optionals-begin)  -- loop-holds
     (λ c κs. search needs)  -- has-tag-requires
     (λ c. search optionals-here)  -- returns

@@ -8,8 +8,7 @@ pub takes-spec : {M : Type 1} → statement M
 takes-spec =
     tie.close
     (tie.spec
-    (λ c κs. search needs)  -- field-requires
+    (λ c κs. search needs)  -- type-row-requires
     (λ c. search takes-before)  -- returns
-    (λ c κs. search needs)  -- field-requires-2
     (λ c. search needs)  -- add-result
     (λ c. search takes-is))  -- returns-2
