@@ -65,7 +65,7 @@ pub enum Outcome {
 }
 
 // Rows to a message, behind the judgements on table, type, format and buffer: judges the rows, each 20 then 21, then 22, and puts the message at the output's start.
-// The message is put into an array of 256 bytes first, which judges the rows and gives its length; a message that fits there is copied, a longer one is put again.
+// The message is put into an array of 1,024 bytes first, which judges the rows and gives its length; a message that fits there is copied, a longer one is put again.
 pub fn write_rows(
     table: &[u8],
     forms: &[u8; 256],
@@ -84,7 +84,7 @@ pub fn write_rows(
         return Outcome::Stopped(20, count);
     }
     let sliced = format != 0;
-    let mut few = [0u8; 256];
+    let mut few = [0u8; 1024];
     let put = message::put_message(table, forms, &mut few, top, sliced, count, rows, buffer);
     match put {
         Put::Wrong(number, place) => Outcome::Stopped(number, place),
@@ -95,7 +95,7 @@ pub fn write_rows(
             if out.len() < n {
                 return Outcome::Stopped(22, n);
             }
-            if n <= 256 {
+            if n <= 1024 {
                 wire::put_part(out, 0, &few, 0, n);
                 return Outcome::Made(n);
             }
