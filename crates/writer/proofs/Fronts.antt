@@ -24,12 +24,12 @@ use Rattle.writer.specs.Slices.{groupOf, sliceOf, formatBy, idField, fro
 
 -- ---- the data
 
-pub still-wrong : (T rows buffer : List ℕ) (count o i : ℕ) (r : Laid) (A B : Type 0) → Judges T rows buffer count o i r A → (r .fault ≡ 0 → ⊥) → Judges T rows buffer count o i r B
-still-wrong T rows buffer count o i r A B j n = record { right = λ e. absurd (n e); wrong = j .wrong }
+pub still-wrong : (T rows buffer : List ℕ) (judged : Bool) (count o i : ℕ) (r : Laid) (A B : Type 0) → Judges T rows buffer judged count o i r A → (r .fault ≡ 0 → ⊥) → Judges T rows buffer judged count o i r B
+still-wrong T rows buffer judged count o i r A B j n = record { right = λ e. absurd (n e); wrong = j .wrong }
 
-module _ (T rows buffer : List ℕ) (count o i at : ℕ) (out mid : List ℕ) (d : Laid) (j : RowsPut T rows buffer count o i at out mid d) (z : d .fault ≡ 0) where
+module _ (T rows buffer : List ℕ) (judged : Bool) (count o i at : ℕ) (out mid : List ℕ) (d : Laid) (j : RowsPut T rows buffer judged count o i at out mid d) (z : d .fault ≡ 0) where
   pub data-marked : d .optionals ≡ true → (last : List ℕ) → last ≡ put (d .end) (leBytes 1 255) mid
-      → DataPut T rows buffer count o i at out last (record { end = d .end + 1; row = d .row; optionals = true; fault = 0 })
+      → DataPut T rows buffer judged count o i at out last (record { end = d .end + 1; row = d .row; optionals = true; fault = 0 })
   unfolding dataBytes sliceOf
   data-marked q last e =
       let l = j .right z in
@@ -45,7 +45,7 @@ module _ (T rows buffer : List ℕ) (count o i at : ℕ) (out mid : List ℕ) (d
         wrong = λ n. absurd (n refl);
       }
 
-  pub data-plain : d .optionals ≡ false → DataPut T rows buffer count o i at out mid d
+  pub data-plain : d .optionals ≡ false → DataPut T rows buffer judged count o i at out mid d
   unfolding dataBytes sliceOf
   data-plain q =
       let l = j .right z in
@@ -101,12 +101,12 @@ front-short T o id s k e q = rw (q, e) (sym (add-zero _))
 
 -- ---- the slice
 
-pub slice-laid : (T rows buffer : List ℕ) (count o i at : ℕ) (id s end : Bool) (k n e : ℕ) (out mid last : List ℕ) (d : Laid)
-    → k ≡ 1 + length (idField T o id) + pick s 4 0 → k ≤ 65545 → DataPut T rows buffer count o i (at + k) out mid d → d .fault ≡ 0
+pub slice-laid : (T rows buffer : List ℕ) (judged : Bool) (count o i at : ℕ) (id s end : Bool) (k n e : ℕ) (out mid last : List ℕ) (d : Laid)
+    → k ≡ 1 + length (idField T o id) + pick s 4 0 → k ≤ 65545 → DataPut T rows buffer judged count o i (at + k) out mid d → d .fault ≡ 0
     → n ≡ d .end - (at + k) → Puts at (frontField T o (formatBy s) id (d .optionals) end n) mid last e
-    → SlicePut T rows buffer count (formatBy s) id end o i at out last d
+    → SlicePut T rows buffer judged count (formatBy s) id end o i at out last d
 unfolding sliceField
-slice-laid T rows buffer count o i at id s end k n e out mid last d ek h j z en p =
+slice-laid T rows buffer judged count o i at id s end k n e out mid last d ek h j z en p =
     let l = j .right z in
     let w = dataBytes (sliceOf T rows buffer count o i) in
     let y : n ≡ length w = omega (arith, l .puts .ends) in

@@ -23,7 +23,8 @@ use Rattle.writer.specs.declared.Laid.{Laid}
 use Rattle.writer.specs.declared.Put.{Put}
 use Rattle.writer.specs.declared.Put.the-variants.{Made, Wrong}
 use Rattle.writer.specs.Cursors.{start, stateOf}
-use Rattle.writer.specs.Judged.{verdictFrom, verdictAbove}
+use Rattle.writer.specs.Judged.{verdictFrom, verdictAbove, Gives}
+use Rattle.writer.specs.JudgedLaws.{gives-then}
 use Rattle.writer.specs.Puts.{Puts, Leaves}
 use Rattle.writer.specs.PutsLaws.{puts-is, puts-number, puts-byte, puts-then, puts-under, leaves-begin, leaves-next, leaves-end}
 use Rattle.writer.specs.Slices.{groupOf, sliceOf, slicesFrom, formatBy, idField, frontField, sliceField, RowsPut, SlicePut}
@@ -58,22 +59,22 @@ module _ (T rows buffer : List ℕ) (count : ℕ) (g : Format) where
   last-is o i zero = refl
   last-is o i (suc t) = ap (λ (l : List ℕ). isLast (slicesFrom T rows buffer count (i + length (groupOf T rows buffer count o i)) l)) (chain-row T t) ∙ sym (ne-eqb (suc t) 0 (λ q. omega arith))
 
-pub record Slicing (T rows buffer : List ℕ) (count t : ℕ) (g : Format) (begin : ℕ) (lent : List ℕ) (at o : ℕ) (id : Bool) (i : ℕ) (mid : List ℕ) : Type 0 where
+pub record Slicing (T rows buffer : List ℕ) (judged : Bool) (count t : ℕ) (g : Format) (begin : ℕ) (lent : List ℕ) (at o : ℕ) (id : Bool) (i : ℕ) (mid : List ℕ) : Type 0 where
   pub stand : Stand
   pub named : due stand g ≡ id
   pub leaves : Leaves begin (slicesBytes g first (slicesFrom T rows buffer count 0 (chain T t))) lent at (slicesBytes g stand (slicesFrom T rows buffer count i (chain T o))) mid
-  pub rest : verdictFrom T rows buffer count (stateOf T (start t)) 0 ≡ verdictFrom T rows buffer count (stateOf T (start o)) i
+  pub rest : Gives judged (verdictFrom T rows buffer count (stateOf T (start t)) 0) (verdictFrom T rows buffer count (stateOf T (start o)) i)
   pub within : i ≤ count
   pub below : o ≤ t
   pub few : at ≤ begin + 66000 * (i + (t - o))
 
-pub slicing-begin : (T rows buffer : List ℕ) (count t : ℕ) (g : Format) (begin : ℕ) (lent : List ℕ) → Slicing T rows buffer count t g begin lent begin t true 0 lent
+pub slicing-begin : (T rows buffer : List ℕ) (judged : Bool) (count t : ℕ) (g : Format) (begin : ℕ) (lent : List ℕ) → Slicing T rows buffer judged count t g begin lent begin t true 0 lent
 unfolding due
-slicing-begin T rows buffer count t g begin lent = record {
+slicing-begin T rows buffer judged count t g begin lent = record {
   stand = first;
   named = refl;
   leaves = leaves-begin begin _ lent;
-  rest = refl;
+  rest = λ _. refl;
   within = omega arith;
   below = omega arith;
   few = omega arith;
@@ -83,15 +84,15 @@ sliced-is : (s : Bool) → isSliced (formatBy s) ≡ s
 sliced-is true = refl
 sliced-is false = refl
 
-module _ (T rows buffer : List ℕ) (count t : ℕ) (s : Bool) (begin : ℕ) (lent : List ℕ) (at o : ℕ) (id : Bool) (i : ℕ) (mid : List ℕ)
-    (w : Slicing T rows buffer count t (formatBy s) begin lent at o id i mid) (up : ℕ) (e : up ≡ base T o)
-    (last : List ℕ) (d : Laid) (j : SlicePut T rows buffer count (formatBy s) id (eqb up 0) o i at mid last d) where
+module _ (T rows buffer : List ℕ) (judged : Bool) (count t : ℕ) (s : Bool) (begin : ℕ) (lent : List ℕ) (at o : ℕ) (id : Bool) (i : ℕ) (mid : List ℕ)
+    (w : Slicing T rows buffer judged count t (formatBy s) begin lent at o id i mid) (up : ℕ) (e : up ≡ base T o)
+    (last : List ℕ) (d : Laid) (j : SlicePut T rows buffer judged count (formatBy s) id (eqb up 0) o i at mid last d) where
   -- the slices of the chain
   abbrev slices : List ℕ
   slices = slicesBytes (formatBy s) first (slicesFrom T rows buffer count 0 (chain T t))
 
-  pub slicing-wrong : (d .fault ≡ 0 → ⊥) → AllPut T rows buffer count t begin slices lent last (Wrong (d .fault) (d .row))
-  slicing-wrong n = w .rest ∙ j .wrong n
+  pub slicing-wrong : (d .fault ≡ 0 → ⊥) → AllPut T rows buffer judged count t begin slices lent last (Wrong (d .fault) (d .row))
+  slicing-wrong n = gives-then judged _ _ _ (w .rest) (j .wrong n)
 
   module _ (f : d .fault ≡ 0) where
     slice-left : Leaves begin slices lent (d .end) (slicesBytes (formatBy s) (later (formatBy s)) (behind T rows buffer count (formatBy s) o i up)) last
@@ -103,18 +104,18 @@ module _ (T rows buffer : List ℕ) (count t : ℕ) (s : Bool) (begin : ℕ) (le
         (slices-more T rows buffer count (formatBy s) (w .stand) o i ∙ ap (λ (z : List ℕ). z ++ slicesBytes (formatBy s) (later (formatBy s)) (behind T rows buffer count (formatBy s) o i (base T o))) b ∙ rw e)
         (j .right f .puts)
 
-    verdict-left : verdictFrom T rows buffer count (stateOf T (start t)) 0 ≡ verdictAbove T rows buffer count up (d .row)
-    verdict-left = w .rest ∙ j .right f .rest ∙ ap (λ (x : ℕ). verdictAbove T rows buffer count x (d .row)) (sym e)
+    verdict-left : Gives judged (verdictFrom T rows buffer count (stateOf T (start t)) 0) (verdictAbove T rows buffer count up (d .row))
+    verdict-left a = gives-then judged _ _ _ (w .rest) (j .right f .rest) a ∙ ap (λ (x : ℕ). verdictAbove T rows buffer count x (d .row)) (sym e)
 
     module _ (z : up ≡ 0) where
-      pub slicing-over : d .row < count → AllPut T rows buffer count t begin slices lent last (Wrong 20 (d .row))
-      slicing-over h = verdict-left ∙ above-over T rows buffer count up (d .row) z h
+      pub slicing-over : d .row < count → AllPut T rows buffer judged count t begin slices lent last (Wrong 20 (d .row))
+      slicing-over h a = verdict-left a ∙ above-over T rows buffer count up (d .row) z h
 
-      pub slicing-end : count ≤ d .row → AllPut T rows buffer count t begin slices lent last (Made (d .end))
+      pub slicing-end : count ≤ d .row → AllPut T rows buffer judged count t begin slices lent last (Made (d .end))
       unfolding slicesBytes slicesFrom upward
-      slicing-end h = (verdict-left ∙ above-right T rows buffer count up (d .row) z h, leaves-end begin _ lent (d .end) _ last slice-left (rw z))
+      slicing-end h = ((λ a. verdict-left a ∙ above-right T rows buffer count up (d .row) z h), leaves-end begin _ lent (d .end) _ last slice-left (rw z))
 
-    pub slicing-next : (up ≡ 0 → ⊥) → up ≤ o → Slicing T rows buffer count t (formatBy s) begin lent (d .end) (up - 1) s (d .row) last
+    pub slicing-next : (up ≡ 0 → ⊥) → up ≤ o → Slicing T rows buffer judged count t (formatBy s) begin lent (d .end) (up - 1) s (d .row) last
     unfolding due upward verdictAbove
     slicing-next z h =
         let l = j .right f in
@@ -135,31 +136,31 @@ no-base : (T : List ℕ) (t : ℕ) → kind T t ≡ 15 → base T t ≡ 0
 unfolding base
 no-base T t e = rw e
 
-module _ (T rows buffer : List ℕ) (count t k : ℕ) (ek : k ≡ kind T t) (z : k ≡ 15) (lent last : List ℕ) (d : Laid) (j : RowsPut T rows buffer count t 0 6 lent last d) (f : d .fault ≡ 0) where
-  pub list-over : d .row < count → verdictFrom T rows buffer count (stateOf T (start t)) 0 ≡ stop 20 (d .row)
-  list-over h = j .right f .rest ∙ above-over T rows buffer count (base T t) (d .row) (no-base T t (sym ek ∙ z)) h
+module _ (T rows buffer : List ℕ) (judged : Bool) (count t k : ℕ) (ek : k ≡ kind T t) (z : k ≡ 15) (lent last : List ℕ) (d : Laid) (j : RowsPut T rows buffer judged count t 0 6 lent last d) (f : d .fault ≡ 0) where
+  pub list-over : d .row < count → Gives judged (verdictFrom T rows buffer count (stateOf T (start t)) 0) (stop 20 (d .row))
+  list-over h a = j .right f .rest a ∙ above-over T rows buffer count (base T t) (d .row) (no-base T t (sym ek ∙ z)) h
 
-  pub list-made : (g : Format) → count ≤ d .row → AllPut T rows buffer count t 6 (contentsOf T rows buffer count g t) lent last (Made (d .end))
+  pub list-made : (g : Format) → count ≤ d .row → AllPut T rows buffer judged count t 6 (contentsOf T rows buffer count g t) lent last (Made (d .end))
   unfolding contentsOf
-  list-made g h = (j .right f .rest ∙ above-right T rows buffer count (base T t) (d .row) (no-base T t (sym ek ∙ z)) h, rw (eq-eqb (kind T t) 15 (sym ek ∙ z)) (j .right f .puts))
+  list-made g h = ((λ a. j .right f .rest a ∙ above-right T rows buffer count (base T t) (d .row) (no-base T t (sym ek ∙ z)) h), rw (eq-eqb (kind T t) 15 (sym ek ∙ z)) (j .right f .puts))
 
-module _ (T rows buffer : List ℕ) (count : ℕ) (g : Format) (t k : ℕ) (ek : k ≡ kind T t) (lent last : List ℕ) where
+module _ (T rows buffer : List ℕ) (judged : Bool) (count : ℕ) (g : Format) (t k : ℕ) (ek : k ≡ kind T t) (lent last : List ℕ) where
   -- other bytes are put by the same answer
   all-put : (at to : ℕ) (b c one : List ℕ) (r : Put) → ((n : ℕ) → Puts at b one last n → Puts to c lent last n)
-      → AllPut T rows buffer count t at b one last r → AllPut T rows buffer count t to c lent last r
+      → AllPut T rows buffer judged count t at b one last r → AllPut T rows buffer judged count t to c lent last r
   all-put at to b c one (Made n) f p = (p .0, f n (p .1))
   all-put at to b c one (Wrong n q) f p = p
 
   module _ (n : k ≡ 15 → ⊥) (r : Put) where
     pub contents-class : k ≡ 14 → (mid : List ℕ) → mid ≡ put 6 (leBytes 1 1) lent
-        → AllPut T rows buffer count t 7 (slicesBytes g first (slicesFrom T rows buffer count 0 (chain T t))) mid last r → AllPut T rows buffer count t 6 (contentsOf T rows buffer count g t) lent last r
+        → AllPut T rows buffer judged count t 7 (slicesBytes g first (slicesFrom T rows buffer count 0 (chain T t))) mid last r → AllPut T rows buffer judged count t 6 (contentsOf T rows buffer count g t) lent last r
     unfolding contentsOf
     contents-class z mid f p =
         all-put 7 6 _ _ mid r
         (λ e q. rw (ne-eqb (kind T t) 15 (λ h. n (ek ∙ h)), eq-eqb (kind T t) 14 (sym ek ∙ z)) (puts-then 6 (1 ∷ []) lent mid 7 (puts-byte 1 6 lent mid (omega arith) f) _ last e q)) p
 
     pub contents-other : (k ≡ 14 → ⊥)
-        → AllPut T rows buffer count t 6 (slicesBytes g first (slicesFrom T rows buffer count 0 (chain T t))) lent last r → AllPut T rows buffer count t 6 (contentsOf T rows buffer count g t) lent last r
+        → AllPut T rows buffer judged count t 6 (slicesBytes g first (slicesFrom T rows buffer count 0 (chain T t))) lent last r → AllPut T rows buffer judged count t 6 (contentsOf T rows buffer count g t) lent last r
     unfolding contentsOf
     contents-other z p = all-put 6 6 _ _ lent r (λ e q. rw (ne-eqb (kind T t) 15 (λ h. n (ek ∙ h)), ne-eqb (kind T t) 14 (λ h. z (ek ∙ h))) q) p
 
@@ -171,13 +172,13 @@ size-put b lent one two last n p e f =
     (puts-under 0 6 (leBytes 4 n ++ leBytes 2 257) b lent one last 6 n refl p
     (puts-then 0 (leBytes 4 n) one two 4 (puts-number 4 n 0 one two e) (leBytes 2 257) last 6 (puts-number 2 257 4 two last f)))
 
-module _ (T rows buffer : List ℕ) (count t : ℕ) (b lent one : List ℕ) (r : Put) (j : AllPut T rows buffer count t 6 b lent one r) where
+module _ (T rows buffer : List ℕ) (judged : Bool) (count t : ℕ) (b lent one : List ℕ) (r : Put) (j : AllPut T rows buffer judged count t 6 b lent one r) where
   pub message-made : (n : ℕ) → r ≡ Made n → (two last : List ℕ) → two ≡ put 0 (leBytes 4 n) one → last ≡ put 4 (leBytes 2 257) two
-      → AllPut T rows buffer count t 0 (encapsulate b) lent last (Made n)
+      → AllPut T rows buffer judged count t 0 (encapsulate b) lent last (Made n)
   message-made n q two last e f = go (rw q at j)
     where
-      go : AllPut T rows buffer count t 6 b lent one (Made n) → AllPut T rows buffer count t 0 (encapsulate b) lent last (Made n)
+      go : AllPut T rows buffer judged count t 6 b lent one (Made n) → AllPut T rows buffer judged count t 0 (encapsulate b) lent last (Made n)
       go p = (p .0, size-put b lent one two last n (p .1) e f)
 
-  pub message-wrong : (n p : ℕ) → r ≡ Wrong n p → AllPut T rows buffer count t 0 (encapsulate b) lent one (Wrong n p)
+  pub message-wrong : (n p : ℕ) → r ≡ Wrong n p → AllPut T rows buffer judged count t 0 (encapsulate b) lent one (Wrong n p)
   message-wrong n p q = rw q at j

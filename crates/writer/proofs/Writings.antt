@@ -26,6 +26,7 @@ use Rattle.writer.specs.declared.Put.{Put}
 use Rattle.writer.specs.declared.Put.the-variants.{Made, Wrong}
 use Rattle.writer.specs.Cursors.{start, stateOf}
 use Rattle.writer.specs.Judged.{verdictFrom}
+use Rattle.writer.specs.JudgedLaws.{gives-all}
 use Rattle.writer.specs.Puts.{Puts}
 use Rattle.writer.specs.Slices.{formatBy}
 use Rattle.writer.specs.Messages.{contentsOf, AllPut, written, outcomeOf}
@@ -47,13 +48,16 @@ module _ (T : List ℕ) (top format count : ℕ) (rows buffer lent : List ℕ) w
   pub answer-few : length rows / 12 < count → (Stopped 20 count ≡ outcomeOf result) × (lent ≡ output result lent)
   answer-few h = refused 20 count (written-few T top format count rows buffer (length lent) h)
 
-  module _ (enough : count ≤ length rows / 12) (few last : List ℕ) (r : Put) (j : AllPut T rows buffer count top 0 message few last r) where
+  module _ (enough : count ≤ length rows / 12) (few last : List ℕ) (r : Put) (j : AllPut T rows buffer false count top 0 message few last r) where
     pub answer-wrong : (n p : ℕ) → r ≡ Wrong n p → (Stopped n p ≡ outcomeOf result) × (lent ≡ output result lent)
-    answer-wrong n p q = refused n p (written-wrong T top format count rows buffer (length lent) enough n p (rw q at j))
+    answer-wrong n p q = refused n p (written-wrong T top format count rows buffer (length lent) enough n p (gives-all _ _ (rw q at j)))
 
     module _ (n : ℕ) (q : r ≡ Made n) where
       all-right : (verdictFrom T rows buffer count (stateOf T (start top)) 0 ≡ out tt) × Puts 0 message few last n
-      all-right = rw q at j
+      all-right = go (rw q at j)
+        where
+          go : AllPut T rows buffer false count top 0 message few last (Made n) → (verdictFrom T rows buffer count (stateOf T (start top)) 0 ≡ out tt) × Puts 0 message few last n
+          go a = (gives-all _ _ (a .0), a .1)
 
       long : length message ≡ n
       long = sym (all-right .1 .ends ∙ zero-add (length message))
@@ -86,7 +90,7 @@ module _ (T : List ℕ) (top format count : ℕ) (rows buffer lent : List ℕ) w
               let t : take n last ≡ message = ap (take n) s ∙ take-at message (drop (length message) few) n long in
               made (e ∙ ap (λ (b : List ℕ). put 0 b lent) t)
 
-          -- the rows are right again
-          pub answer-long : (again : Put) → AllPut T rows buffer count top 0 message lent end again → (Told n ≡ outcomeOf result) × (end ≡ output result lent)
+          -- the rows are right as before
+          pub answer-long : (again : Put) → AllPut T rows buffer true count top 0 message lent end again → (Told n ≡ outcomeOf result) × (end ≡ output result lent)
           answer-long (Made k) a = made (a .1 .lays (omega (arith, long)))
-          answer-long (Wrong k p) a = let f : stop k p ≡ out tt = sym a ∙ all-right .0 in let y : _≡_ {A = ℕ} 0 1 = cc in absurd (omega arith)
+          answer-long (Wrong k p) a = let f : stop k p ≡ out tt = sym (a (λ _. rw (all-right .0) tt)) ∙ all-right .0 in let y : _≡_ {A = ℕ} 0 1 = cc in absurd (omega arith)

@@ -6,6 +6,10 @@
 --   verdictOf      whether every row is right
 --   verdictFrom    the verdict on row i and those behind it, of `count` rows
 --   verdictAbove   the same where the rows go on with the owners above: from a base row + 1 on, or there is none
+--   Accepted       it is no refusal
+--   Gives          judging gives this; where the parts were judged before and are not judged again, if it is no refusal
+use mathlib.Core.Path.{_≡_}
+use mathlib.Core.Bool.{Bool, true}
 use mathlib.Core.List.{List, map}
 use Prim.Native.Nat.{ℕ, zero, suc, _+_, _-_}
 use lib.ListN.{length}
@@ -39,3 +43,10 @@ verdictFrom T rows buffer count s i = verdictOf (judgeAll T buffer s i (map (row
 unfoldable pub verdictAbove : List ℕ → List ℕ → List ℕ → ℕ → ℕ → ℕ → Out (Unit {0})
 verdictAbove T rows buffer count zero i = pick (ltb i count) (stop 20 i) (out tt)
 verdictAbove T rows buffer count (suc t) i = verdictFrom T rows buffer count (stateOf T (start t)) i
+
+abbrev pub Accepted : {A : Type 0} → Out A → Type 0
+Accepted (out a) = Unit {0}
+Accepted (stop n p) = ⊥
+
+abbrev pub Gives : {A : Type 0} → Bool → Out A → Out A → Type 0
+Gives judged v w = (judged ≡ true → Accepted v) → v ≡ w

@@ -1,5 +1,6 @@
 -- Laws of `Judged`: the verdict on the rows, row by row and owner by owner. Assumes nothing.
 --
+--   gives-all, gives-then           what judging gives where the parts are judged, and by two steps
 --   judged-up                       what is judged from another state that reaches the same
 --   verdict-right, verdict-wrong    the verdict where the next row is right, and where it is wrong
 --   verdict-due                     a required member is missing at the end
@@ -18,7 +19,16 @@ use Rattle.encoding.specs.Write.{Out, out, stop, next, State, Reached, reach, a
 use Rattle.writer.specs.declared.Cursor.{Cursor}
 use Rattle.writer.specs.Cursors.{dueFrom, start, stateOf, Gone}
 use Rattle.writer.specs.CursorsLaws.{reach-end, reach-above, still-here, still-none, still-above}
-use Rattle.writer.specs.Judged.{stateFrom, judgedRow, verdictOf, verdictFrom, verdictAbove}
+use Rattle.writer.specs.Judged.{stateFrom, judgedRow, verdictOf, verdictFrom, verdictAbove, Accepted, Gives}
+
+-- ---- parts judged before
+
+module _ {A : Type 0} where
+  pub gives-all : (v w : Out A) → Gives false v w → v ≡ w
+  gives-all v w g = g (λ e. let z : _≡_ {A = ℕ} 0 1 = cc in absurd (omega arith))
+
+  pub gives-then : (judged : Bool) (u v w : Out A) → Gives judged u v → Gives judged v w → Gives judged u w
+  gives-then judged u v w f g h = let e = f h in e ∙ g (λ q. rw e at (h q))
 
 -- ---- one row more
 
@@ -33,6 +43,12 @@ verdict-next : (T buffer : List ℕ) (i : ℕ) (l : List Row) (w : Out Reached) 
 unfolding verdictOf next stateFrom
 verdict-next T buffer i l (stop n p) f = refl
 verdict-next T buffer i l (out z) f = verdict-more (f z) (judgeAll T buffer (z .state) (suc i) l)
+
+-- the first is accepted where all are
+first-accepted : (w : Out State) (f : State → Out (List Given)) → Accepted (verdictOf (next w f)) → Accepted w
+unfolding verdictOf next
+first-accepted (out z) f h = tt
+first-accepted (stop n p) f h = h
 
 module _ (T rows buffer : List ℕ) where
   pub judged-up : (s z : State) (i k : ℕ) → reach T (rowAt rows i .member) s ≡ reach T (rowAt rows i .member) z
@@ -54,9 +70,10 @@ module _ (T rows buffer : List ℕ) where
         ∙ verdict-next T buffer i (map (rowAt rows) (range (suc i) (count - (i + 1)))) (judge buffer i (rowAt rows i) (reach T (rowAt rows i .member) s)) (λ (z : Reached). given z (partOf buffer (rowAt rows i)))
         ∙ rw (add-one i)
 
-    pub verdict-right : i < count → (z : State) → judgedRow T rows buffer s i ≡ out z → verdictFrom T rows buffer count s i ≡ verdictFrom T rows buffer count z (i + 1)
+    pub verdict-right : i < count → (judged : Bool) (z : State) → Gives judged (judgedRow T rows buffer s i) (out z)
+        → Gives judged (verdictFrom T rows buffer count s i) (verdictFrom T rows buffer count z (i + 1))
     unfolding verdictFrom next
-    verdict-right h z e = row-judged h ∙ rw e
+    verdict-right h judged z g a = row-judged h ∙ rw (g (λ q. first-accepted (judgedRow T rows buffer s i) _ (rw (row-judged h) at (a q))))
 
     pub verdict-wrong : i < count → (n : ℕ) → judgedRow T rows buffer s i ≡ stop n i → verdictFrom T rows buffer count s i ≡ stop n i
     unfolding verdictOf next

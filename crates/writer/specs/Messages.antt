@@ -4,7 +4,7 @@
 --   AllPut        every row is right and bytes are put; or the verdict is the rows' refusal
 --   written       what follows the judgements before the rows: the message or a refusal
 --   outcomeOf     the answer as the code gives it
-use mathlib.Core.Path.{_≡_}
+use mathlib.Core.Bool.{Bool}
 use mathlib.Core.List.{List, _∷_}
 use Prim.Native.Nat.{ℕ}
 use lib.ListN.{length}
@@ -20,7 +20,7 @@ use Rattle.writer.specs.declared.Outcome.the-variants.{Made, Stopped}
 use Rattle.writer.specs.declared.Put.{Put}
 use Rattle.writer.specs.declared.Put.the-variants.{Made as PutMade, Wrong}
 use Rattle.writer.specs.Cursors.{start, stateOf}
-use Rattle.writer.specs.Judged.{verdictFrom}
+use Rattle.writer.specs.Judged.{verdictFrom, Gives}
 use Rattle.writer.specs.Puts.{Puts}
 use Rattle.writer.specs.Slices.{groupOf, slicesFrom}
 
@@ -32,9 +32,9 @@ contentsOf T rows buffer count g type =
     (slicesBytes g first (slicesFrom T rows buffer count 0 (chain T type))))
 
 -- the rows are judged from the start of row t
-abbrev pub AllPut : List ℕ → List ℕ → List ℕ → ℕ → ℕ → ℕ → List ℕ → List ℕ → List ℕ → Put → Type 0
-AllPut T rows buffer count t at b lent last (PutMade n) = (verdictFrom T rows buffer count (stateOf T (start t)) 0 ≡ out tt) × Puts at b lent last n
-AllPut T rows buffer count t at b lent last (Wrong n p) = verdictFrom T rows buffer count (stateOf T (start t)) 0 ≡ stop n p
+abbrev pub AllPut : List ℕ → List ℕ → List ℕ → Bool → ℕ → ℕ → ℕ → List ℕ → List ℕ → List ℕ → Put → Type 0
+AllPut T rows buffer judged count t at b lent last (PutMade n) = Gives judged (verdictFrom T rows buffer count (stateOf T (start t)) 0) (out tt) × Puts at b lent last n
+AllPut T rows buffer judged count t at b lent last (Wrong n p) = Gives judged (verdictFrom T rows buffer count (stateOf T (start t)) 0) (stop n p)
 
 -- row bytes, each row 20 then 21, then 22
 unfoldable pub written : List ℕ → ℕ → ℕ → ℕ → List ℕ → List ℕ → ℕ → Out (List ℕ)

@@ -9,7 +9,7 @@
 --   Taken          the piece of a row, and where the rows stand behind it
 --   pieceAt        row i as a member of the owner where the rows stand, if it is one
 --   group          the pieces of that owner from row i on, at most k rows
---   RowLaid        what is put of a row that is right, and what the code answers of it
+--   RowLaid        what is put of a row that is right, and what the code answers of it, its part being judged before or now
 --   RowPut         the same of every answer
 use mathlib.Core.Path.{_≡_}
 use mathlib.Core.Bool.{Bool}
@@ -28,7 +28,7 @@ use Rattle.writer.specs.declared.Placed.{Placed}
 use Rattle.writer.specs.declared.Placed.the-variants.{Row as PutRow, Stop, Wrong}
 use Rattle.writer.specs.declared.RowNumbers.{RowNumbers}
 use Rattle.writer.specs.Cursors.{stateOf, Gone}
-use Rattle.writer.specs.Judged.{judgedRow}
+use Rattle.writer.specs.Judged.{judgedRow, Gives}
 use Rattle.writer.specs.Puts.{Puts}
 
 abbrev pub rowOf : RowNumbers → Row
@@ -73,17 +73,17 @@ unfoldable pub group : List ℕ → List ℕ → List ℕ → State → ℕ → 
 group T rows buffer s i zero = []
 group T rows buffer s i (suc k) = grown (pieceAt T rows buffer s i) (λ (z : State). group T rows buffer z (suc i) k)
 
-pub record RowLaid (T rows buffer : List ℕ) (from : Cursor) (i at : ℕ) (lent last : List ℕ) (c : Cursor) (end : ℕ) (optional : Bool) : Type 0 where
+pub record RowLaid (T rows buffer : List ℕ) (judged : Bool) (from : Cursor) (i at : ℕ) (lent last : List ℕ) (c : Cursor) (end : ℕ) (optional : Bool) : Type 0 where
   pub piece : Piece
   pub is : pieceAt T rows buffer (stateOf T from) i ≡ some (record { piece = piece; state = stateOf T c })
-  pub right : judgedRow T rows buffer (stateOf T from) i ≡ out (stateOf T c)
+  pub right : Gives judged (judgedRow T rows buffer (stateOf T from) i) (out (stateOf T c))
   pub same : c .owner ≡ from .owner
   pub puts : Puts at (pieceBytes piece) lent last end
   pub flag : optional ≡ isOptional piece
   pub near : c .passed ≤ 65536
   pub few : end ≤ at + 66000
 
-abbrev pub RowPut : List ℕ → List ℕ → List ℕ → Cursor → ℕ → ℕ → List ℕ → List ℕ → Placed → Type 0
-RowPut T rows buffer from i at lent last (PutRow c end optional) = RowLaid T rows buffer from i at lent last c end optional
-RowPut T rows buffer from i at lent last Stop = Gone T from (rowAt rows i .member) × (last ≡ lent)
-RowPut T rows buffer from i at lent last (Wrong n) = (judgedRow T rows buffer (stateOf T from) i ≡ stop n i) × (0 < n)
+abbrev pub RowPut : List ℕ → List ℕ → List ℕ → Bool → Cursor → ℕ → ℕ → List ℕ → List ℕ → Placed → Type 0
+RowPut T rows buffer judged from i at lent last (PutRow c end optional) = RowLaid T rows buffer judged from i at lent last c end optional
+RowPut T rows buffer judged from i at lent last Stop = Gone T from (rowAt rows i .member) × (last ≡ lent)
+RowPut T rows buffer judged from i at lent last (Wrong n) = (judgedRow T rows buffer (stateOf T from) i ≡ stop n i) × (0 < n)

@@ -21,7 +21,7 @@ use Rattle.encoding.specs.Slice.{Format, compact, sliced, isSliced, Slice, know
 use Rattle.encoding.specs.Write.{stop}
 use Rattle.writer.specs.declared.Laid.{Laid}
 use Rattle.writer.specs.Cursors.{start, stateOf}
-use Rattle.writer.specs.Judged.{verdictFrom, verdictAbove}
+use Rattle.writer.specs.Judged.{verdictFrom, verdictAbove, Gives}
 use Rattle.writer.specs.Puts.{Puts}
 use Rattle.writer.specs.Pieces.{group}
 
@@ -45,20 +45,20 @@ idField T o id = pick id (stringBytes (nameOf T o)) []
 unfoldable pub frontField : List ℕ → ℕ → Format → Bool → Bool → Bool → ℕ → List ℕ
 frontField T o g id optionals last n = flagBits g id optionals last ∷ (idField T o id ++ pick (isSliced g) (leBytes 4 (4 + n)) [])
 
-pub record RowsLaid (T rows buffer : List ℕ) (count o i at : ℕ) (out last : List ℕ) (r : Laid) : Type 0 where
+pub record RowsLaid (T rows buffer : List ℕ) (judged : Bool) (count o i at : ℕ) (out last : List ℕ) (r : Laid) : Type 0 where
   pub puts : Puts at (concat pieceBytes (groupOf T rows buffer count o i)) out last (r .end)
   pub next : r .row ≡ i + length (groupOf T rows buffer count o i)
   pub flag : r .optionals ≡ anyOptional (groupOf T rows buffer count o i)
   pub within : r .row ≤ count
-  pub rest : verdictFrom T rows buffer count (stateOf T (start o)) i ≡ verdictAbove T rows buffer count (base T o) (r .row)
+  pub rest : Gives judged (verdictFrom T rows buffer count (stateOf T (start o)) i) (verdictAbove T rows buffer count (base T o) (r .row))
   pub few : r .end ≤ at + 66000 * (r .row - i)
 
-pub record DataLaid (T rows buffer : List ℕ) (count o i at : ℕ) (out last : List ℕ) (r : Laid) : Type 0 where
+pub record DataLaid (T rows buffer : List ℕ) (judged : Bool) (count o i at : ℕ) (out last : List ℕ) (r : Laid) : Type 0 where
   pub puts : Puts at (dataBytes (sliceOf T rows buffer count o i)) out last (r .end)
   pub next : r .row ≡ i + length (groupOf T rows buffer count o i)
   pub flag : r .optionals ≡ anyOptional (groupOf T rows buffer count o i)
   pub within : r .row ≤ count
-  pub rest : verdictFrom T rows buffer count (stateOf T (start o)) i ≡ verdictAbove T rows buffer count (base T o) (r .row)
+  pub rest : Gives judged (verdictFrom T rows buffer count (stateOf T (start o)) i) (verdictAbove T rows buffer count (base T o) (r .row))
   pub few : r .end ≤ at + 66000 * (r .row - i) + 1
 
 -- the slice's front and data
@@ -67,22 +67,22 @@ sliceField T rows buffer count g id last o i =
     frontField T o g id (anyOptional (groupOf T rows buffer count o i)) last (length (dataBytes (sliceOf T rows buffer count o i)))
     ++ dataBytes (sliceOf T rows buffer count o i)
 
-pub record SliceLaid (T rows buffer : List ℕ) (count : ℕ) (g : Format) (id end : Bool) (o i at : ℕ) (out last : List ℕ) (r : Laid) : Type 0 where
+pub record SliceLaid (T rows buffer : List ℕ) (judged : Bool) (count : ℕ) (g : Format) (id end : Bool) (o i at : ℕ) (out last : List ℕ) (r : Laid) : Type 0 where
   pub puts : Puts at (sliceField T rows buffer count g id end o i) out last (r .end)
   pub next : r .row ≡ i + length (groupOf T rows buffer count o i)
   pub within : r .row ≤ count
-  pub rest : verdictFrom T rows buffer count (stateOf T (start o)) i ≡ verdictAbove T rows buffer count (base T o) (r .row)
+  pub rest : Gives judged (verdictFrom T rows buffer count (stateOf T (start o)) i) (verdictAbove T rows buffer count (base T o) (r .row))
   pub few : r .end ≤ at + 66000 * (r .row - i) + 66000
 
-pub record Judges (T rows buffer : List ℕ) (count o i : ℕ) (r : Laid) (Right : Type 0) : Type 0 where
+pub record Judges (T rows buffer : List ℕ) (judged : Bool) (count o i : ℕ) (r : Laid) (Right : Type 0) : Type 0 where
   pub right : r .fault ≡ 0 → Right
-  pub wrong : (r .fault ≡ 0 → ⊥) → verdictFrom T rows buffer count (stateOf T (start o)) i ≡ stop (r .fault) (r .row)
+  pub wrong : (r .fault ≡ 0 → ⊥) → Gives judged (verdictFrom T rows buffer count (stateOf T (start o)) i) (stop (r .fault) (r .row))
 
-abbrev pub RowsPut : List ℕ → List ℕ → List ℕ → ℕ → ℕ → ℕ → ℕ → List ℕ → List ℕ → Laid → Type 0
-RowsPut T rows buffer count o i at out last r = Judges T rows buffer count o i r (RowsLaid T rows buffer count o i at out last r)
+abbrev pub RowsPut : List ℕ → List ℕ → List ℕ → Bool → ℕ → ℕ → ℕ → ℕ → List ℕ → List ℕ → Laid → Type 0
+RowsPut T rows buffer judged count o i at out last r = Judges T rows buffer judged count o i r (RowsLaid T rows buffer judged count o i at out last r)
 
-abbrev pub DataPut : List ℕ → List ℕ → List ℕ → ℕ → ℕ → ℕ → ℕ → List ℕ → List ℕ → Laid → Type 0
-DataPut T rows buffer count o i at out last r = Judges T rows buffer count o i r (DataLaid T rows buffer count o i at out last r)
+abbrev pub DataPut : List ℕ → List ℕ → List ℕ → Bool → ℕ → ℕ → ℕ → ℕ → List ℕ → List ℕ → Laid → Type 0
+DataPut T rows buffer judged count o i at out last r = Judges T rows buffer judged count o i r (DataLaid T rows buffer judged count o i at out last r)
 
-abbrev pub SlicePut : List ℕ → List ℕ → List ℕ → ℕ → Format → Bool → Bool → ℕ → ℕ → ℕ → List ℕ → List ℕ → Laid → Type 0
-SlicePut T rows buffer count g id end o i at out last r = Judges T rows buffer count o i r (SliceLaid T rows buffer count g id end o i at out last r)
+abbrev pub SlicePut : List ℕ → List ℕ → List ℕ → Bool → ℕ → Format → Bool → Bool → ℕ → ℕ → ℕ → List ℕ → List ℕ → Laid → Type 0
+SlicePut T rows buffer judged count g id end o i at out last r = Judges T rows buffer judged count o i r (SliceLaid T rows buffer judged count g id end o i at out last r)

@@ -1,5 +1,6 @@
 // Rows to a message. Each function equals its definition on any table, rows, buffer and output.
-// One pass judges the rows and puts the message. rows.rt reads the row bytes, state.rt says which member of an owner a row gives,
+// One pass judges the rows and puts the message. Where a second one is due, `judged` says that the parts of the rows were judged, and they are not judged again.
+// rows.rt reads the row bytes, state.rt says which member of an owner a row gives,
 // piece.rt judges a row and puts its member, slice.rt does so for the rows of an owner and puts its slice, message.rt for all owners.
 pub mod message;
 pub mod piece;
@@ -65,7 +66,7 @@ pub enum Outcome {
 }
 
 // Rows to a message, behind the judgements on table, type, format and buffer: judges the rows, each 20 then 21, then 22, and puts the message at the output's start.
-// The message is put into an array of 1,024 bytes first, which judges the rows and gives its length; a message that fits there is copied, a longer one is put again.
+// The message is put into an array of 1,024 bytes first, which judges the rows and gives its length; a message that fits there is copied, a longer one is put again, its parts not judged again.
 pub fn write_rows(
     table: &[u8],
     forms: &[u8; 256],
@@ -85,7 +86,17 @@ pub fn write_rows(
     }
     let sliced = format != 0;
     let mut few = [0u8; 1024];
-    let put = message::put_message(table, forms, &mut few, top, sliced, count, rows, buffer);
+    let put = message::put_message(
+        table,
+        forms,
+        &mut few,
+        top,
+        sliced,
+        false,
+        count,
+        rows,
+        buffer,
+    );
     match put {
         Put::Wrong(number, place) => Outcome::Stopped(number, place),
         Put::Made(n) => {
@@ -99,7 +110,7 @@ pub fn write_rows(
                 wire::put_part(out, 0, &few, 0, n);
                 return Outcome::Made(n);
             }
-            message::put_message(table, forms, out, top, sliced, count, rows, buffer);
+            message::put_message(table, forms, out, top, sliced, true, count, rows, buffer);
             Outcome::Made(n)
         }
     }

@@ -19,13 +19,14 @@ fn put_slices(
     start: usize,
     t: usize,
     sliced: bool,
+    judged: bool,
     count: usize,
     rows: &[u8],
     buffer: &[u8],
 ) -> Put
     requires { ⌜ now forms ≡ formsOf (now table) ⌝ }
     requires { ⌜ (start ≤ 7) × (t < 65536) × (count ≤ 4294967296) × (length (now buffer) ≤ 65536) ⌝ }
-    ensures { λ r. ⌜ AllPut (now (table .entry)) (now (rows .entry)) (now (buffer .entry)) count t start (slicesBytes (formatBy sliced) first (slicesFrom (now (table .entry)) (now (rows .entry)) (now (buffer .entry)) count 0 (chain (now (table .entry)) t))) (now (out .entry)) (now (out .exit)) r ⌝ }
+    ensures { λ r. ⌜ AllPut (now (table .entry)) (now (rows .entry)) (now (buffer .entry)) judged count t start (slicesBytes (formatBy sliced) first (slicesFrom (now (table .entry)) (now (rows .entry)) (now (buffer .entry)) count 0 (chain (now (table .entry)) t))) (now (out .entry)) (now (out .exit)) r ⌝ }
 {
     let mut at = start;
     let mut o = t;
@@ -43,6 +44,7 @@ fn put_slices(
             sliced,
             up == 0,
             i,
+            judged,
             count,
             rows,
             buffer,
@@ -70,17 +72,18 @@ fn put_contents(
     out: &mut [u8],
     t: usize,
     sliced: bool,
+    judged: bool,
     count: usize,
     rows: &[u8],
     buffer: &[u8],
 ) -> Put
     requires { ⌜ now forms ≡ formsOf (now table) ⌝ }
     requires { ⌜ (t < 65536) × (count ≤ 4294967296) × (length (now buffer) ≤ 65536) ⌝ }
-    ensures { λ r. ⌜ AllPut (now (table .entry)) (now (rows .entry)) (now (buffer .entry)) count t 6 (contentsOf (now (table .entry)) (now (rows .entry)) (now (buffer .entry)) count (formatBy sliced) t) (now (out .entry)) (now (out .exit)) r ⌝ }
+    ensures { λ r. ⌜ AllPut (now (table .entry)) (now (rows .entry)) (now (buffer .entry)) judged count t 6 (contentsOf (now (table .entry)) (now (rows .entry)) (now (buffer .entry)) count (formatBy sliced) t) (now (out .entry)) (now (out .exit)) r ⌝ }
 {
     let k = table::kind(table, t);
     if k == 15 {
-        let d = slice::put_rows(table, forms, out, 6, t, 0, count, rows, buffer);
+        let d = slice::put_rows(table, forms, out, 6, t, 0, judged, count, rows, buffer);
         if d.fault != 0 {
             return Put::Wrong(d.fault, d.row);
         }
@@ -91,9 +94,9 @@ fn put_contents(
     }
     if k == 14 {
         wire::put_number(out, 6, 1, 1);
-        return put_slices(table, forms, out, 7, t, sliced, count, rows, buffer);
+        return put_slices(table, forms, out, 7, t, sliced, judged, count, rows, buffer);
     }
-    put_slices(table, forms, out, 6, t, sliced, count, rows, buffer)
+    put_slices(table, forms, out, 6, t, sliced, judged, count, rows, buffer)
 }
 
 // Judges the rows and puts the message: the data, then the size and the version before them.
@@ -103,15 +106,16 @@ pub fn put_message(
     out: &mut [u8],
     t: usize,
     sliced: bool,
+    judged: bool,
     count: usize,
     rows: &[u8],
     buffer: &[u8],
 ) -> Put
     requires { ⌜ now forms ≡ formsOf (now table) ⌝ }
     requires { ⌜ (t < 65536) × (count ≤ 4294967296) × (length (now buffer) ≤ 65536) ⌝ }
-    ensures { λ r. ⌜ AllPut (now (table .entry)) (now (rows .entry)) (now (buffer .entry)) count t 0 (encapsulate (contentsOf (now (table .entry)) (now (rows .entry)) (now (buffer .entry)) count (formatBy sliced) t)) (now (out .entry)) (now (out .exit)) r ⌝ }
+    ensures { λ r. ⌜ AllPut (now (table .entry)) (now (rows .entry)) (now (buffer .entry)) judged count t 0 (encapsulate (contentsOf (now (table .entry)) (now (rows .entry)) (now (buffer .entry)) count (formatBy sliced) t)) (now (out .entry)) (now (out .exit)) r ⌝ }
 {
-    let put = put_contents(table, forms, out, t, sliced, count, rows, buffer);
+    let put = put_contents(table, forms, out, t, sliced, judged, count, rows, buffer);
     match put {
         Put::Made(n) => {
             wire::put_number(out, 0, 4, n);

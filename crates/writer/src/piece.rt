@@ -8,6 +8,7 @@ use crate::state;
 ghost use mathlib.Core.Path.{_≡_};
 ghost use Prim.Native.Nat.{_+_, _≤_, _<_};
 ghost use lib.ListN.{length};
+ghost use Rattle.encoding.specs.Result.{pick};
 ghost use Rattle.encoding.specs.Table.{tyOf};
 ghost use Rattle.encoding.specs.Write.{partOf};
 ghost use Rattle.table.specs.Forms.{formsOf};
@@ -77,11 +78,14 @@ fn form_of(forms: &[u8; 256], t: usize) -> usize
     10
 }
 
-// 20 where a row's part lies outside the buffer, 21 where it isn't exactly a value of type row t, else 0.
-fn part_form(table: &[u8], t: usize, row: RowNumbers, buffer: &[u8]) -> usize
+// 20 where a row's part lies outside the buffer, 21 where it isn't exactly a value of type row t, else 0; and 0 where it was judged before.
+fn part_form(table: &[u8], t: usize, judged: bool, row: RowNumbers, buffer: &[u8]) -> usize
     requires { ⌜ length (now buffer) ≤ 65536 ⌝ }
-    ensures { λ r. ⌜ r ≡ partForm (now (buffer .entry)) (rowOf row) (tyOf (now (table .entry)) t) ⌝ }
+    ensures { λ r. ⌜ r ≡ pick judged 0 (partForm (now (buffer .entry)) (rowOf row) (tyOf (now (table .entry)) t)) ⌝ }
 {
+    if judged {
+        return 0;
+    }
     let place = row.place;
     let len = row.len;
     if wire::fits(buffer.len(), place, len) {
@@ -111,27 +115,28 @@ fn put_optional(
     put_content(out, b, row, buffer)
 }
 
-// Judges row i, each 20 then 21, and puts it, if it is a member of the owner where the rows stand.
+// Judges row i, each 20 then 21, and puts it, if it is a member of the owner where the rows stand. A part judged before is not judged again.
 pub fn put_row(
     table: &[u8],
     forms: &[u8; 256],
     out: &mut [u8],
     at: usize,
     from: Cursor,
+    judged: bool,
     rows: &[u8],
     i: usize,
     buffer: &[u8],
 ) -> Placed
     requires { ⌜ now forms ≡ formsOf (now table) ⌝ }
     requires { ⌜ (at ≤ 1152921504606846976) × (i < 4294967296) × (from .passed ≤ 65536) × (length (now buffer) ≤ 65536) ⌝ }
-    ensures { λ r. ⌜ RowPut (now (table .entry)) (now (rows .entry)) (now (buffer .entry)) from i at (now (out .entry)) (now (out .exit)) r ⌝ }
+    ensures { λ r. ⌜ RowPut (now (table .entry)) (now (rows .entry)) (now (buffer .entry)) judged from i at (now (out .entry)) (now (out .exit)) r ⌝ }
 {
     let row = rows::row_at(rows, i);
     let r = state::reach_in(table, from, row.member);
     match r {
         Reach::Due(c) => {
             let t = table::type_of_member(table, row.member);
-            let fault = part_form(table, t, row, buffer);
+            let fault = part_form(table, t, judged, row, buffer);
             if fault != 0 {
                 return Placed::Wrong(fault);
             }
@@ -140,7 +145,7 @@ pub fn put_row(
         }
         Reach::May(c) => {
             let t = table::type_of_member(table, row.member);
-            let fault = part_form(table, t, row, buffer);
+            let fault = part_form(table, t, judged, row, buffer);
             if fault != 0 {
                 return Placed::Wrong(fault);
             }

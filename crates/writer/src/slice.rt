@@ -21,13 +21,14 @@ pub fn put_rows(
     start: usize,
     o: usize,
     first: usize,
+    judged: bool,
     count: usize,
     rows: &[u8],
     buffer: &[u8],
 ) -> Laid
     requires { ⌜ now forms ≡ formsOf (now table) ⌝ }
     requires { ⌜ (start ≤ 576460752303423488) × (first ≤ count) × (count ≤ 4294967296) × (length (now buffer) ≤ 65536) ⌝ }
-    ensures { λ r. ⌜ RowsPut (now (table .entry)) (now (rows .entry)) (now (buffer .entry)) count o first start (now (out .entry)) (now (out .exit)) r ⌝ }
+    ensures { λ r. ⌜ RowsPut (now (table .entry)) (now (rows .entry)) (now (buffer .entry)) judged count o first start (now (out .entry)) (now (out .exit)) r ⌝ }
 {
     let mut from = Cursor {
         owner: o,
@@ -38,7 +39,7 @@ pub fn put_rows(
     let mut i = first;
     let mut optionals = false;
     while i < count {
-        let p = piece::put_row(table, forms, out, at, from, rows, i, buffer);
+        let p = piece::put_row(table, forms, out, at, from, judged, rows, i, buffer);
         match p {
             Placed::Row(c, end, optional) => {
                 from = c;
@@ -126,15 +127,27 @@ fn put_data(
     start: usize,
     o: usize,
     first: usize,
+    judged: bool,
     count: usize,
     rows: &[u8],
     buffer: &[u8],
 ) -> Laid
     requires { ⌜ now forms ≡ formsOf (now table) ⌝ }
     requires { ⌜ (start ≤ 576460752303423488) × (first ≤ count) × (count ≤ 4294967296) × (length (now buffer) ≤ 65536) ⌝ }
-    ensures { λ r. ⌜ DataPut (now (table .entry)) (now (rows .entry)) (now (buffer .entry)) count o first start (now (out .entry)) (now (out .exit)) r ⌝ }
+    ensures { λ r. ⌜ DataPut (now (table .entry)) (now (rows .entry)) (now (buffer .entry)) judged count o first start (now (out .entry)) (now (out .exit)) r ⌝ }
 {
-    let d = put_rows(table, forms, out, start, o, first, count, rows, buffer);
+    let d = put_rows(
+        table,
+        forms,
+        out,
+        start,
+        o,
+        first,
+        judged,
+        count,
+        rows,
+        buffer,
+    );
     if d.fault != 0 {
         return d;
     }
@@ -196,16 +209,28 @@ pub fn put_slice(
     sliced: bool,
     last: bool,
     first: usize,
+    judged: bool,
     count: usize,
     rows: &[u8],
     buffer: &[u8],
 ) -> Laid
     requires { ⌜ now forms ≡ formsOf (now table) ⌝ }
     requires { ⌜ (at ≤ 288230376151711744) × (first ≤ count) × (count ≤ 4294967296) × (length (now buffer) ≤ 65536) ⌝ }
-    ensures { λ r. ⌜ SlicePut (now (table .entry)) (now (rows .entry)) (now (buffer .entry)) count (formatBy sliced) id last o first at (now (out .entry)) (now (out .exit)) r ⌝ }
+    ensures { λ r. ⌜ SlicePut (now (table .entry)) (now (rows .entry)) (now (buffer .entry)) judged count (formatBy sliced) id last o first at (now (out .entry)) (now (out .exit)) r ⌝ }
 {
     let start = at + front_len(table, o, id, sliced);
-    let d = put_data(table, forms, out, start, o, first, count, rows, buffer);
+    let d = put_data(
+        table,
+        forms,
+        out,
+        start,
+        o,
+        first,
+        judged,
+        count,
+        rows,
+        buffer,
+    );
     if d.fault != 0 {
         return d;
     }
