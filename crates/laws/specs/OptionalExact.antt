@@ -27,6 +27,7 @@ use Rattle.encoding.specs.Number.{byte, leBytes, sizeBytes}
 use Rattle.encoding.specs.NumberLaws.{Bytes, bytes-drop, byte-written, byte-canonical, size-written, size-canonical, length-leBytes, declared-written}
 use Rattle.encoding.specs.Types.{Ty, short, int, long, float, double, broken, bool, string, proxy, num, enum, struct, seq, dict, fixed, fixeds, single, Bits, f1, f2, f4, f8, size, vsize, fsize, class, bits, bitsAt, Form, bare, own, counted, sized, bitsOf, formOf}
 use Rattle.encoding.specs.Types
+use Rattle.encoding.specs.TypesLaws.{bits-below, bits-back, bits-there}
 use Rattle.encoding.specs.Value.{value, exact}
 use Rattle.encoding.specs.ValueLaws.{framed-value, held-value, exact-ok, exact-step, eats-value, value-more, value-part}
 use Rattle.encoding.specs.Table.{Member, lookup}
@@ -39,37 +40,6 @@ use Rattle.encoding.specs.Message.{parameters}
 use Rattle.encoding.specs.Conform.{Short, Known, Unknown, Level, Owned}
 
 -- ---- headers
-
-bits-back : (k : Bits) → bitsAt (bits k) ≡ k
-bits-back f1 = refl
-bits-back f2 = refl
-bits-back f4 = refl
-bits-back f8 = refl
-bits-back size = refl
-bits-back vsize = refl
-bits-back fsize = refl
-bits-back class = refl
-
-bits-below : (k : Bits) → bits k < 8
-bits-below f1 = omega arith
-bits-below f2 = omega arith
-bits-below f4 = omega arith
-bits-below f8 = omega arith
-bits-below size = omega arith
-bits-below vsize = omega arith
-bits-below fsize = omega arith
-bits-below class = omega arith
-
-bits-there : (n : ℕ) → n < 8 → bits (bitsAt n) ≡ n
-bits-there zero h = refl
-bits-there (suc zero) h = refl
-bits-there (suc (suc zero)) h = refl
-bits-there (suc (suc (suc zero))) h = refl
-bits-there (suc (suc (suc (suc zero)))) h = refl
-bits-there (suc (suc (suc (suc (suc zero))))) h = refl
-bits-there (suc (suc (suc (suc (suc (suc zero)))))) h = refl
-bits-there (suc (suc (suc (suc (suc (suc (suc zero))))))) h = refl
-bits-there (suc (suc (suc (suc (suc (suc (suc (suc n)))))))) h = absurd (omega arith)
 
 -- what is read of a header with this tag and type
 unfoldable pub headerOf : ℕ → Bits → Header

@@ -21,6 +21,7 @@ use Rattle.encoding.specs.ResultLaws.{held-took, held-refused}
 use Rattle.encoding.specs.Number.{number, byte, size}
 use Rattle.encoding.specs.NumberLaws.{held-size}
 use Rattle.encoding.specs.Types.{bits, Form, own, counted, sized, bitsOf, formOf}
+use Rattle.encoding.specs.TypesLaws.{bits-there}
 use Rattle.encoding.specs.Table.{at, Member, optional, lookup}
 use Rattle.encoding.specs.Optional.{Header, firstForm, headerTail, wrongType, headerForm, header}
 use Rattle.wire.specs.declared.Sized.{Sized}
@@ -35,7 +36,6 @@ use Rattle.level.specs.declared.Front.{Front}
 use Rattle.level.specs.declared.Front.the-variants.{Is, Isnt}
 use Rattle.level.specs.declared.Head.the-variants.{Known, Unknown, Wrong}
 use Rattle.level.specs.Forms.{formNamed, formIn}
-use Rattle.level.specs.FormsLaws.{bits-named}
 use Rattle.level.specs.Answers.{front, frontOf, early, typeRow, headFor, headOf}
 use Rattle.level.proofs.Lookups.{Met, met, unmet, met-form}
 
@@ -55,7 +55,7 @@ module _ (s : List ℕ) (h : 1 ≤ length s) (b : ℕ) (e : b ≡ at s 1 0) (t :
     unfolding front _>>=_ after must judged byte number chunk firstForm headerTail pure shift frontOf at
     front-short n =
         let g : b / 8 < 31 = omega arith in
-        rw (et, ek, le-leb 1 (length s) h, ← e, lt-ltb (b / 8) 31 g, ne-eqb (b / 8) 30 (λ q. n (et ∙ q)), bits-named (b % 8) (omega arith))
+        rw (et, ek, le-leb 1 (length s) h, ← e, lt-ltb (b / 8) 31 g, ne-eqb (b / 8) 30 (λ q. n (et ∙ q)), bits-there (b % 8) (omega arith))
 
     module _ (z : t ≡ 30) (r : Sized) (er : r ≡ sizedOf (size (take (length s - 1) (drop 1 s)))) where
       rest-size : r ≡ sizedOf (size (drop 1 s))
@@ -78,7 +78,7 @@ module _ (s : List ℕ) (h : 1 ≤ length s) (b : ℕ) (e : b ≡ at s 1 0) (t :
             lt-ltb (b / 8) 31 g,
             eq-eqb (b / 8) 30 (sym et ∙ z),
             sized-is (size (drop 1 s)) n w (sym q ∙ rest-size),
-            bits-named (b % 8) (omega arith),
+            bits-there (b % 8) (omega arith),
           )
 
       pub front-bad : (c p : ℕ) → r ≡ Unread c p → Isnt c (1 + p) ≡ frontOf (front s)
@@ -115,7 +115,7 @@ module _ (least : ℕ) (long : Bool) (tag k : ℕ) (u : Bool) (e : u ≡ long &&
 module _ (f : ℕ) where
   pub bits-bare : f < 8 → f ≡ bits (bitsOf (formNamed f))
   unfolding formNamed
-  bits-bare h = rw (lt-ltb f 8 h) (sym (bits-named f h))
+  bits-bare h = rw (lt-ltb f 8 h) (sym (bits-there f h))
 
   pub bits-counted : 8 ≤ f → f < 10 → 5 ≡ bits (bitsOf (formNamed f))
   unfolding formNamed

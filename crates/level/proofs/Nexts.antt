@@ -15,6 +15,7 @@ use lib.ListN.{length, take, drop, length-drop}
 use Rattle.encoding.specs.Result.{Res, ok, bad, shift, after, _>>=_, made, mapc, bytes, inside}
 use Rattle.encoding.specs.ResultLaws.{held-took, held-refused}
 use Rattle.encoding.specs.Types.{Bits, bits, bitsAt, Form, formOf, Ty}
+use Rattle.encoding.specs.TypesLaws.{bits-back}
 use Rattle.encoding.specs.Value.{value}
 use Rattle.encoding.specs.Table.{tyOf, Member, lookup}
 use Rattle.encoding.specs.Table
@@ -28,7 +29,6 @@ use Rattle.level.specs.declared.Part.{Part}
 use Rattle.level.specs.declared.Part.the-variants.{Is, Isnt}
 use Rattle.level.specs.declared.Optional.the-variants.{Known, Skipped, Wrong}
 use Rattle.level.specs.Forms.{formNamed, formIn}
-use Rattle.level.specs.FormsLaws.{bits-back}
 use Rattle.level.specs.Answers.{typeRow, headFor, headOf, partOf, rowOr, pieceAnswer, optionalAnswer}
 use Rattle.level.proofs.Told.{part-is, part-isnt}
 use Rattle.level.proofs.Lookups.{row-form, row-type, optional-of}

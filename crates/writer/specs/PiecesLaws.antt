@@ -11,35 +11,22 @@ use native.Mathlib.Omega.{arith}
 use lib.ListN.{length}
 use borrow.Author.Tests.{lt-ltb, le-ltb, ne-eqb}
 use Rattle.encoding.specs.Number.{leBytes, sizeBytes}
-use Rattle.encoding.specs.Types.{f1, f2, f4, f8, size, vsize, fsize, class, bits, Form, bare, own, counted, sized, bitsOf}
+use Rattle.encoding.specs.Types.{bits, Form, bare, own, counted, sized, bitsOf}
+use Rattle.encoding.specs.TypesLaws.{bits-below}
 use Rattle.encoding.specs.Optional.{required, optional, headerBytes, lengthBytes, frontBytes, contentBytes, pieceBytes}
 use Rattle.table.specs.Forms.{formNumber}
 use Rattle.writer.specs.Pieces.{headerField, formBits, lengthField, optionalField}
 
 form-bits : (f : Form) → bits (bitsOf f) ≡ formBits (formNumber f)
 unfolding formBits formNumber
-form-bits (bare f1) = refl
-form-bits (bare f2) = refl
-form-bits (bare f4) = refl
-form-bits (bare f8) = refl
-form-bits (bare size) = refl
-form-bits (bare vsize) = refl
-form-bits (bare fsize) = refl
-form-bits (bare class) = refl
+form-bits (bare k) = rw (lt-ltb (bits k) 8 (bits-below k))
 form-bits own = refl
 form-bits counted = refl
 form-bits sized = refl
 
 length-field : (f : Form) (b : List ℕ) → lengthBytes f b ≡ lengthField (formNumber f) (length b)
 unfolding lengthBytes lengthField formNumber
-length-field (bare f1) b = refl
-length-field (bare f2) b = refl
-length-field (bare f4) b = refl
-length-field (bare f8) b = refl
-length-field (bare size) b = refl
-length-field (bare vsize) b = refl
-length-field (bare fsize) b = refl
-length-field (bare class) b = refl
+length-field (bare k) b = let l = bits-below k in rw (lt-ltb (bits k) 9 (omega arith))
 length-field own b = refl
 length-field counted b = refl
 length-field sized b = refl
