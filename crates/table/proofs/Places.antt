@@ -10,21 +10,21 @@
 --   rows-few, rows-many                             how many rows have a tree
 --   rows-below                                      at most 256 rows have a tree
 --   member-row, no-member                           the row of a member's type
-use Prim.Native.Nat.{ℕ, zero, suc, _+_, _-_, _*_, _/_, _≤_, _<_}
+use Prim.Native.Nat.{ℕ, _+_, _-_, _*_, _/_, _≤_, _<_}
 use mathlib.Core.Path.{_≡_, refl, sym, ap, _∙_}
 use mathlib.Core.Bool.{Bool, true, false}
-use mathlib.Core.List.{List, [], _∷_}
+use mathlib.Core.List.{List}
 use native.Mathlib.Nat.{add-zero}
 use native.Mathlib.Omega.{arith}
-use lib.ListN.{length, take, drop, length-drop, drop-of-length-le}
-use lib.Seq.{take-all, take-nil, take-take, drop-drop}
+use lib.ListN.{length, take, drop, drop-of-length-le}
+use lib.Seq.{drop-drop}
 use lib.Dec.{leb}
 use borrow.Author.Tests.{le-leb, lt-leb, leb-true}
 use Rattle.encoding.specs.Result.{pick}
-use Rattle.encoding.specs.Number.{val}
 use Rattle.encoding.specs.Table.{at, types, members, typesAt, rowAt, membersAt, memberAt, kind, field, memberType, mark, tag, typeRows, trees, tyOf, memberTy}
 use Rattle.encoding.specs.TableLaws.{ty-past, member-past, member-whole}
-use Rattle.wire.specs.At.{at-past}
+use Rattle.wire.specs.StepLaws.{rest-is}
+use Rattle.wire.specs.At.{at-past, at-within}
 
 -- both begin at the end
 past : (T : List ℕ) (p : ℕ) → length T ≤ p → drop (length T) T ≡ drop p T
@@ -58,20 +58,10 @@ pub record Shows (T s : List ℕ) (p w : ℕ) : Type 0 where
 
 pub rest-shows : (T : List ℕ) (a p w : ℕ) → drop a T ≡ drop p T → Shows T (take (length T - a) (drop a T)) p w
 unfolding at
-rest-shows T a p w e =
-    let z : take (length T - a) (drop a T) ≡ drop a T = take-all (length T - a) (drop a T) (omega (arith, length-drop a T)) in
-    record { same = λ k i h. rw (z, e, drop-drop) }
-
--- a part of a part lies in the whole
-part-part : (l : List ℕ) (i k n : ℕ) → i + k ≤ n → take k (drop i (take n l)) ≡ take k (drop i l)
-part-part l zero k n h = take-take k n l (omega arith)
-part-part [] (suc i) k n h = rw (take-nil {A = ℕ} n)
-part-part (x ∷ l) (suc i) k zero h = absurd (omega arith)
-part-part (x ∷ l) (suc i) k (suc n) h = part-part l i k n (omega arith)
+rest-shows T a p w e = record { same = λ k i h. rw (rest-is T a, e, drop-drop) }
 
 part-shows : (T : List ℕ) (a e w : ℕ) → w ≤ e - a → Shows T (take (e - a) (drop a T)) a w
-unfolding at
-part-shows T a e w l = record { same = λ k i h. ap val (part-part (drop a T) i k (e - a) (omega arith)) ∙ rw drop-drop }
+part-shows T a e w l = record { same = λ k i h. at-within T a (e - a) k i (omega arith) }
 
 pub row-shows : (T : List ℕ) (t w : ℕ) → w ≤ 12 → Shows T (take (12 + 12 * t + 12 - (12 + 12 * t)) (drop (12 + 12 * t) T)) (rowAt T t) w
 unfolding rowAt typesAt

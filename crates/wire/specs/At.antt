@@ -5,14 +5,15 @@
 --   at-split   the number of j bytes, and 256 ^ j times the number of those behind them
 --   at-cut     the first j bytes alone, where no more are there
 --   at-rest    a number of the part that begins at a place
+--   at-within  a number of a part that holds all of it
 --   at-past    past the end it is 0
-use mathlib.Core.Path.{_≡_, refl, _∙_}
+use mathlib.Core.Path.{_≡_, refl, ap, _∙_}
 use mathlib.Core.List.{List, [], _∷_}
 use Prim.Native.Nat.{ℕ, zero, suc, _+_, _-_, _*_, _^_, _≤_}
 use native.Mathlib.Nat.{add-zero, zero-add, mul-assoc, pow-succ'}
 use native.Mathlib.Omega.{arith}
 use lib.ListN.{length, take, drop, getD, drop-of-length-le}
-use lib.Seq.{take-nil, drop-drop}
+use lib.Seq.{take-nil, take-take, drop-drop}
 use Rattle.encoding.specs.Table.{at}
 use Rattle.encoding.specs.Number.{val}
 use Rattle.wire.specs.StepLaws.{rest-is}
@@ -51,3 +52,14 @@ at-cut s j k i h = at-split s j k i ∙ rw (at-past s k (i + j) h) (omega arith)
 pub at-rest : (s : List ℕ) (i k j : ℕ) → at (take (length s - i) (drop i s)) k j ≡ at s k (i + j)
 unfolding at
 at-rest s i k j = rw (rest-is s i, drop-drop j i s)
+
+-- a part of a part lies in the whole
+part-part : (s : List ℕ) (i k n : ℕ) → i + k ≤ n → take k (drop i (take n s)) ≡ take k (drop i s)
+part-part s zero k n h = take-take k n s (omega arith)
+part-part [] (suc i) k n h = rw (take-nil {A = ℕ} n)
+part-part (x ∷ s) (suc i) k zero h = absurd (omega arith)
+part-part (x ∷ s) (suc i) k (suc n) h = part-part s i k n (omega arith)
+
+pub at-within : (s : List ℕ) (i n k j : ℕ) → j + k ≤ n → at (take n (drop i s)) k j ≡ at s k (i + j)
+unfolding at
+at-within s i n k j h = ap val (part-part (drop i s) j k n h) ∙ rw drop-drop
