@@ -18,14 +18,14 @@ use Rattle.encoding.specs.Table.{Fault, fine, fault, faults}
 use Rattle.encoding.specs.RuleLaws.{fault-place}
 use Rattle.encoding.specs.Slice.{Format, sliced, compact, formatNumber}
 use Rattle.encoding.specs.Message.{Read, body, noTop, limit, afterRules, unless, rules, Row, rows, rowBytes, firstKnown, optionalsSkipped, slicesSkipped, Answer, refused, accepted, answer, room, within, reading, listed, readingOf}
-use Rattle.encoding.specs.MessageLaws.{held-body}
+use Rattle.encoding.specs.MessageLaws.{held-body, length-rows}
 use Rattle.encoding.specs.RefusalLaws.{Told, refuses-rules}
 use Rattle.encoding.specs.declared.Reading.{Reading}
 use Rattle.encoding.specs.declared.Reading.the-variants.{Accepted, Refused}
 use Rattle.wire.specs.Put.{put}
 use Rattle.wire.specs.PutLaws.{put-none, put-front}
 use Rattle.level.specs.Fill.{fill}
-use Rattle.level.specs.FillLaws.{length-rows, fill-listed}
+use Rattle.level.specs.FillLaws.{fill-listed}
 use Rattle.reader.specs.Walks.{bodyWalk, readDone}
 use Rattle.reader.specs.declared.Walk.{Walk}
 use Rattle.reader.specs.declared.Walk.the-variants.{Done, Stop}

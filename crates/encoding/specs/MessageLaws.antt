@@ -5,17 +5,18 @@
 --   length-encapsulate, body-encapsulated   an encapsulation is six bytes longer than what it holds, and read as that
 --   top-there              a top is a row of a kind from 13 on
 --   rules-ok, rules-step   what the rules accept: table, top, limit and body; rules-body where only the body is left
+--   length-row, length-rows   a row has twelve bytes in a list
 use mathlib.Core.Path.{_≡_, refl, sym, ap, _∙_}
 use mathlib.Core.Bool.{false, _||_, not}
 use mathlib.Core.Option.{Option}
 use mathlib.Core.List.{List, [], _∷_, _++_}
-use Prim.Native.Nat.{ℕ, zero, suc, _+_, _^_, _≤_, _<_}
+use Prim.Native.Nat.{ℕ, zero, suc, _+_, _*_, _^_, _≤_, _<_}
 use native.Mathlib.Omega.{arith}
 use lib.ListN.{length, length-append}
 use lib.Seq.{drop-at}
 use lib.Dec.{eqb, leb, ltb}
 use borrow.Author.Tests.{leb-false, ltb-false, le-ltb, eq-eqb}
-use Rattle.encoding.specs.Result.{Res, ok, bad, Parser, shift, _>>=_, must, atEnd, atMark, firstOf}
+use Rattle.encoding.specs.Result.{Res, ok, bad, Parser, shift, _>>=_, must, atEnd, atMark, firstOf, concat}
 use Rattle.encoding.specs.ResultLaws.{Closed, Lies, by-pick, held, pick-most, atMark-looks, ok≢bad, either-false, firstOf-ok, bind-next, must-step, Held, atEnd-fits}
 use Rattle.encoding.specs.Number.{byte, number, leBytes}
 use Rattle.encoding.specs.NumberLaws.{closed-byte, closed-number, length-leBytes, number-written}
@@ -24,7 +25,7 @@ use Rattle.encoding.specs.Optional.{Piece}
 use Rattle.encoding.specs.OptionalLaws.{closed-optionals, closed-requireds}
 use Rattle.encoding.specs.Slice.{sliced, Chain}
 use Rattle.encoding.specs.SliceLaws.{closed-slices}
-use Rattle.encoding.specs.Message.{list, exception, class, Read, encapsulate, parameters, markerForm, contents, sizeForm, versionForm, ended, body, noTop, limit, afterRules, unless, rules}
+use Rattle.encoding.specs.Message.{list, exception, class, Read, encapsulate, parameters, markerForm, contents, sizeForm, versionForm, ended, body, noTop, limit, afterRules, unless, rules, Row, rowBytes}
 
 ended-in : {A : Type 0} (a : A) (xs : List ℕ) → Lies (length xs) (ended a xs)
 unfolding ended
@@ -131,3 +132,16 @@ module _ (T : List ℕ) (top : ℕ) (m : List ℕ) where
 
   pub rules-step : {r : Read} {n : ℕ} → Admitted T top m r n → rules T top m ≡ ok r n
   rules-step A = rules-body (A .table) (A .top-right) (A .short) ∙ A .read
+
+-- ---- rows as bytes
+
+pub length-row : (r : Row) → length (rowBytes r) ≡ 12
+unfolding rowBytes
+length-row r =
+    length-append (leBytes 4 (r .member) ++ leBytes 4 (r .place)) (leBytes 4 (r .len))
+    ∙ omega (arith, length-append (leBytes 4 (r .member)) (leBytes 4 (r .place)), length-leBytes 4 (r .member), length-leBytes 4 (r .place), length-leBytes 4 (r .len))
+
+pub length-rows : (rs : List Row) → length (concat rowBytes rs) ≡ 12 * length rs
+unfolding concat
+length-rows [] = refl
+length-rows (r ∷ rs) = length-append (rowBytes r) (concat rowBytes rs) ∙ omega (arith, length-row r, length-rows rs)

@@ -2,7 +2,6 @@
 -- A number of a row fits 32 bits: a row lies in the message, and its member is one of the table's, since no bytes are a value of a member that is not.
 --
 --   SmallRow              the numbers of a row
---   length-rows           how many bytes rows take
 --   rows-back             rows that stand at the front of a list are read back from it
 --   accepted-rows-small   of every message that the rules accept
 use mathlib.Core.Path.{_≡_, refl, sym, ap, ap₂, _∙_}
@@ -24,6 +23,7 @@ use Rattle.encoding.specs.TableLaws.{member-past}
 use Rattle.encoding.specs.RuleLaws.{members-most}
 use Rattle.encoding.specs.Slice.{Format}
 use Rattle.encoding.specs.Message.{Pieces, limit, rules, Row, rows, rowBytes}
+use Rattle.encoding.specs.MessageLaws.{length-row}
 use Rattle.encoding.specs.Write.{rowAt}
 use Rattle.laws.specs.Demands.{readAs, All, end, more, RowExact}
 use Rattle.laws.specs.MessageExact.{exact-message, exact-rows}
@@ -71,19 +71,6 @@ row-at u v r k e S =
     three =
         ap (λ (z : List ℕ). at z 4 (12 * k + 8)) (simp append-assoc)
         ∙ number-at (u ++ (a ++ b)) c v (12 * k + 8) (omega (arith, length-append u (a ++ b), length-append a b, length-leBytes 4 (r .member), length-leBytes 4 (r .place))) (length-leBytes 4 (r .len)) ∙ val-leBytes 4 (r .len) (omega (arith, S .len))
-
-length-row : (r : Row) → length (rowBytes r) ≡ 12
-unfolding rowBytes
-length-row r =
-    let a : List ℕ = leBytes 4 (r .member) in
-    let b : List ℕ = leBytes 4 (r .place) in
-    let c : List ℕ = leBytes 4 (r .len) in
-    omega (arith, length-append (a ++ b) c, length-append a b, length-leBytes 4 (r .member), length-leBytes 4 (r .place), length-leBytes 4 (r .len))
-
-pub length-rows : (rs : List Row) → length (concat rowBytes rs) ≡ 12 * length rs
-unfolding concat
-length-rows [] = refl
-length-rows (r ∷ rs) = omega (arith, length-append (rowBytes r) (concat rowBytes rs), length-row r, length-rows rs)
 
 rows-behind : {rs : List Row} → All SmallRow rs → (x u v : List ℕ) (k : ℕ) → x ≡ u ++ (concat rowBytes rs ++ v) → length u ≡ 12 * k → map (rowAt x) (range k (length rs)) ≡ rs
 unfolding concat range

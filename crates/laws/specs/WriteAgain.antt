@@ -22,13 +22,14 @@ use Rattle.encoding.specs.RuleLaws.{record-kind, named-ok}
 use Rattle.encoding.specs.Optional.{Piece, required, optional, skipped, pieceBytes, frontBytes, contentBytes, isSkipped}
 use Rattle.encoding.specs.Slice.{Format, compact, sliced, formatNumber, Slice, known, passed, Stand, first, later, slicesBytes, dataBytes, sliceFront, isLast}
 use Rattle.encoding.specs.Message.{Pieces, list, exception, class, encode, encapsulate, noTop, Row, listRow, pieceMember, pieceRows, sliceRows, orZero, firstIn, firstKnown, rows, rowBytes, skippedPieces, skippedIn, passedIn, optionalsSkipped, slicesSkipped}
+use Rattle.encoding.specs.MessageLaws.{length-rows}
 use Rattle.encoding.specs.Write.{Slot, rising, slot, slots, planOf, plan, out, Given, partOf, piecesOf, slicesOf, gathered, noFormat, formatOf}
 use Rattle.encoding.specs.Conform.{Level, Owned, Follow, Slices, Conform}
 use Rattle.laws.specs.Demands.{Follows, All, more, SameMembers, same-member, Below, Complete, WriteAgain, OneMessage, judging}
 use Rattle.laws.specs.OptionalNewer.{lookup-key}
 use Rattle.laws.specs.RowsExact.{Stands, stands-first, stands-next, stands-inside, stands-there, stands-encapsulated, content-stands, others-stand, data-stand, slices-stand, Found, required-found}
 use Rattle.laws.specs.MessageExact.{exact-message}
-use Rattle.laws.specs.RowsBack.{length-rows, rows-back, accepted-rows-small}
+use Rattle.laws.specs.RowsBack.{rows-back, accepted-rows-small}
 use Rattle.laws.specs.PlanLaws.{Pairs, alone, before, Ordered, from, from-zero, optional-spot, givenOf, Judged, over, taken, missed, SlotsDiffer, find-judged, judged-chosen, first-among, judged-step}
 use Rattle.laws.specs.PlanRules.{Owner, owner-ordered, slots-owner, Falls, plan-owner, chain-falls, chain-owners, chain-top, plan-differ, list-chain, top-owner, top-step, judging-slots}
 use Rattle.laws.specs.GatherLaws.{piecesIn, judged-append, judged-owner, slices-own, owns-all}

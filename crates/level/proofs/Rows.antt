@@ -13,9 +13,9 @@ use borrow.Rule.Slice.PartMut.{putMid}
 use Rattle.encoding.specs.Number.{leBytes}
 use Rattle.encoding.specs.NumberLaws.{length-leBytes}
 use Rattle.encoding.specs.Message.{Row, rowBytes}
+use Rattle.encoding.specs.MessageLaws.{length-row}
 use Rattle.wire.specs.Put.{put}
 use Rattle.wire.specs.PutLaws.{put-put, put-front, put-fits, put-over}
-use Rattle.level.specs.FillLaws.{length-row}
 
 pub row-numbers : (m p l : ℕ) (row a b c : List ℕ) → length row ≡ 12 → a ≡ put 0 (leBytes 4 m) row → b ≡ put 4 (leBytes 4 p) a → c ≡ put 8 (leBytes 4 l) b
     → c ≡ rowBytes (record { member = m; place = p; len = l })

@@ -1,19 +1,17 @@
 -- Laws of `Fill.fill`. Assumes nothing.
 --
---   fill-length                the list keeps its length
---   fill-append                rows behind rows
---   length-row, length-rows    a row has twelve bytes
---   fill-listed                where all rows fit: their bytes one behind another, and the rest as it was
+--   fill-length    the list keeps its length
+--   fill-append    rows behind rows
+--   fill-listed    where all rows fit: their bytes one behind another, and the rest as it was
 use mathlib.Core.Path.{_≡_, refl, sym, ap, _∙_}
 use mathlib.Core.List.{List, [], _∷_, _++_}
 use Prim.Native.Nat.{ℕ, suc, _+_, _*_, _≤_}
 use native.Mathlib.Nat.{add-zero}
 use native.Mathlib.Omega.{arith}
-use lib.ListN.{length, take, drop, length-append}
+use lib.ListN.{length, take, drop}
 use Rattle.encoding.specs.Result.{concat}
-use Rattle.encoding.specs.Number.{leBytes}
-use Rattle.encoding.specs.NumberLaws.{length-leBytes}
 use Rattle.encoding.specs.Message.{Row, rowBytes}
+use Rattle.encoding.specs.MessageLaws.{length-row, length-rows}
 use Rattle.wire.specs.Put.{put}
 use Rattle.wire.specs.PutLaws.{put-length, put-none, put-put, put-fits}
 use Rattle.level.specs.Fill.{fill}
@@ -28,17 +26,6 @@ unfolding fill
 fill-append [] qs k out = ap (λ (i : ℕ). fill i qs out) (sym (add-zero k))
 fill-append (r ∷ rs) qs k out =
     fill-append rs qs (suc k) _ ∙ ap (λ (i : ℕ). fill i qs (fill (suc k) rs (put (12 * k) (rowBytes r) out))) (omega arith)
-
-pub length-row : (r : Row) → length (rowBytes r) ≡ 12
-unfolding rowBytes
-length-row r =
-    length-append (leBytes 4 (r .member) ++ leBytes 4 (r .place)) (leBytes 4 (r .len))
-    ∙ omega (arith, length-append (leBytes 4 (r .member)) (leBytes 4 (r .place)), length-leBytes 4 (r .member), length-leBytes 4 (r .place), length-leBytes 4 (r .len))
-
-pub length-rows : (rs : List Row) → length (concat rowBytes rs) ≡ 12 * length rs
-unfolding concat
-length-rows [] = refl
-length-rows (r ∷ rs) = length-append (rowBytes r) (concat rowBytes rs) ∙ omega (arith, length-row r, length-rows rs)
 
 fill-put : (rs : List Row) (k : ℕ) (out : List ℕ) → 12 * (k + length rs) ≤ length out → fill k rs out ≡ put (12 * k) (concat rowBytes rs) out
 unfolding fill concat
