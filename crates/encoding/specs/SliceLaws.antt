@@ -2,6 +2,7 @@
 --
 --   closed-                      of heads, fields, a known slice's data, slices, and the walk over them, what each way of joining readers keeps
 --   eats-, starved-              of heads and slices
+--   Meant, meant-head            a meaning that is wrong has a refusal's number
 --   walk-ended, walk-on          the walk where the row without a base is read, and where it is not
 --   walk-fuel                    an accepted walk turns at most once for each byte taken
 --   walk-enough, slices-enough   fuel is never used up: any that is not below the bytes left gives the same
@@ -45,7 +46,7 @@ some-most [] = omega arith
 some-most (p ∷ ps) = omega arith
 
 -- a wrong meaning is 16 or 17
-abbrev Meant : Meaning → Type 0
+abbrev pub Meant : Meaning → Type 0
 Meant skip = Unit {0}
 Meant (row t) = Unit {0}
 Meant (wrong n) = InTable n
@@ -66,7 +67,7 @@ module _ (T : List ℕ) where
   meant-seek top last none = meant-pick last (wrong 16) skip (omega arith, omega arith) tt
   meant-seek top last (some t) = meant-pick (any (λ r. eqb r top) (chain T t) && not (wrongLast T t last)) (row t) (wrong 17) tt (omega arith, omega arith)
 
-  meant-head : (top : ℕ) (st : Stage) (h : Head) → Meant (meaning T top st h)
+  pub meant-head : (top : ℕ) (st : Stage) (h : Head) → Meant (meaning T top st h)
   unfolding meaning
   meant-head top (seek s) h = meant-seek top (h .last) (named T (h .id))
   meant-head top (follow g zero) h = (omega arith, omega arith)

@@ -28,12 +28,11 @@ use Rattle.wire.specs.declared.Step.the-variants.{Took, Fault}
 use Rattle.wire.specs.declared.Sized.{Sized}
 use Rattle.wire.specs.declared.Sized.the-variants.{Is as Reads, Isnt as Unread}
 use Rattle.wire.specs.Steps.{stepOf, sizedOf}
-use Rattle.wire.specs.StepLaws.{sized-is, sized-isnt, step-fault}
+use Rattle.wire.specs.StepLaws.{step-took, step-fault, sized-is, sized-isnt}
 use Rattle.level.specs.declared.Part.{Part}
 use Rattle.level.specs.declared.Part.the-variants.{Is, Isnt}
 use Rattle.level.specs.Forms.{formNamed}
 use Rattle.level.specs.Answers.{partOf, wholePart}
-use Rattle.level.proofs.Told.{step-took}
 
 -- ---- bytes of a number
 

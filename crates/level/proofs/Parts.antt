@@ -24,11 +24,11 @@ use Rattle.encoding.specs.OptionalLaws.{held-part, ends-part}
 use Rattle.wire.specs.declared.Step.{Step}
 use Rattle.wire.specs.declared.Step.the-variants.{Took, Fault}
 use Rattle.wire.specs.Steps.{stepOf}
-use Rattle.wire.specs.StepLaws.{step-fault}
+use Rattle.wire.specs.StepLaws.{step-took, step-fault}
 use Rattle.level.specs.declared.Part.{Part}
 use Rattle.level.specs.declared.Part.the-variants.{Is, Isnt}
 use Rattle.level.specs.Answers.{partOf}
-use Rattle.level.proofs.Told.{step-took, part-is, part-isnt}
+use Rattle.level.proofs.Told.{part-is, part-isnt}
 
 -- what a part tells: the bytes that it delivers, and where they stand
 record Delivered (f : Form) (s : List ℕ) (a e : ℕ) : Type 0 where

@@ -31,13 +31,12 @@ use Rattle.wire.specs.Steps.{stepOf}
 use Rattle.wire.specs.Put.{put}
 use Rattle.wire.specs.PutLaws.{put-length}
 use Rattle.table.proofs.Ranges.{range-left, range-empty}
-use Rattle.wire.specs.StepLaws.{rest-is, step-fault}
+use Rattle.wire.specs.StepLaws.{rest-is, step-took, step-fault}
 use Rattle.level.specs.declared.Members.the-variants.{Read, Refused}
 use Rattle.level.specs.Fill.{fill}
 use Rattle.level.specs.Answers.{membersOf, typeRow}
 use Rattle.level.specs.RequiredLaws.{memberAt, Ahead, ahead-begin, ahead-past, ahead-next, required-past, required-next, piece-row}
 use Rattle.level.proofs.Lookups.{row-type}
-use Rattle.level.proofs.Told.{step-took}
 
 -- the pieces still to come, where all are accepted, and what they make of the list as it is
 record Later (T : List ℕ) (t at : ℕ) (s : List ℕ) (ms : List Member) (pos k : ℕ) (last out : List ℕ) : Type 0 where

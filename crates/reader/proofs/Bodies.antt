@@ -26,8 +26,7 @@ use Rattle.encoding.specs.MessageLaws.{ended-ok, held-contents}
 use Rattle.wire.specs.declared.Step.{Step}
 use Rattle.wire.specs.declared.Step.the-variants.{Took, Fault}
 use Rattle.wire.specs.Steps.{stepOf}
-use Rattle.wire.specs.StepLaws.{rest-is, step-fault, shift-shift}
-use Rattle.level.proofs.Told.{step-took}
+use Rattle.wire.specs.StepLaws.{rest-is, step-took, step-fault, shift-shift}
 use Rattle.level.specs.Fill.{fill}
 use Rattle.reader.specs.declared.Walk.{Walk}
 use Rattle.reader.specs.declared.Walk.the-variants.{Done, Stop}

@@ -27,8 +27,7 @@ use Rattle.wire.specs.At.{at-byte}
 use Rattle.wire.specs.declared.Step.{Step}
 use Rattle.wire.specs.declared.Step.the-variants.{Took, Fault}
 use Rattle.wire.specs.Steps.{stepOf}
-use Rattle.wire.specs.StepLaws.{rest-is, step-fault}
-use Rattle.level.proofs.Told.{step-took}
+use Rattle.wire.specs.StepLaws.{rest-is, step-took, step-fault}
 use Rattle.level.specs.declared.Optional.{Optional}
 use Rattle.level.specs.declared.Optional.the-variants.{Known as KnownOptional, Skipped as SkippedOptional, Wrong as WrongOptional}
 use Rattle.level.specs.Answers.{optionalAnswer}
@@ -36,9 +35,7 @@ use Rattle.reader.specs.declared.Stage.{Stage}
 use Rattle.reader.specs.declared.Stage.the-variants.{First, Seeking, Following}
 use Rattle.reader.specs.declared.Heading.{Heading}
 use Rattle.reader.specs.declared.Heading.the-variants.{Skip as SkipHeading, Known as KnownHeading, Wrong as WrongHeading}
-use Rattle.reader.specs.declared.Opening.{Opening}
 use Rattle.reader.specs.declared.Opening.the-variants.{Skip, Known, Wrong}
-use Rattle.reader.specs.declared.Turn.{Turn}
 use Rattle.reader.specs.declared.Turn.the-variants.{End, Known as KnownTurn, Skipped as SkippedTurn, Wrong as WrongTurn}
 use Rattle.reader.specs.declared.Walk.the-variants.{Stop}
 use Rattle.reader.specs.Stages.{stageOf, headAnswer}

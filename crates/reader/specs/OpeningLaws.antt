@@ -16,7 +16,7 @@ use mathlib.Core.List.{List, [], _∷_}
 use Prim.Native.Nat.{ℕ, zero, suc, _+_, _-_, _≤_, _<_}
 use native.Mathlib.Omega.{arith}
 use lib.ListN.{length, take, drop, length-append, length-drop}
-use lib.Seq.{take-all, drop-drop}
+use lib.Seq.{drop-drop}
 use lib.Dec.{eqb}
 use borrow.Author.Tests.{eqb-true, eqb-false, eq-eqb, ne-eqb, not-false}
 use Rattle.encoding.specs.Result.{Res, ok, bad, Parser, pick, shift, pure, fail, made, mapc, recalled, recall, leave, enter, inside, sameBytes}
@@ -29,9 +29,10 @@ use Rattle.encoding.specs.Optional.{Piece}
 use Rattle.encoding.specs.WeightLaws.{string-weight, declared-weight}
 use Rattle.encoding.specs.Slice.{Format, compact, sliced, isSliced, Slice, known, passed, Stand, first, later, due, Head, head, fields, knownData, wrongLast, seek, follow, standOf, finished, Meaning, skip, row, wrong, knownMeaning, seekMeaning, meaning, isNone, idForm, meaningForm, enterSlice, slice, Chain, ahead, idOf, dataBytes, sliceFront}
 use Rattle.encoding.specs.Slice
-use Rattle.encoding.specs.SliceLaws.{eats-head, held-head}
+use Rattle.encoding.specs.SliceLaws.{eats-head, Meant, meant-head, held-head}
 use Rattle.encoding.specs.WalkLaws.{Heads, head-ok, heads-later, Sliced, slice-ok, Walk, done, next}
 use Rattle.encoding.specs.Message.{orZero, firstIn}
+use Rattle.wire.specs.StepLaws.{rest-is}
 use Rattle.reader.specs.declared.Stage.{Stage}
 use Rattle.reader.specs.declared.Stage.the-variants.{First, Seeking, Following}
 use Rattle.reader.specs.declared.Heading.{Heading}
@@ -44,28 +45,6 @@ use Rattle.reader.specs.Left.{recallTo, owners, firstFrom}
 
 -- ---- flags and ID
 
--- no meaning is wrong by 0
-Meant : Meaning → Type 0
-Meant skip = Unit {0}
-Meant (row t) = Unit {0}
-Meant (wrong zero) = ⊥
-Meant (wrong (suc c)) = Unit {0}
-
-meant-pick : (b : Bool) (m w : Meaning) → Meant m → Meant w → Meant (pick b m w)
-meant-pick true m w p q = p
-meant-pick false m w p q = q
-
-meaning-meant : (T : List ℕ) (top : ℕ) (st : Slice.Stage) (h : Head) → Meant (meaning T top st h)
-unfolding meaning seekMeaning knownMeaning Meant
-meaning-meant T top (seek s) h = go (named T (h .id))
-  where
-    go : (o : Option ℕ) → Meant (seekMeaning T top (h .last) o)
-    go none = meant-pick (h .last) (wrong 16) skip tt tt
-    go (some t) = meant-pick (any (λ r. eqb r top) (chain T t) && not (wrongLast T t (h .last))) (row t) (wrong 17) tt tt
-meaning-meant T top (follow g zero) h = tt
-meaning-meant T top (follow g (suc t)) h =
-    meant-pick (isSliced g && not (sameBytes (h .id) (nameOf T t)) || wrongLast T t (h .last)) (wrong 17) (row t) tt tt
-
 module _ (T : List ℕ) (top : ℕ) (st : Slice.Stage) (xs : List ℕ) where
   -- what the code's answer of a head tells
   data Headed : Heading → Type 0 where
@@ -75,17 +54,16 @@ module _ (T : List ℕ) (top : ℕ) (st : Slice.Stage) (xs : List ℕ) where
     wrongs : (c p : ℕ) → headed T top st xs ≡ bad c p → Headed (WrongHeading c p)
 
   heading-told : Headed (headAnswer T top st (headed T top st xs))
-  unfolding headAnswer meaningAnswer meaningForm Meant
+  unfolding headAnswer meaningAnswer meaningForm
   heading-told = go (headed T top st xs) refl
     where
       go₂ : (h : Head) (n : ℕ) → headed T top st xs ≡ ok h n → (m : Meaning) → meaning T top st h ≡ m → Meant m → meaningForm m ≡ 0 → Headed (meaningAnswer h n m)
       go₂ h n e skip f q z = skips h n (must-ok (head (standOf st) (idForm T st)) xs (λ h. meaningForm (meaning T top st h)) e .0) f e
       go₂ h n e (row t) f q z = knows h n t (must-ok (head (standOf st) (idForm T st)) xs (λ h. meaningForm (meaning T top st h)) e .0) f e
-      go₂ h n e (wrong zero) f q z = absurd q
-      go₂ h n e (wrong (suc c)) f q z = absurd (omega arith)
+      go₂ h n e (wrong c) f q z = absurd (omega (arith, q .0))
 
       go : (r : Res Head) → headed T top st xs ≡ r → Headed (headAnswer T top st r)
-      go (ok h n) e = go₂ h n e (meaning T top st h) refl (meaning-meant T top st h) (must-ok (head (standOf st) (idForm T st)) xs (λ h. meaningForm (meaning T top st h)) e .1)
+      go (ok h n) e = go₂ h n e (meaning T top st h) refl (meant-head T top st h) (must-ok (head (standOf st) (idForm T st)) xs (λ h. meaningForm (meaning T top st h)) e .1)
       go (bad c p) e = wrongs c p e
 
   -- flags and ID lie within the bytes at hand
@@ -328,7 +306,6 @@ module _ (T : List ℕ) (top : ℕ) (st : Slice.Stage) (xs : List ℕ) where
             let ez : z ≡ false = cc in
             let ea : a ≡ n = cc in
             let ee : e ≡ length xs = cc in
-            let here : take (length xs - n) (drop n xs) ≡ drop n xs = take-all (length xs - n) (drop n xs) (omega (arith, length-drop n xs)) in
             record {
               h = h;
               front = n;
@@ -341,7 +318,7 @@ module _ (T : List ℕ) (top : ℕ) (st : Slice.Stage) (xs : List ℕ) where
               within = omega arith;
               read = slice-known h n t i (f ∙ ap row et)
                   ∙ ap (λ (y : Res (List Piece)). recalled 14 (made (λ ps _. (known (nameOf T t) ps, follow (h .format) (base T t))) y))
-                  (rw (j, eo, ez, ea, ee, here) (ended-compact n (length xs) (fields T t opt (drop n xs))));
+                  (rw (j, eo, ez, ea, ee, rest-is xs n) (ended-compact n (length xs) (fields T t opt (drop n xs))));
             }
 
         other : (n : ℕ) (y : Res (List ℕ)) → Known t opt z a e ≡ skipOpening n y → ⊥

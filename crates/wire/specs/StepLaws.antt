@@ -2,7 +2,7 @@
 -- ensures of it, and the variant that it is. A reader that is called on `&s[n..]` sees `take (length s - n) (drop n s)`.
 --
 --   rest-is                        that part is what is left
---   step-fault, sized-is, -isnt    what an answer tells of the result
+--   step-took, -fault              what an answer tells of the result; sized-is, -isnt of a number
 --   took-held, bad-held            bytes taken and places lie within the bytes in front; took-within, bad-within within what is left
 --   sized-held                     the same of a number
 --   shift-shift                    moved twice
@@ -31,7 +31,7 @@ rest-is s n = take-all (length s - n) (drop n s) (omega (arith, length-drop n s)
 
 -- ---- what an answer tells of the result
 
-step-took : {A : Type 0} (r : Res A) (n : ℕ) → Took n ≡ stepOf r → (a : A) × (r ≡ ok a n)
+pub step-took : {A : Type 0} (r : Res A) (n : ℕ) → Took n ≡ stepOf r → (a : A) × (r ≡ ok a n)
 unfolding stepOf
 step-took (ok a m) n h = let e : m ≡ n = cc in (a, ap (ok a) e)
 step-took (bad c p) n h = let z : _≡_ {A = ℕ} 0 1 = cc in absurd (omega arith)
