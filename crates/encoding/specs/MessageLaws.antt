@@ -16,8 +16,8 @@ use lib.ListN.{length, length-append}
 use lib.Seq.{drop-at}
 use lib.Dec.{eqb, leb, ltb}
 use borrow.Author.Tests.{leb-false, ltb-false, le-ltb, eq-eqb}
-use Rattle.encoding.specs.Result.{Res, ok, bad, Parser, shift, _>>=_, must, atEnd, atMark, firstOf, concat}
-use Rattle.encoding.specs.ResultLaws.{Closed, Lies, by-pick, held, pick-most, atMark-looks, ok≢bad, either-false, firstOf-ok, bind-next, must-step, Held, atEnd-fits}
+use Rattle.encoding.specs.Result.{ok, Parser, shift, _>>=_, must, atEnd, atMark, firstOf, concat}
+use Rattle.encoding.specs.ResultLaws.{shift-shift, Closed, Lies, by-pick, held, pick-most, atMark-looks, ok≢bad, either-false, firstOf-ok, bind-next, must-step, Held, atEnd-fits}
 use Rattle.encoding.specs.Number.{byte, number, leBytes}
 use Rattle.encoding.specs.NumberLaws.{closed-byte, closed-number, length-leBytes, number-written}
 use Rattle.encoding.specs.Table.{types, kind, Fault, fine, fault, faults, required, optional}
@@ -73,11 +73,6 @@ pub length-encapsulate : (b : List ℕ) → length (encapsulate b) ≡ 6 + lengt
 unfolding encapsulate
 length-encapsulate b = length-append (leBytes 4 (6 + length b)) (1 ∷ 1 ∷ b) ∙ omega (arith, length-leBytes 4 (6 + length b))
 
-shift-twice : {A : Type 0} (n k : ℕ) (r : Res A) → shift n (shift k r) ≡ shift (n + k) r
-unfolding shift
-shift-twice n k (ok a m) = ap (ok a) (omega arith)
-shift-twice n k (bad c q) = ap (bad c) (omega arith)
-
 -- an encapsulation is read as what it holds, six bytes on
 pub body-encapsulated : (T : List ℕ) (top : ℕ) (b : List ℕ) → 6 + length b < 2 ^ 31 → body T top (encapsulate b) ≡ shift 6 ((contents T top >>= ended) b)
 unfolding body sizeForm versionForm encapsulate leBytes
@@ -90,7 +85,7 @@ body-encapsulated T top b h =
     bind-next (must (sizeForm (length m)) (number 4)) (λ _. versioned) m (must-step (number 4) m (sizeForm (length m)) (number-written 4 n (1 ∷ 1 ∷ b) (omega arith)) right)
     ∙ ap (λ (z : List ℕ). shift 4 (versioned z)) (drop-at w (1 ∷ 1 ∷ b) 4 (length-leBytes 4 n))
     ∙ ap (shift 4) (bind-next (must versionForm (number 2)) (λ _. contents T top >>= ended) (1 ∷ 1 ∷ b) (must-step (number 2) (1 ∷ 1 ∷ b) versionForm (number-written 2 257 b (omega arith)) refl))
-    ∙ shift-twice 4 2 ((contents T top >>= ended) b)
+    ∙ shift-shift 4 2 ((contents T top >>= ended) b)
 
 -- ---- the rules before the body
 

@@ -2,6 +2,7 @@
 --
 --   -ok, -step         what an acceptance by a combinator tells; how an acceptance is built
 --   both-, either-     tests joined; sameBytes-ok, sameBytes-same: equal lists
+--   shift-shift        moved twice
 --   Framed p           the frame: where p accepts, it looks at nothing but what it takes
 --   Held p             the bytes that p takes, and the places of its refusals, lie within the input
 --   Ends p             what p delivers is the end of what it takes
@@ -80,6 +81,13 @@ pick-ok false n h = refl
 pub pick-true : (b : Bool) (n : ℕ) → _≡_ {A = ℕ} (pick b 0 (suc n)) 0 → b ≡ true
 pick-true true n h = refl
 pick-true false n h = absurd (omega arith)
+
+-- ---- moved
+
+pub shift-shift : {A : Type 0} (n m : ℕ) (r : Res A) → shift n (shift m r) ≡ shift (n + m) r
+unfolding shift
+shift-shift n m (ok a k) = ap (ok a) (omega arith)
+shift-shift n m (bad c p) = ap (bad c) (omega arith)
 
 -- ---- what an acceptance tells, and how it is built
 

@@ -13,7 +13,7 @@ use borrow.Author.Tests.{lt-ltb, le-ltb, le-leb, lt-leb, eq-eqb, ne-eqb}
 use mir.Syntax.{w64}
 use mir.Val.{Fits}
 use Rattle.encoding.specs.Result.{Res, ok, bad, Parser, pick, shift, after, _>>=_, chunk, judged, must, made, mapc}
-use Rattle.encoding.specs.ResultLaws.{ok≢bad, Bound, bind-ok, chunk-ok, must-ok, bind-bad, bind-next, held-took, held-refused, held-must}
+use Rattle.encoding.specs.ResultLaws.{ok≢bad, shift-shift, Bound, bind-ok, chunk-ok, must-ok, bind-bad, bind-next, held-took, held-refused, held-must}
 use Rattle.encoding.specs.Number.{val, byte, number}
 use Rattle.encoding.specs.NumberLaws.{held-byte, byte-canonical}
 use Rattle.encoding.specs.Table.{kind}
@@ -26,7 +26,7 @@ use Rattle.encoding.specs.MessageLaws.{ended-ok, held-contents}
 use Rattle.wire.specs.declared.Step.{Step}
 use Rattle.wire.specs.declared.Step.the-variants.{Took, Fault}
 use Rattle.wire.specs.Steps.{stepOf}
-use Rattle.wire.specs.StepLaws.{rest-is, step-took, step-fault, shift-shift}
+use Rattle.wire.specs.StepLaws.{rest-is, step-took, step-fault}
 use Rattle.level.specs.Fill.{fill}
 use Rattle.reader.specs.declared.Walk.{Walk}
 use Rattle.reader.specs.declared.Walk.the-variants.{Done, Stop}

@@ -22,7 +22,7 @@ use borrow.Author.Tests.{le-leb, lt-leb, lt-ltb, le-ltb, ne-eqb}
 use mir.Syntax.{w64}
 use mir.Val.{Fits}
 use Rattle.encoding.specs.Result.{Res, ok, bad, Parser, pick, shift, after, _>>=_, pure, chunk, skip, atFirst, item, judged, must, made, mapc, times}
-use Rattle.encoding.specs.ResultLaws.{ok≢bad, Held, held-refused, mapc-ok, held-bind, held-mapc, held-must, held-skip, held-times, held-pick}
+use Rattle.encoding.specs.ResultLaws.{ok≢bad, shift-shift, Held, held-refused, mapc-ok, held-bind, held-mapc, held-must, held-skip, held-times, held-pick}
 use Rattle.encoding.specs.Number.{number, byte, boolForm, bool, size, declared, Content, string}
 use Rattle.encoding.specs.NumberLaws.{held-byte, held-bool, held-size, held-string}
 use Rattle.encoding.specs.Table.{at}
@@ -33,7 +33,7 @@ use Rattle.wire.specs.declared.Step.the-variants.{Took, Fault}
 use Rattle.wire.specs.declared.Sized.{Sized}
 use Rattle.wire.specs.declared.Sized.the-variants.{Is, Isnt}
 use Rattle.wire.specs.Steps.{stepOf, sizedOf}
-use Rattle.wire.specs.StepLaws.{rest-is, shift-shift, sized-is, sized-isnt, sized-held, rest-took, rest-bad, then-none, then-took, then-bad, with-none, with-took, with-bad, with-ends}
+use Rattle.wire.specs.StepLaws.{rest-is, sized-is, sized-isnt, sized-held, rest-took, rest-bad, then-none, then-took, then-bad, with-none, with-took, with-bad, with-ends}
 use Rattle.value.specs.Parts.{name, named, addresses, secured, settings}
 
 -- ---- a string, and how many bytes it holds

@@ -5,7 +5,6 @@
 --   step-took, -fault              what an answer tells of the result; sized-is, -isnt of a number
 --   took-held, bad-held            bytes taken and places lie within the bytes in front; took-within, bad-within within what is left
 --   sized-held                     the same of a number
---   shift-shift                    moved twice
 --   rest-took, -bad                an answer about the rest, moved behind the bytes before it
 --   then-none, -took, -bad         one reader, then another
 --   with-none, -took, -bad, -ends  a number, then what depends on it
@@ -14,12 +13,12 @@ use mathlib.Core.Path.{_≡_, refl, sym, ap, _∙_}
 use mathlib.Core.List.{List}
 use Prim.Native.Nat.{ℕ, zero, suc, _+_, _-_, _≤_, _<_}
 use native.Mathlib.Omega.{arith}
-use native.Mathlib.Nat.{add-zero, add-assoc}
+use native.Mathlib.Nat.{add-zero}
 use native.Mathlib.Numerals.{sub-one}
 use lib.ListN.{length, take, drop, length-drop}
 use lib.Seq.{take-all, drop-drop}
 use Rattle.encoding.specs.Result.{Res, ok, bad, Parser, shift, after, _>>=_, pure, times}
-use Rattle.encoding.specs.ResultLaws.{Held, held-took, held-refused}
+use Rattle.encoding.specs.ResultLaws.{shift-shift, Held, held-took, held-refused}
 use Rattle.wire.specs.declared.Step.{Step}
 use Rattle.wire.specs.declared.Step.the-variants.{Took, Fault}
 use Rattle.wire.specs.declared.Sized.{Sized}
@@ -139,11 +138,6 @@ shift-zero : {A : Type 0} (r : Res A) → r ≡ shift 0 r
 unfolding shift
 shift-zero (ok a n) = ap (ok a) (omega arith)
 shift-zero (bad c p) = ap (bad c) (omega arith)
-
-pub shift-shift : {A : Type 0} (n m : ℕ) (r : Res A) → shift n (shift m r) ≡ shift (n + m) r
-unfolding shift
-shift-shift n m (ok a k) = ap (ok a) (sym (add-assoc n m k))
-shift-shift n m (bad c p) = ap (bad c) (sym (add-assoc n m p))
 
 pub left-begin : {A : Type 0} (s : List ℕ) (p : Parser A) → Left s (stepOf (p s)) p 0
 left-begin s p = record { inside = omega arith; says = ap stepOf (shift-zero (p s)) }
