@@ -23,18 +23,11 @@ fn row_at(bytes: &[u8], i: usize) -> Row
     }
 }
 
-// The smaller of two.
-fn least(a: usize, b: usize) -> usize
-    ensures { λ r. ⌜ r ≡ min a b ⌝ }
-{
-    if a < b { a } else { b }
-}
-
 // How many of n rows there are in the row bytes, and room for.
 fn count(bytes: &[u8], n: usize, room: usize) -> usize
     ensures { λ r. ⌜ r ≡ min (min n (length (now (bytes .entry)) / 12)) room ⌝ }
 {
-    least(least(n, bytes.len() / 12), room)
+    wire::least(wire::least(n, bytes.len() / 12), room)
 }
 
 // The first n rows of the row bytes, laid over the lent list; answers how many.
@@ -66,7 +59,7 @@ fn listing(table: &[u8], top: u32, message: &[u8], room: usize, list: &mut [u8])
     ensures { λ r. ⌜ (r ≡ readingOf (reading (now (table .entry)) top (now (message .entry)) (12 * room))) × ((rowsOf r ≤ 1024) × (records (now (list .exit)) 0 (rowsOf r) ≡ map recordOf (reading (now (table .entry)) top (now (message .entry)) (12 * room) .rows))) ⌝ }
 {
     reading::count(message);
-    let n = 12 * least(room, 1024);
+    let n = 12 * wire::least(room, 1024);
     crate::read(table, top, message, &mut list[..n])
 }
 

@@ -30,7 +30,7 @@ pub fn wide(x: u8) -> usize
 }
 
 // The smaller of two.
-fn least(a: usize, b: usize) -> usize
+pub fn least(a: usize, b: usize) -> usize
     ensures { λ r. ⌜ r ≡ min a b ⌝ }
 {
     if a < b { a } else { b }
