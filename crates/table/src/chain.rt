@@ -37,7 +37,7 @@ pub fn in_chain(table: &[u8], t: usize, top: usize) -> bool
 }
 
 // Member row m is one of the rows that row t names.
-pub fn takes(table: &[u8], t: usize, m: usize) -> bool
+fn takes(table: &[u8], t: usize, m: usize) -> bool
     ensures { λ r. ⌜ r ≡ takes (now (table .entry)) t m ⌝ }
 {
     let row = crate::type_row(table, t);
@@ -65,7 +65,7 @@ pub fn of_chain(table: &[u8], t: usize, m: usize) -> bool
 }
 
 // Member row m is optional and has this tag.
-pub fn has_tag(table: &[u8], m: usize, tag: usize) -> bool
+fn has_tag(table: &[u8], m: usize, tag: usize) -> bool
     ensures { λ r. ⌜ r ≡ hasTag (now (table .entry)) tag m ⌝ }
 {
     let row = crate::member_row(table, m);

@@ -58,7 +58,7 @@ pub fn members(table: &[u8]) -> usize
 }
 
 // N of the header.
-pub fn names(table: &[u8]) -> usize
+fn names(table: &[u8]) -> usize
     ensures { λ r. ⌜ (r ≡ names (now (table .entry))) × (r < 65536) ⌝ }
 {
     wire::short_at(table, 9)
@@ -237,7 +237,7 @@ pub fn is_record(k: usize) -> bool
 }
 
 // A row of kind k takes member rows.
-pub fn owns(k: usize) -> bool
+fn owns(k: usize) -> bool
     ensures { λ r. ⌜ r ≡ owns k ⌝ }
 {
     if k == 9 {
