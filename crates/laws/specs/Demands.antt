@@ -144,7 +144,7 @@ ReadBack =
 -- an accepted message with nothing skipped, written again in its own format with its own rows from itself, is the same message
 abbrev pub WriteAgain : Type 0
 WriteAgain =
-    (T : List ℕ) (top : ℕ) (m : List ℕ) (f : Format) (p : Pieces) (n room : ℕ) → Bytes T → Bytes m → rules T top m ≡ ok (readAs f p) n
+    (T : List ℕ) (top : ℕ) (m : List ℕ) (f : Format) (p : Pieces) (n room : ℕ) → Bytes m → rules T top m ≡ ok (readAs f p) n
     → Complete p → length m ≤ room
     → writing T (firstKnown T top p) (formatNumber f) (length (rows T top f p)) (concat rowBytes (rows T top f p)) m room ≡ out m
 

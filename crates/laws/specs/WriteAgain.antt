@@ -212,7 +212,7 @@ follows-again T top m f p F Z =
     subst (λ (z : List ℕ). Again T z f p (rows T top f p) (firstKnown T top p)) (sym (F .encoded)) (again T (F .table) top (F .top-there) f p (F .conforms) Z)
 
 pub write-again : WriteAgain
-write-again T top m f p n room y yM h Z fits =
+write-again T top m f p n room yM h Z fits =
     let F = exact-message T top m f p n yM .0 h .0 in
     let A = follows-again T top m f p F Z in
     let type : ℕ = firstKnown T top p in
