@@ -6,9 +6,9 @@
 use mathlib.Core.Path.{_≡_, refl, sym, ap, ap₂, _∙_}
 use Prim.Native.Nat.{ℕ, zero, suc}
 use lib.ListN.{getD}
+use Rattle.encoding.specs.Write.{writingNumbers}
 use Rattle.encoding.specs.declared.Writing.{Writing}
 use Rattle.encoding.specs.declared.Writing.the-variants.{Written, Rejected}
-use Rattle.icehub.specs.WriteNumbers.{writingNumbers}
 
 -- number i of an answer
 abbrev numberOf : Writing → ℕ → ℕ

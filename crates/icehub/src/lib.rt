@@ -3,9 +3,9 @@
 ghost use mathlib.Core.Path.{_≡_};
 ghost use lib.ListN.{length, getD};
 ghost use Rattle.encoding.specs.Message.{reading, listed, readingNumbers};
-ghost use Rattle.encoding.specs.Write.{writing, output};
+ghost use Rattle.encoding.specs.Write.{writing, output, writingNumbers};
 ghost use Rattle.icehub.specs.Numbers.{readNumber};
-ghost use Rattle.icehub.specs.WriteNumbers.{writingNumbers, writeNumber};
+ghost use Rattle.icehub.specs.WriteNumbers.{writeNumber};
 use encoding::Reading;
 use encoding::Writing;
 
