@@ -22,7 +22,7 @@ use Rattle.encoding.specs.Number.{number, byte, size}
 use Rattle.encoding.specs.NumberLaws.{held-size}
 use Rattle.encoding.specs.Types.{bits, Form, own, counted, sized, bitsOf, formOf}
 use Rattle.encoding.specs.TypesLaws.{bits-there}
-use Rattle.encoding.specs.Table.{at, Member, optional, lookup}
+use Rattle.encoding.specs.Table.{at, Member, lookup}
 use Rattle.encoding.specs.Optional.{Header, firstForm, headerTail, wrongType, headerForm, header}
 use Rattle.wire.specs.declared.Sized.{Sized}
 use Rattle.wire.specs.declared.Sized.the-variants.{Is as Reads, Isnt as Unread}
@@ -31,6 +31,7 @@ use Rattle.table.specs.declared.Found.{Found}
 use Rattle.table.specs.declared.Found.the-variants.{At, Nothing}
 use Rattle.table.specs.Found.{rowFound}
 use Rattle.table.specs.Forms.{formsOf}
+use Rattle.table.specs.Tags.{optionalFrom}
 use Rattle.wire.specs.StepLaws.{rest-is, sized-is, sized-isnt}
 use Rattle.level.specs.declared.Front.{Front}
 use Rattle.level.specs.declared.Front.the-variants.{Is, Isnt}
@@ -180,57 +181,57 @@ module _ (ms : List Member) (least : ℕ) (s : List ℕ) (long : Bool) (tag k n 
   unfolding header must judged front
   header-wrong c z e = rw (F .is, e, ne-eqb c 0 z)
 
-module _ (T : List ℕ) (t least : ℕ) (s : List ℕ) (f : Front) (e : f ≡ frontOf (front s)) where
-  pub head-none : (c p : ℕ) → f ≡ Isnt c p → Wrong c p ≡ headOf T (optional T t) (header (optional T t) least s)
+module _ (T : List ℕ) (t from least : ℕ) (s : List ℕ) (f : Front) (e : f ≡ frontOf (front s)) where
+  pub head-none : (c p : ℕ) → f ≡ Isnt c p → Wrong c p ≡ headOf T (optionalFrom T t from) (header (optionalFrom T t from) least s)
   unfolding header must judged front headOf
   head-none c p q = rw (frontless (front s) c p (sym q ∙ e))
 
   module _ (long : Bool) (tag k n : ℕ) (q : f ≡ Is long tag k n) (c : ℕ) (ec : c ≡ early least long tag k) where
-    pub head-early : (c ≡ 0 → ⊥) → Wrong c 0 ≡ headOf T (optional T t) (header (optional T t) least s)
+    pub head-early : (c ≡ 0 → ⊥) → Wrong c 0 ≡ headOf T (optionalFrom T t from) (header (optionalFrom T t from) least s)
     unfolding headOf
     head-early z = go (fronted (front s) long tag k n (sym q ∙ e))
       where
-        go : Fronted (front s) long tag k n → Wrong c 0 ≡ headOf T (optional T t) (header (optional T t) least s)
+        go : Fronted (front s) long tag k n → Wrong c 0 ≡ headOf T (optionalFrom T t from) (header (optionalFrom T t from) least s)
         go F =
-            let g = early-same (optional T t) least s long tag k n F c ec in
-            sym (ap (headOf T (optional T t)) (header-wrong (optional T t) least s long tag k n F c z (form-early (optional T t) least (F .head) c g z)))
+            let g = early-same (optionalFrom T t from) least s long tag k n F c ec in
+            sym (ap (headOf T (optionalFrom T t from)) (header-wrong (optionalFrom T t from) least s long tag k n F c z (form-early (optionalFrom T t from) least (F .head) c g z)))
 
-    module _ (z : c ≡ 0) (found : Found) (ef : found ≡ rowFound (lookup tag (optional T t))) where
-      pub head-unknown : found ≡ Nothing → Unknown tag k n ≡ headOf T (optional T t) (header (optional T t) least s)
+    module _ (z : c ≡ 0) (found : Found) (ef : found ≡ rowFound (lookup tag (optionalFrom T t from))) where
+      pub head-unknown : found ≡ Nothing → Unknown tag k n ≡ headOf T (optionalFrom T t from) (header (optionalFrom T t from) least s)
       unfolding headOf headFor wrongType
       head-unknown qf = go (fronted (front s) long tag k n (sym q ∙ e))
         where
-          go : Fronted (front s) long tag k n → Unknown tag k n ≡ headOf T (optional T t) (header (optional T t) least s)
+          go : Fronted (front s) long tag k n → Unknown tag k n ≡ headOf T (optionalFrom T t from) (header (optionalFrom T t from) least s)
           go F =
-              let g = early-same (optional T t) least s long tag k n F c ec in
-              let lost : lookup (F .head .tag) (optional T t) ≡ none = ap (λ (x : ℕ). lookup x (optional T t)) (F .tag-is) ∙ unmet T t tag (sym qf ∙ ef) in
-              let fine : headerForm (optional T t) least (F .head) ≡ 0 = form-late (optional T t) least (F .head) c g z ∙ rw lost in
-              sym (ap (headOf T (optional T t)) (header-fine (optional T t) least s long tag k n F fine) ∙ rw (lost, F .tag-is, F .bits-is))
+              let g = early-same (optionalFrom T t from) least s long tag k n F c ec in
+              let lost : lookup (F .head .tag) (optionalFrom T t from) ≡ none = ap (λ (x : ℕ). lookup x (optionalFrom T t from)) (F .tag-is) ∙ unmet T t from tag (sym qf ∙ ef) in
+              let fine : headerForm (optionalFrom T t from) least (F .head) ≡ 0 = form-late (optionalFrom T t from) least (F .head) c g z ∙ rw lost in
+              sym (ap (headOf T (optionalFrom T t from)) (header-fine (optionalFrom T t from) least s long tag k n F fine) ∙ rw (lost, F .tag-is, F .bits-is))
 
       module _ (row : ℕ) (qf : found ≡ At row) (ty : ℕ) (et : ty ≡ typeRow T row) (forms : List ℕ) (ea : forms ≡ formsOf T)
           (g : ℕ) (eg : g ≡ formIn forms ty) (b : ℕ) (eb : b ≡ bits (bitsOf (formNamed g))) where
         -- the judgement of the type
-        type-form : (F : Fronted (front s) long tag k n) (M : Met T t tag row)
-            → headerForm (optional T t) least (F .head) ≡ pick (not (eqb k b)) 12 0
+        type-form : (F : Fronted (front s) long tag k n) (M : Met T t from tag row)
+            → headerForm (optionalFrom T t from) least (F .head) ≡ pick (not (eqb k b)) 12 0
         unfolding wrongType
         type-form F M =
-            let there : lookup (F .head .tag) (optional T t) ≡ some (M .member) = ap (λ (x : ℕ). lookup x (optional T t)) (F .tag-is) ∙ M .there in
-            let same : b ≡ bits (bitsOf (formOf (M .member .ty))) = eb ∙ ap (λ (x : Form). bits (bitsOf x)) (met-form T forms t tag row ty g M ea et eg) in
-            form-late (optional T t) least (F .head) c (early-same (optional T t) least s long tag k n F c ec) z ∙ rw (there, F .bits-is, ← same)
+            let there : lookup (F .head .tag) (optionalFrom T t from) ≡ some (M .member) = ap (λ (x : ℕ). lookup x (optionalFrom T t from)) (F .tag-is) ∙ M .there in
+            let same : b ≡ bits (bitsOf (formOf (M .member .ty))) = eb ∙ ap (λ (x : Form). bits (bitsOf x)) (met-form T forms t from tag row ty g M ea et eg) in
+            form-late (optionalFrom T t from) least (F .head) c (early-same (optionalFrom T t from) least s long tag k n F c ec) z ∙ rw (there, F .bits-is, ← same)
 
-        pub head-known : k ≡ b → Known row ty tag n ≡ headOf T (optional T t) (header (optional T t) least s)
+        pub head-known : k ≡ b → Known row ty tag n ≡ headOf T (optionalFrom T t from) (header (optionalFrom T t from) least s)
         unfolding headOf headFor
-        head-known y = go (fronted (front s) long tag k n (sym q ∙ e)) (met T t tag row (sym qf ∙ ef))
+        head-known y = go (fronted (front s) long tag k n (sym q ∙ e)) (met T t from tag row (sym qf ∙ ef))
           where
-            go : Fronted (front s) long tag k n → Met T t tag row → Known row ty tag n ≡ headOf T (optional T t) (header (optional T t) least s)
+            go : Fronted (front s) long tag k n → Met T t from tag row → Known row ty tag n ≡ headOf T (optionalFrom T t from) (header (optionalFrom T t from) least s)
             go F M =
-                let there : lookup (F .head .tag) (optional T t) ≡ some (M .member) = ap (λ (x : ℕ). lookup x (optional T t)) (F .tag-is) ∙ M .there in
-                let fine : headerForm (optional T t) least (F .head) ≡ 0 = type-form F M ∙ rw (eq-eqb k b y) in
-                sym (ap (headOf T (optional T t)) (header-fine (optional T t) least s long tag k n F fine) ∙ rw (there, F .tag-is, M .is, ← et))
+                let there : lookup (F .head .tag) (optionalFrom T t from) ≡ some (M .member) = ap (λ (x : ℕ). lookup x (optionalFrom T t from)) (F .tag-is) ∙ M .there in
+                let fine : headerForm (optionalFrom T t from) least (F .head) ≡ 0 = type-form F M ∙ rw (eq-eqb k b y) in
+                sym (ap (headOf T (optionalFrom T t from)) (header-fine (optionalFrom T t from) least s long tag k n F fine) ∙ rw (there, F .tag-is, M .is, ← et))
 
-        pub head-other : (k ≡ b → ⊥) → Wrong 12 0 ≡ headOf T (optional T t) (header (optional T t) least s)
+        pub head-other : (k ≡ b → ⊥) → Wrong 12 0 ≡ headOf T (optionalFrom T t from) (header (optionalFrom T t from) least s)
         unfolding headOf
-        head-other y = go (fronted (front s) long tag k n (sym q ∙ e)) (met T t tag row (sym qf ∙ ef))
+        head-other y = go (fronted (front s) long tag k n (sym q ∙ e)) (met T t from tag row (sym qf ∙ ef))
           where
-            go : Fronted (front s) long tag k n → Met T t tag row → Wrong 12 0 ≡ headOf T (optional T t) (header (optional T t) least s)
-            go F M = sym (ap (headOf T (optional T t)) (header-wrong (optional T t) least s long tag k n F 12 (λ i. omega arith) (type-form F M ∙ rw (ne-eqb k b y))))
+            go : Fronted (front s) long tag k n → Met T t from tag row → Wrong 12 0 ≡ headOf T (optionalFrom T t from) (header (optionalFrom T t from) least s)
+            go F M = sym (ap (headOf T (optionalFrom T t from)) (header-wrong (optionalFrom T t from) least s long tag k n F 12 (λ i. omega arith) (type-form F M ∙ rw (ne-eqb k b y))))

@@ -20,10 +20,11 @@ use borrow.Author.Tests.{ltb-true, ltb-false, lt-ltb, le-ltb}
 use Rattle.encoding.specs.Result.{pick}
 use Rattle.encoding.specs.Types.{Ty, formOf}
 use Rattle.encoding.specs.TableLaws.{ty-past}
-use Rattle.encoding.specs.Table.{members, range, memberType, mark, tag, memberTy, trees, tyOf, Member, optionalOf, ownRows, optional, lookup}
+use Rattle.encoding.specs.Table.{members, range, memberType, mark, tag, memberTy, trees, tyOf, Member, optionalOf, lookup}
 use Rattle.table.specs.declared.Found.the-variants.{At, Nothing}
 use Rattle.table.specs.Found.{rowFound}
 use Rattle.table.specs.Forms.{formNumber, formAt, formsOf}
+use Rattle.table.specs.Tags.{ownFrom, optionalFrom}
 use Rattle.table.proofs.Places.{rows-below, member-row, no-member}
 use Rattle.level.specs.Forms.{formNamed, formIn}
 use Rattle.level.specs.FormsLaws.{named-number}
@@ -95,37 +96,37 @@ optional-type T l (r ∷ rs) k m h = go (eqb (mark T r) 0) (eqb k (tag T r)) ref
     go true b e h again = again h
     go false b e h again = here (eqb k (tag T r)) h again
 
-pub optional-of : (T : List ℕ) (t k : ℕ) (m : Member) → lookup k (optional T t) ≡ some m → m .ty ≡ memberTy T (trees T) (m .row)
-unfolding optional
-optional-of T t k m h = optional-type T (trees T) (ownRows T t) k m h
+pub optional-of : (T : List ℕ) (t from k : ℕ) (m : Member) → lookup k (optionalFrom T t from) ≡ some m → m .ty ≡ memberTy T (trees T) (m .row)
+unfolding optionalFrom
+optional-of T t from k m h = optional-type T (trees T) (ownFrom T t from) k m h
 
-pub record Met (T : List ℕ) (t k row : ℕ) : Type 0 where
+pub record Met (T : List ℕ) (t from k row : ℕ) : Type 0 where
   pub member : Member
-  pub there : lookup k (optional T t) ≡ some member
+  pub there : lookup k (optionalFrom T t from) ≡ some member
   pub is : member .row ≡ row
   pub type : member .ty ≡ memberTy T (trees T) row
 
-pub met : (T : List ℕ) (t k row : ℕ) → At row ≡ rowFound (lookup k (optional T t)) → Met T t k row
+pub met : (T : List ℕ) (t from k row : ℕ) → At row ≡ rowFound (lookup k (optionalFrom T t from)) → Met T t from k row
 unfolding rowFound
-met T t k row h = go (lookup k (optional T t)) refl h
+met T t from k row h = go (lookup k (optionalFrom T t from)) refl h
   where
-    go : (o : Option Member) → lookup k (optional T t) ≡ o → At row ≡ rowFound o → Met T t k row
+    go : (o : Option Member) → lookup k (optionalFrom T t from) ≡ o → At row ≡ rowFound o → Met T t from k row
     go none e h = let z : _≡_ {A = ℕ} 0 1 = cc in absurd (omega arith)
     go (some m) e h =
         let q : m .row ≡ row = cc in
-        record { member = m; there = e; is = q; type = optional-of T t k m e ∙ ap (memberTy T (trees T)) q }
+        record { member = m; there = e; is = q; type = optional-of T t from k m e ∙ ap (memberTy T (trees T)) q }
 
-pub unmet : (T : List ℕ) (t k : ℕ) → Nothing ≡ rowFound (lookup k (optional T t)) → lookup k (optional T t) ≡ none
+pub unmet : (T : List ℕ) (t from k : ℕ) → Nothing ≡ rowFound (lookup k (optionalFrom T t from)) → lookup k (optionalFrom T t from) ≡ none
 unfolding rowFound
-unmet T t k h = go (lookup k (optional T t)) refl h
+unmet T t from k h = go (lookup k (optionalFrom T t from)) refl h
   where
-    go : (o : Option Member) → lookup k (optional T t) ≡ o → Nothing ≡ rowFound o → lookup k (optional T t) ≡ none
+    go : (o : Option Member) → lookup k (optionalFrom T t from) ≡ o → Nothing ≡ rowFound o → lookup k (optionalFrom T t from) ≡ none
     go none e h = e
     go (some m) e h = let z : _≡_ {A = ℕ} 0 1 = cc in absurd (omega arith)
 
 pub row-form : (T forms : List ℕ) (ty g : ℕ) → forms ≡ formsOf T → g ≡ formIn forms ty → formNamed g ≡ formOf (tyOf T ty)
 row-form T forms ty g ef eg = ap formNamed (eg ∙ ap (λ (l : List ℕ). formIn l ty) ef ∙ form-row T ty) ∙ named-number (formOf (tyOf T ty))
 
-pub met-form : (T forms : List ℕ) (t k row ty g : ℕ) (M : Met T t k row) → forms ≡ formsOf T → ty ≡ typeRow T row → g ≡ formIn forms ty
+pub met-form : (T forms : List ℕ) (t from k row ty g : ℕ) (M : Met T t from k row) → forms ≡ formsOf T → ty ≡ typeRow T row → g ≡ formIn forms ty
     → formNamed g ≡ formOf (M .member .ty)
-met-form T forms t k row ty g M ef et eg = row-form T forms ty g ef eg ∙ ap formOf (row-type T row ty et ∙ sym (M .type))
+met-form T forms t from k row ty g M ef et eg = row-form T forms ty g ef eg ∙ ap formOf (row-type T row ty et ∙ sym (M .type))

@@ -1,5 +1,6 @@
 -- What the answers tell of the readers' results, in the shape in which a call and a match hand them over. Assumes nothing.
 --
+--   header-rises                            the tag of a header is at least the least
 --   KnownRead, SkippedRead                  an optional was read to a known piece, to a skipped one, and the least tag next is one above its own
 --   known-read, skipped-read, wrong-read    what each answer tells: that; or the refusal
 --   known-rows, skipped-rows                what the piece adds to the rows
@@ -8,16 +9,16 @@
 --   members-read, members-refused           the pieces of the required members; or the refusal
 --   members-within, refused-within          what they take, and where they are refused, is there
 use mathlib.Core.Path.{_≡_, refl, sym, ap, _∙_}
-use mathlib.Core.Bool.{Bool, true, false}
+use mathlib.Core.Bool.{Bool, true, false, _&&_}
 use mathlib.Core.Option.{Option, none, some}
 use mathlib.Core.List.{List, _∷_, _++_}
 use Prim.Native.Nat.{ℕ, suc, _+_, _-_, _/_, _%_, _^_, _≤_, _<_}
 use native.Mathlib.Omega.{arith}
 use lib.ListN.{length, drop, length-append}
 use lib.Dec.{eqb, ltb}
-use borrow.Author.Tests.{ltb-true}
+use borrow.Author.Tests.{ltb-true, ltb-false}
 use Rattle.encoding.specs.Result.{Res, ok, bad, pick, _>>=_, pure, must, mapc, bytes, inside}
-use Rattle.encoding.specs.ResultLaws.{Bound, bind-ok, pure-ok, item-ok, must-ok, mapc-ok, pick-true, held-took, held-refused}
+use Rattle.encoding.specs.ResultLaws.{firstOf-ok, Bound, bind-ok, pure-ok, item-ok, must-ok, mapc-ok, pick-true, held-took, held-refused}
 use Rattle.encoding.specs.Number.{byte, number, sizeForm, sizeTail, size}
 use Rattle.encoding.specs.NumberLaws.{sizeForm-ok}
 use Rattle.encoding.specs.Types.{Bits, bitsAt, Form, formOf}
@@ -66,6 +67,12 @@ tag-below ms least xs {h} {n} e = go (bind-ok (must firstForm byte) headerTail x
         let F = must-ok byte xs firstForm (B .first) in
         tail (B .fst) (drop (B .n) xs) (B .m) (ltb-true (B .fst / 8) 31 (pick-true (ltb (B .fst / 8) 31) 11 (F .1))) (eqb (B .fst / 8) 30) (B .next)
 
+pub header-rises : (ms : List Member) (least : ℕ) (xs : List ℕ) {h : Header} {n : ℕ} → header ms least xs ≡ ok h n → least ≤ h .tag
+unfolding header headerForm
+header-rises ms least xs {h} {n} e =
+    let F = firstOf-ok 11 (h .long && ltb (h .tag) 30) _ (must-ok _ xs (headerForm ms least) e .1) in
+    ltb-false (h .tag) least (firstOf-ok 11 (ltb (h .tag) least) _ (F .1) .0)
+
 -- ---- the next optional
 
 -- a known one
@@ -77,6 +84,7 @@ pub record KnownRead (ms : List Member) (least : ℕ) (s : List ℕ) (m k a n : 
   pub found : lookup k ms ≡ some member
   pub row : member .row ≡ m
   pub low : k < 2 ^ 31
+  pub rises : least ≤ k
   pub sum : a + length bytes ≡ n
 
 -- a skipped one
@@ -85,6 +93,7 @@ pub record SkippedRead (ms : List Member) (least : ℕ) (s : List ℕ) (k n : �
   pub bytes : List ℕ
   pub read : optionalOf ms least s ≡ ok (skipped k type bytes, suc k) n
   pub low : k < 2 ^ 31
+  pub rises : least ≤ k
 
 -- an optional that was read is a known one or a skipped one
 data Either (ms : List Member) (least : ℕ) (s : List ℕ) (r : Piece × ℕ) (n : ℕ) : Type 0 where
@@ -98,26 +107,26 @@ either ms least s r n e = go (bind-ok (header ms least) _ s e)
     weight : n ≡ length (pieceBytes (r .0))
     weight = optional-weight ms least s e
 
-    piece : (h : Header) → h .tag < 2 ^ 31 → (xs : List ℕ) (p : Piece) (m : ℕ) → r ≡ (p, suc (h .tag)) → (o : Option Member) → lookup (h .tag) ms ≡ o
+    piece : (h : Header) → h .tag < 2 ^ 31 → least ≤ h .tag → (xs : List ℕ) (p : Piece) (m : ℕ) → r ≡ (p, suc (h .tag)) → (o : Option Member) → lookup (h .tag) ms ≡ o
         → content o h xs ≡ ok p m → Either ms least s r n
-    piece h l xs p m q none f z =
+    piece h l g xs p m q none f z =
         let M = mapc-ok (bytes (extent (h .type))) xs (λ b _. skipped (h .tag) (h .type) b) z in
         let t : r ≡ (skipped (h .tag) (h .type) (M .0), suc (h .tag)) = q ∙ ap (λ (x : Piece). (x, suc (h .tag))) (M .2) in
         other (h .tag) (ap (λ (x : Piece × ℕ). pieceAnswer ms n (x .0)) t)
-        (record { type = h .type; bytes = M .0; read = e ∙ ap (λ (x : Piece × ℕ). ok x n) t; low = l })
-    piece h l xs p m q (some y) f z =
+        (record { type = h .type; bytes = M .0; read = e ∙ ap (λ (x : Piece × ℕ). ok x n) t; low = l; rises = g })
+    piece h l g xs p m q (some y) f z =
         let M = mapc-ok (inside (part (formOf (y .ty))) (bytes (value (y .ty)))) xs (λ b _. optional (h .tag) (formOf (y .ty)) b) z in
         let t : r ≡ (optional (h .tag) (formOf (y .ty)) (M .0), suc (h .tag)) = q ∙ ap (λ (x : Piece). (x, suc (h .tag))) (M .2) in
         let w : n ≡ length (frontBytes (optional (h .tag) (formOf (y .ty)) (M .0)) ++ M .0) = weight ∙ ap (λ (x : Piece × ℕ). length (pieceBytes (x .0))) t in
         let v = length-append (frontBytes (optional (h .tag) (formOf (y .ty)) (M .0))) (M .0) in
         one (y .row) (h .tag) (n - length (M .0))
         (ap (λ (x : Piece × ℕ). pieceAnswer ms n (x .0)) t ∙ rw f)
-        (record { member = y; form = formOf (y .ty); bytes = M .0; read = e ∙ ap (λ (x : Piece × ℕ). ok x n) t; found = f; row = refl; low = l; sum = omega arith })
+        (record { member = y; form = formOf (y .ty); bytes = M .0; read = e ∙ ap (λ (x : Piece × ℕ). ok x n) t; found = f; row = refl; low = l; rises = g; sum = omega arith })
 
     go : Bound (header ms least) (λ h. mapc (λ p _. (p, suc (h .tag))) (content (lookup (h .tag) ms) h)) s r n → Either ms least s r n
     go B =
         let M = mapc-ok (content (lookup (B .fst .tag) ms) (B .fst)) (drop (B .n) s) (λ p _. (p, suc (B .fst .tag))) (B .next) in
-        piece (B .fst) (tag-below ms least s (B .first)) (drop (B .n) s) (M .0) (B .m) (M .2) (lookup (B .fst .tag) ms) refl (M .1)
+        piece (B .fst) (tag-below ms least s (B .first)) (header-rises ms least s (B .first)) (drop (B .n) s) (M .0) (B .m) (M .2) (lookup (B .fst .tag) ms) refl (M .1)
 
 module _ (ms : List Member) (least : ℕ) (s : List ℕ) (r : Optional) (e : r ≡ optionalAnswer ms (optionalOf ms least s)) where
   pub known-read : (m k a n : ℕ) → r ≡ Known m k a n → KnownRead ms least s m k a n

@@ -5,4 +5,5 @@ pub mod Forms
 pub mod FormsLaws
 pub mod Answers
 pub mod AnswersLaws
+pub mod TagLaws
 pub mod RequiredLaws

@@ -3,9 +3,9 @@ ghost use mathlib.Core.Path.{_≡_};
 ghost use mathlib.Core.Bool.{_&&_};
 ghost use lib.Dec.{ltb};
 ghost use Rattle.encoding.specs.Types.{bits, bitsOf};
-ghost use Rattle.encoding.specs.Table.{optional};
 ghost use Rattle.encoding.specs.Optional.{header};
 ghost use Rattle.table.specs.Forms.{formsOf};
+ghost use Rattle.table.specs.Tags.{optionalFrom};
 ghost use Rattle.level.specs.Forms.{formNamed, formIn};
 ghost use Rattle.level.specs.Answers.{front, frontOf, early, headOf};
 use crate::Front;
@@ -82,10 +82,17 @@ fn form_bits(f: usize) -> usize
     6
 }
 
-// A header, judged: 12 for form and order, 13, 12 for a known tag of another type.
-pub fn header(table: &[u8], forms: &[u8; 256], t: usize, least: usize, s: &[u8]) -> Head
+// A header, judged: 12 for form and order, 13, 12 for a known tag of another type. The tag is looked up from member row `from` on.
+pub fn header(
+    table: &[u8],
+    forms: &[u8; 256],
+    t: usize,
+    from: usize,
+    least: usize,
+    s: &[u8],
+) -> Head
     requires { ⌜ now forms ≡ formsOf (now table) ⌝ }
-    ensures { λ r. ⌜ r ≡ headOf (now (table .entry)) (optional (now (table .entry)) t) (header (optional (now (table .entry)) t) least (now (s .entry))) ⌝ }
+    ensures { λ r. ⌜ r ≡ headOf (now (table .entry)) (optionalFrom (now (table .entry)) t from) (header (optionalFrom (now (table .entry)) t from) least (now (s .entry))) ⌝ }
 {
     let f = front(s);
     match f {
@@ -94,7 +101,7 @@ pub fn header(table: &[u8], forms: &[u8; 256], t: usize, least: usize, s: &[u8])
             if c != 0 {
                 return Head::Wrong(c, 0);
             }
-            let found = table::chain::tag_member(table, t, tag);
+            let found = table::chain::tag_member(table, t, from, tag);
             match found {
                 Found::At(m) => {
                     let row = table::member_row(table, m);

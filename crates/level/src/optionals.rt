@@ -2,9 +2,10 @@
 ghost use mathlib.Core.Path.{_≡_};
 ghost use Rattle.encoding.specs.Result.{bytes, inside};
 ghost use Rattle.encoding.specs.Value.{value};
-ghost use Rattle.encoding.specs.Table.{tyOf, optional};
+ghost use Rattle.encoding.specs.Table.{tyOf};
 ghost use Rattle.encoding.specs.Optional.{part, optionalOf};
 ghost use Rattle.table.specs.Forms.{formsOf};
+ghost use Rattle.table.specs.Tags.{optionalFrom};
 ghost use Rattle.level.specs.Forms.{formNamed};
 ghost use Rattle.level.specs.Answers.{partOf, optionalAnswer};
 use crate::Head;
@@ -35,12 +36,19 @@ fn used_up(table: &[u8], t: usize, s: &[u8], f: usize) -> Part
     }
 }
 
-// The next optional of owner t, its tag at least `least`: a known value in its declared bytes, or a skipped one.
-pub fn optional(table: &[u8], forms: &[u8; 256], t: usize, least: usize, s: &[u8]) -> Optional
+// The next optional of owner t, its tag at least `least` and looked up from member row `from` on: a known value in its declared bytes, or a skipped one.
+pub fn optional(
+    table: &[u8],
+    forms: &[u8; 256],
+    t: usize,
+    from: usize,
+    least: usize,
+    s: &[u8],
+) -> Optional
     requires { ⌜ now forms ≡ formsOf (now table) ⌝ }
-    ensures { λ r. ⌜ r ≡ optionalAnswer (optional (now (table .entry)) t) (optionalOf (optional (now (table .entry)) t) least (now (s .entry))) ⌝ }
+    ensures { λ r. ⌜ r ≡ optionalAnswer (optionalFrom (now (table .entry)) t from) (optionalOf (optionalFrom (now (table .entry)) t from) least (now (s .entry))) ⌝ }
 {
-    let h = crate::headers::header(table, forms, t, least, s);
+    let h = crate::headers::header(table, forms, t, from, least, s);
     match h {
         Head::Known(m, ty, tag, n) => {
             let p = used_up(table, ty, &s[n..], crate::headers::form_at(forms, ty));

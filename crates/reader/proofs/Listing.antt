@@ -22,7 +22,11 @@ use Rattle.encoding.specs.Optional.{Piece, requireds, optionalOf}
 use Rattle.encoding.specs.Message.{rowBytes, pieceRows, parameters}
 use Rattle.wire.specs.Put.{put}
 use Rattle.wire.specs.StepLaws.{rest-is}
+use Rattle.table.specs.Tags.{optionalFrom, Passed}
+use Rattle.table.specs.Tags
+use Rattle.table.specs.TagsLaws.{passed-none, passed-on}
 use Rattle.level.specs.Fill.{fill}
+use Rattle.level.specs.TagLaws.{passed-answer}
 use Rattle.level.specs.Answers.{membersOf, optionalAnswer}
 use Rattle.level.specs.AnswersLaws.{KnownRead, known-read, skipped-read, wrong-read, known-within, known-start, known-tag, skipped-some, skipped-within, skipped-tag, wrong-within, members-read, members-refused, members-within, refused-within}
 use Rattle.level.specs.declared.Members.{Members}
@@ -73,11 +77,12 @@ not-end m at h = go (drop at m) (omega (arith, length-drop at m))
     go [] h = absurd (omega arith)
     go (x ∷ l) h = refl
 
-pub record Listing (T : List ℕ) (top : ℕ) (m : List ℕ) (whole : Outcome) (at least k o : ℕ) (out : List ℕ) : Type 0 where
+pub record Listing (T : List ℕ) (top : ℕ) (m : List ℕ) (whole : Outcome) (at least row k o : ℕ) (out : List ℕ) : Type 0 where
   pub room : length m < 2 ^ 63
   pub inside : at ≤ length m
   pub few : 2 * k ≤ 131072 + at
   pub fewer : o ≤ at
+  pub passed : Passed T top row least
   pub rest : whole ≡ listing T top m at least k o out
 
 -- what is left fits
@@ -118,7 +123,7 @@ module _ (T : List ℕ) (top : ℕ) (m : List ℕ) (start : ℕ) (h : start ≤ 
             ∙ ap₂ (λ (i : ℕ) (l : List ℕ). finish T top (listClose top) refused false (start + n) i 0 l (optionalsFrom atEnd (Table.optional T top) 0 (drop n (drop start m)))) (sym (R .2)) (sym (fills (R .0) n e))
             ∙ ap (λ (l : List ℕ). finish T top (listClose top) refused false (start + n) j 0 out′ (optionalsFrom atEnd (Table.optional T top) 0 l)) (drop-drop n start m)
 
-    pub list-in : (out′ : List ℕ) → Small T → length m < 2 ^ 63 → Listing T top m (listing T top m (start + n) 0 j 0 out′) (start + n) 0 j 0 out′
+    pub list-in : (out′ : List ℕ) → Small T → length m < 2 ^ 63 → Listing T top m (listing T top m (start + n) 0 j 0 out′) (start + n) 0 0 j 0 out′
     list-in out′ S l =
         let R = members-read (Table.required T top) 0 (drop start m) ms reads n j q in
         record {
@@ -126,10 +131,11 @@ module _ (T : List ℕ) (top : ℕ) (m : List ℕ) (start : ℕ) (h : start ≤ 
           inside = list-within;
           few = omega (arith, R .2, required-few T top (drop start m) (R .0) n (R .1), members-below T S top);
           fewer = omega arith;
+          passed = passed-none T top;
           rest = refl;
         }
 
-module _ {T : List ℕ} {top : ℕ} {m : List ℕ} {whole : Outcome} {at least k o : ℕ} {out : List ℕ} (inv : Listing T top m whole at least k o out) where
+module _ {T : List ℕ} {top : ℕ} {m : List ℕ} {whole : Outcome} {at least row k o : ℕ} {out : List ℕ} (inv : Listing T top m whole at least row k o out) where
   -- the end of the list
   pub listing-end : length m ≤ at → Ends whole (Done top 1 k o 0 at) out
   unfolding listing listClose
@@ -137,9 +143,11 @@ module _ {T : List ℕ} {top : ℕ} {m : List ℕ} {whole : Outcome} {at least k
       ends-listed whole (Done top 1 k o 0 at) out
       (inv .rest ∙ finish-end T top (listClose top) refused atEnd false least (drop at m) at k o out 0 (at-end m at h) refl ∙ ap (λ (i : ℕ). listed (Done top 1 k o 0 i) out) (add-zero at))
 
-  module _ (on : at < length m) {r : Optional} (e : r ≡ optionalAnswer (Table.optional T top) (optionalOf (Table.optional T top) least (take (length m - at) (drop at m)))) where
+  module _ (on : at < length m) {r : Optional} (e : r ≡ optionalAnswer (optionalFrom T top row) (optionalOf (optionalFrom T top row) least (take (length m - at) (drop at m)))) where
     answers : r ≡ optionalAnswer (Table.optional T top) (optionalOf (Table.optional T top) least (drop at m))
-    answers = e ∙ ap (λ (l : List ℕ). optionalAnswer (Table.optional T top) (optionalOf (Table.optional T top) least l)) (rest-is m at)
+    answers =
+        e ∙ passed-answer T top row least (inv .passed) (take (length m - at) (drop at m))
+        ∙ ap (λ (l : List ℕ). optionalAnswer (Table.optional T top) (optionalOf (Table.optional T top) least l)) (rest-is m at)
 
     -- a known optional
     module _ {i tag a n : ℕ} (q : r ≡ Known i tag a n) where
@@ -167,13 +175,15 @@ module _ {T : List ℕ} {top : ℕ} {m : List ℕ} {whole : Outcome} {at least k
       pub listing-tag : Fits w64 (tag + 1)
       listing-tag = omega (arith, known-tag (Table.optional T top) least (drop at m) r answers i tag a n q)
 
-      pub listing-known : {out′ : List ℕ} → out′ ≡ put (12 * k) (rowBytes (record { member = i; place = at + a; len = n - a })) out → Listing T top m whole (at + n) (tag + 1) (k + 1) o out′
+      pub listing-known : {out′ : List ℕ} → out′ ≡ put (12 * k) (rowBytes (record { member = i; place = at + a; len = n - a })) out → {row′ : ℕ} → row′ ≡ Tags.pass T top row tag
+          → Listing T top m whole (at + n) (tag + 1) row′ (k + 1) o out′
       unfolding listing
-      listing-known {out′} w = record {
+      listing-known {out′} w {row′} p = record {
         room = inv .room;
         inside = listing-within;
         few = omega (arith, inv .few, listing-two);
         fewer = omega (arith, inv .fewer);
+        passed = rw p (passed-on T top row least (inv .passed) tag (reading .rises));
         rest = inv .rest ∙ finish-known T top (listClose top) refused atEnd false least (drop at m) at k o out (not-end m at on) i tag a n reading
             ∙ ap₂ (λ (y : List ℕ) (l : List ℕ). finish T top (listClose top) refused false (at + n) (k + 1) o y (optionalsFrom atEnd (Table.optional T top) (suc tag) l)) (sym w) (drop-drop n at m)
             ∙ rw (add-one tag);
@@ -196,13 +206,14 @@ module _ {T : List ℕ} {top : ℕ} {m : List ℕ} {whole : Outcome} {at least k
       pub listing-past-tag : Fits w64 (tag + 1)
       listing-past-tag = omega (arith, skipped-tag (Table.optional T top) least (drop at m) r answers tag n q)
 
-      pub listing-skipped : Listing T top m whole (at + n) (tag + 1) k (o + 1) out
+      pub listing-skipped : {row′ : ℕ} → row′ ≡ Tags.pass T top row tag → Listing T top m whole (at + n) (tag + 1) row′ k (o + 1) out
       unfolding listing
-      listing-skipped = record {
+      listing-skipped {row′} p = record {
         room = inv .room;
         inside = listing-past;
         few = omega (arith, inv .few);
         fewer = omega (arith, inv .fewer, listing-some);
+        passed = rw p (passed-on T top row least (inv .passed) tag (skipped-read (Table.optional T top) least (drop at m) r answers tag n q .rises));
         rest = inv .rest
             ∙ finish-skipped T top (listClose top) refused atEnd false least (drop at m) at k o out (not-end m at on) tag n (skipped-read (Table.optional T top) least (drop at m) r answers tag n q)
             ∙ ap (λ (l : List ℕ). finish T top (listClose top) refused false (at + n) k (o + 1) out (optionalsFrom atEnd (Table.optional T top) (suc tag) l)) (drop-drop n at m)

@@ -31,6 +31,9 @@ use Rattle.encoding.specs.SliceLaws.{held-slice, eats-slice}
 use Rattle.encoding.specs.Message.{pieceRows, rowBytes, sliceRows, skippedIn, passedIn}
 use Rattle.wire.specs.Put.{put}
 use Rattle.wire.specs.StepLaws.{rest-is}
+use Rattle.table.specs.Tags.{optionalFrom, Passed}
+use Rattle.table.specs.Tags
+use Rattle.table.specs.TagsLaws.{passed-none, passed-on}
 use Rattle.level.specs.Fill.{fill}
 use Rattle.level.specs.Answers.{membersOf}
 use Rattle.level.specs.AnswersLaws.{KnownRead, SkippedRead, members-read, members-refused, members-within, refused-within}
@@ -51,7 +54,7 @@ use Rattle.reader.specs.Left.{Outcome, answerOf, recallTo, firstFrom, on
 use Rattle.reader.specs.LeftLaws.{left-whole, left-listed, left-refused, left-skipped, left-known, onward-ended, fields-required, fields-refused, finish-end, finish-early, finish-wrong, finish-known, finish-skipped}
 use Rattle.reader.specs.OpeningLaws.{Opened, Skipped, opening-wrong, opening-place, opening-skip, opening-known, opened-eats, opened-sized, row-below, row-base, passed-never}
 use Rattle.reader.specs.MemberLaws.{required-few, optional-two, mark-byte}
-use Rattle.reader.specs.TurnLaws.{turn-end, turn-known, turn-skipped, Early, turn-wrong, turn-place}
+use Rattle.reader.specs.TurnLaws.{turn-end, turn-known, turn-skipped, Early, turn-wrong, turn-place, passed-turn}
 use Rattle.reader.proofs.Endings.{Ends, ends-refused, ends-listed, ends-answer, ends-list, Small, types-below, members-below, part-on, part-length}
 
 -- ---- the whole walk
@@ -84,7 +87,7 @@ pub record Outer (T : List ℕ) (top : ℕ) (m : List ℕ) (whole : Outcome) (st
   pub rest : whole ≡ left T (stageOf stage) pos k o s fst out (onward T top (stageOf stage) (drop pos m))
 
 -- the outcome comes of the optionals ahead, where there may be more, or of what is behind the slice's members
-pub record Inner (T : List ℕ) (top : ℕ) (m : List ℕ) (whole : Outcome) (stage : Stage) (pos t : ℕ) (z : Bool) (from end s fst : ℕ) (at least k o : ℕ) (more : Bool) (out : List ℕ) : Type 0 where
+pub record Inner (T : List ℕ) (top : ℕ) (m : List ℕ) (whole : Outcome) (stage : Stage) (pos t : ℕ) (z : Bool) (from end s fst : ℕ) (at least row k o : ℕ) (more : Bool) (out : List ℕ) : Type 0 where
   pub small : Small T
   pub room : length m < 2 ^ 63
   pub begun : pos < at
@@ -94,6 +97,7 @@ pub record Inner (T : List ℕ) (top : ℕ) (m : List ℕ) (whole : Outcome) (st
   pub fewer : o ≤ at
   pub fewest : s ≤ pos
   pub sized : z ≡ true → 4 ≤ from
+  pub passed : Passed T t row least
   pub rest : whole ≡ amid T top m (stageOf stage) pos t z from end s fst at least k o more out
 
 module _ (T : List ℕ) (top : ℕ) (m : List ℕ) (at : ℕ) (out : List ℕ) where
@@ -236,7 +240,7 @@ module _ {T : List ℕ} {top : ℕ} {m : List ℕ} {whole : Outcome} {stage : St
                   ∙ ap (λ (l : List ℕ). pick opt (finish T t close (recalling pos) true (pos + a + n) j o out′ (optionalsFrom atMark (Table.optional T t) 0 l)) (close (pos + a + n) j o out′)) (part-on m (pos + a) n (pos + b))
 
         pub outer-in : (out′ : List ℕ)
-            → Inner T top m (amid T top m (stageOf stage) pos t z (pos + a) (pos + b) s fst (pos + a + n) 0 j o opt out′) stage pos t z (pos + a) (pos + b) s fst (pos + a + n) 0 j o opt out′
+            → Inner T top m (amid T top m (stageOf stage) pos t z (pos + a) (pos + b) s fst (pos + a + n) 0 j o opt out′) stage pos t z (pos + a) (pos + b) s fst (pos + a + n) 0 0 j o opt out′
         outer-in out′ =
             let R = members-read (Table.required T t) k part ms em n j w in
             let eats = opened-eats T top (stageOf stage) (drop pos m) t opt z a b opened in
@@ -250,20 +254,24 @@ module _ {T : List ℕ} {top : ℕ} {m : List ℕ} {whole : Outcome} {stage : St
               fewer = omega (arith, inv .fewer);
               fewest = inv .fewest;
               sized = λ y. omega (arith, opened-sized T top (stageOf stage) (drop pos m) t opt z a b opened y);
+              passed = passed-none T t;
               rest = refl;
             }
 
 -- ---- the loop over optionals
 
-module _ {T : List ℕ} {top : ℕ} {m : List ℕ} {whole : Outcome} {stage : Stage} {pos t : ℕ} {z : Bool} {from end s fst : ℕ} {at least k o : ℕ} {more : Bool} {out : List ℕ}
-    (inv : Inner T top m whole stage pos t z from end s fst at least k o more out) where
+module _ {T : List ℕ} {top : ℕ} {m : List ℕ} {whole : Outcome} {stage : Stage} {pos t : ℕ} {z : Bool} {from end s fst : ℕ} {at least row k o : ℕ} {more : Bool} {out : List ℕ}
+    (inv : Inner T top m whole stage pos t z from end s fst at least row k o more out) where
   abbrev close-in : (at k o : ℕ) → List ℕ → Outcome
   close-in = closing T top m z (base T t) s (firstOr (stageOf stage) fst t) from end
 
   abbrev part-in : List ℕ
   part-in = take (end - at) (drop at m)
 
-  module _ (go-on : more ≡ true) {r : Turn} (e : r ≡ turnOf (Table.optional T t) least part-in) where
+  module _ (go-on : more ≡ true) {r : Turn} (e : r ≡ turnOf (optionalFrom T t row) least part-in) where
+    turns : r ≡ turnOf (Table.optional T t) least part-in
+    turns = e ∙ passed-turn T t row least (inv .passed) part-in
+
     ahead : whole ≡ finish T t close-in (recalling pos) (eqb least 0) at k o out (optionalsFrom atMark (Table.optional T t) least part-in)
     unfolding amid
     ahead = inv .rest ∙ rw go-on
@@ -274,15 +282,15 @@ module _ {T : List ℕ} {top : ℕ} {m : List ℕ} {whole : Outcome} {stage : St
     -- the end marker
     module _ (q : r ≡ End) where
       pub end-within : at + 1 ≤ end
-      end-within = omega (arith, mark-byte part-in 1 (turn-end (Table.optional T t) least part-in r e q .0) .1, long)
+      end-within = omega (arith, mark-byte part-in 1 (turn-end (Table.optional T t) least part-in r turns q .0) .1, long)
 
       pub end-mark-fits : Fits w64 (at + 1)
       end-mark-fits = omega (arith, inv .room, end-within, inv .within)
 
-      pub inner-end : Inner T top m whole stage pos t z from end s fst (at + 1) least k o false out
+      pub inner-end : Inner T top m whole stage pos t z from end s fst (at + 1) least row k o false out
       unfolding amid
       inner-end =
-          let E = turn-end (Table.optional T t) least part-in r e q in
+          let E = turn-end (Table.optional T t) least part-in r turns q in
           record {
             small = inv .small;
             room = inv .room;
@@ -293,13 +301,14 @@ module _ {T : List ℕ} {top : ℕ} {m : List ℕ} {whole : Outcome} {stage : St
             fewer = omega (arith, inv .fewer);
             fewest = inv .fewest;
             sized = inv .sized;
+            passed = inv .passed;
             rest = ahead ∙ finish-end T t close-in (recalling pos) atMark (eqb least 0) least part-in at k o out 1 (E .0) (E .1);
           }
 
     -- a known optional
     module _ {i tag a n : ℕ} (q : r ≡ Known i tag a n) where
       known-told : (atMark part-in ≡ none) × KnownRead (Table.optional T t) least part-in i tag a n
-      known-told = turn-known (Table.optional T t) least part-in r e i tag a n q
+      known-told = turn-known (Table.optional T t) least part-in r turns i tag a n q
 
       pub known-two : 2 ≤ n
       known-two = optional-two (Table.optional T t) least part-in _ n (known-told .1 .read)
@@ -322,10 +331,10 @@ module _ {T : List ℕ} {top : ℕ} {m : List ℕ} {whole : Outcome} {stage : St
       pub count-fits : Fits w64 (k + 1)
       count-fits = omega (arith, inv .room, inv .few, inv .inside, inv .within)
 
-      pub inner-known : {out′ : List ℕ} → out′ ≡ put (12 * k) (rowBytes (record { member = i; place = at + a; len = n - a })) out
-          → Inner T top m whole stage pos t z from end s fst (at + n) (tag + 1) (k + 1) o more out′
+      pub inner-known : {out′ : List ℕ} → out′ ≡ put (12 * k) (rowBytes (record { member = i; place = at + a; len = n - a })) out → {row′ : ℕ} → row′ ≡ Tags.pass T t row tag
+          → Inner T top m whole stage pos t z from end s fst (at + n) (tag + 1) row′ (k + 1) o more out′
       unfolding amid
-      inner-known {out′} w = record {
+      inner-known {out′} w {row′} p = record {
         small = inv .small;
         room = inv .room;
         begun = omega (arith, inv .begun);
@@ -335,6 +344,7 @@ module _ {T : List ℕ} {top : ℕ} {m : List ℕ} {whole : Outcome} {stage : St
         fewer = omega (arith, inv .fewer);
         fewest = inv .fewest;
         sized = inv .sized;
+        passed = rw p (passed-on T t row least (inv .passed) tag (known-told .1 .rises));
         rest = ahead ∙ finish-known T t close-in (recalling pos) atMark (eqb least 0) least part-in at k o out (known-told .0) i tag a n (known-told .1)
             ∙ ap₂ (λ (y : List ℕ) (l : List ℕ). finish T t close-in (recalling pos) false (at + n) (k + 1) o y (optionalsFrom atMark (Table.optional T t) (suc tag) l)) (sym w) (part-on m at n end)
             ∙ rw (go-on, add-one tag, ne-eqb (suc tag) 0 (λ y. omega arith));
@@ -343,7 +353,7 @@ module _ {T : List ℕ} {top : ℕ} {m : List ℕ} {whole : Outcome} {stage : St
     -- a skipped one
     module _ {tag n : ℕ} (q : r ≡ SkippedTurn tag n) where
       skipped-told : (atMark part-in ≡ none) × SkippedRead (Table.optional T t) least part-in tag n
-      skipped-told = turn-skipped (Table.optional T t) least part-in r e tag n q
+      skipped-told = turn-skipped (Table.optional T t) least part-in r turns tag n q
 
       pub skipped-some : 1 ≤ n
       skipped-some = eats-optional (Table.optional T t) least part-in _ n (skipped-told .1 .read)
@@ -360,9 +370,9 @@ module _ {T : List ℕ} {top : ℕ} {m : List ℕ} {whole : Outcome} {stage : St
       pub skipped-count : Fits w64 (o + 1)
       skipped-count = omega (arith, inv .room, inv .fewer, skipped-some, skipped-ends, inv .within)
 
-      pub inner-skipped : Inner T top m whole stage pos t z from end s fst (at + n) (tag + 1) k (o + 1) more out
+      pub inner-skipped : {row′ : ℕ} → row′ ≡ Tags.pass T t row tag → Inner T top m whole stage pos t z from end s fst (at + n) (tag + 1) row′ k (o + 1) more out
       unfolding amid
-      inner-skipped = record {
+      inner-skipped {row′} p = record {
         small = inv .small;
         room = inv .room;
         begun = omega (arith, inv .begun);
@@ -372,6 +382,7 @@ module _ {T : List ℕ} {top : ℕ} {m : List ℕ} {whole : Outcome} {stage : St
         fewer = omega (arith, inv .fewer, skipped-some);
         fewest = inv .fewest;
         sized = inv .sized;
+        passed = rw p (passed-on T t row least (inv .passed) tag (skipped-told .1 .rises));
         rest = ahead ∙ finish-skipped T t close-in (recalling pos) atMark (eqb least 0) least part-in at k o out (skipped-told .0) tag n (skipped-told .1)
             ∙ ap (λ (l : List ℕ). finish T t close-in (recalling pos) false (at + n) k (o + 1) out (optionalsFrom atMark (Table.optional T t) (suc tag) l)) (part-on m at n end)
             ∙ rw (go-on, add-one tag, ne-eqb (suc tag) 0 (λ y. omega arith));
@@ -380,13 +391,13 @@ module _ {T : List ℕ} {top : ℕ} {m : List ℕ} {whole : Outcome} {stage : St
     -- a refusal
     module _ {c p : ℕ} (q : r ≡ Wrong c p) where
       pub stop-fits : Fits w64 (at + p)
-      stop-fits = omega (arith, inv .room, turn-place (Table.optional T t) least part-in r e c p q, long, inv .inside, inv .within)
+      stop-fits = omega (arith, inv .room, turn-place (Table.optional T t) least part-in r turns c p q, long, inv .inside, inv .within)
 
       pub inner-wrong : {v : Walk} → v ≡ answerOf (recalling pos c (at + p)) → Ends whole v out
       unfolding answerOf recalling recallTo
-      inner-wrong {v} h = go (turn-wrong (Table.optional T t) least part-in r e c p q)
+      inner-wrong {v} h = go (turn-wrong (Table.optional T t) least part-in r turns c p q)
         where
-          go : Early (Table.optional T t) least part-in r e c p ⊎ ((atMark part-in ≡ none) × (optionalOf (Table.optional T t) least part-in ≡ bad c p)) → Ends whole v out
+          go : Early (Table.optional T t) least part-in r turns c p ⊎ ((atMark part-in ≡ none) × (optionalOf (Table.optional T t) least part-in ≡ bad c p)) → Ends whole v out
           go (inl E) =
               ends-refused whole 14 pos v out (ahead ∙ finish-early T t close-in (recalling pos) atMark (eqb least 0) least part-in at k o out 1 (E .mark) (E .unmet)) (h ∙ rw (E .number))
           go (inr W) =

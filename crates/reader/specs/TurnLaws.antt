@@ -4,6 +4,7 @@
 --   turn-known, turn-skipped   the next optional
 --   turn-wrong       a refusal: of the next optional, or 14 for a marker before any
 --   turn-place       its place is there
+--   passed-turn      what stands next, where its tag is looked up behind the members that were passed
 use mathlib.Core.Path.{_≡_, refl, sym, ap, _∙_}
 use mathlib.Core.Bool.{Bool, true, false}
 use mathlib.Core.Option.{Option, none, some}
@@ -16,12 +17,15 @@ use lib.Dec.{eqb}
 use Rattle.encoding.specs.Result.{bad, pick, atMark}
 use Rattle.encoding.specs.ResultLaws.{held-refused}
 use Rattle.encoding.specs.Table.{Member}
+use Rattle.encoding.specs.Table
 use Rattle.encoding.specs.Optional.{optionalOf}
 use Rattle.encoding.specs.OptionalLaws.{held-optional}
+use Rattle.table.specs.Tags.{optionalFrom, Passed}
 use Rattle.level.specs.declared.Optional.{Optional}
 use Rattle.level.specs.declared.Optional.the-variants.{Known as KnownOptional, Skipped as SkippedOptional, Wrong as WrongOptional}
 use Rattle.level.specs.Answers.{optionalAnswer}
 use Rattle.level.specs.AnswersLaws.{KnownRead, SkippedRead, known-read, skipped-read, wrong-read}
+use Rattle.level.specs.TagLaws.{passed-answer}
 use Rattle.reader.specs.declared.Turn.{Turn}
 use Rattle.reader.specs.declared.Turn.the-variants.{End, Known, Skipped, Wrong}
 use Rattle.reader.specs.Openings.{turnAnswer, turnBy, turnOf}
@@ -119,3 +123,8 @@ module _ (ms : List Member) (least : ℕ) (xs : List ℕ) (r : Turn) (e : r ≡ 
       go : Early c p ⊎ ((atMark xs ≡ none) × (optionalOf ms least xs ≡ bad c p)) → p ≤ length xs
       go (inl E) = omega (arith, E .place)
       go (inr W) = held-refused (optionalOf ms least) (held-optional ms least) xs (W .1)
+
+-- what stands next, where its tag is looked up behind the members that were passed
+pub passed-turn : (T : List ℕ) (t from least : ℕ) → Passed T t from least → (xs : List ℕ) → turnOf (optionalFrom T t from) least xs ≡ turnOf (Table.optional T t) least xs
+unfolding turnOf
+passed-turn T t from least P xs = ap (λ (r : Optional). turnBy (atMark xs) least (turnAnswer r)) (passed-answer T t from least P xs)

@@ -6,11 +6,11 @@ ghost use Prim.Native.Nat.{ℕ, _≤_};
 ghost use lib.Dec.{eqb};
 ghost use lib.ListN.{length, drop};
 ghost use Rattle.encoding.specs.Result.{ok, pick};
-ghost use Rattle.encoding.specs.Table.{optional};
 ghost use Rattle.encoding.specs.Optional.{Piece};
 ghost use Rattle.encoding.specs.Message.{parameters, pieceRows};
 ghost use Rattle.encoding.specs.Slice.{sliced as in-slices, compact, formatNumber, Chain, slices};
 ghost use Rattle.table.specs.Forms.{formsOf};
+ghost use Rattle.table.specs.Tags.{optionalFrom};
 ghost use Rattle.level.specs.Fill.{fill};
 ghost use Rattle.reader.specs.Stages.{stageOf};
 ghost use Rattle.reader.specs.Openings.{opening, turnOf, firstOr};
@@ -53,10 +53,10 @@ fn opening(table: &[u8], top: usize, stage: Stage, s: &[u8]) -> Opening
     }
 }
 
-// What stands next among the optionals of owner t: the end marker, 14 where none came before, or an optional.
-fn next(table: &[u8], forms: &[u8; 256], t: usize, least: usize, s: &[u8]) -> Turn
+// What stands next among the optionals of owner t, a tag looked up from member row `row` on: the end marker, 14 where none came before, or an optional.
+fn next(table: &[u8], forms: &[u8; 256], t: usize, row: usize, least: usize, s: &[u8]) -> Turn
     requires { ⌜ now forms ≡ formsOf (now table) ⌝ }
-    ensures { λ r. ⌜ r ≡ turnOf (optional (now (table .entry)) t) least (now (s .entry)) ⌝ }
+    ensures { λ r. ⌜ r ≡ turnOf (optionalFrom (now (table .entry)) t row) least (now (s .entry)) ⌝ }
 {
     if wire::byte_at(s, 0) == 255 {
         if least == 0 {
@@ -64,7 +64,7 @@ fn next(table: &[u8], forms: &[u8; 256], t: usize, least: usize, s: &[u8]) -> Tu
         }
         return Turn::End;
     }
-    let o = level::optionals::optional(table, forms, t, least, s);
+    let o = level::optionals::optional(table, forms, t, row, least, s);
     match o {
         Optional::Known(m, tag, a, n) => Turn::Known(m, tag, a, n),
         Optional::Skipped(tag, n) => Turn::Skipped(tag, n),
@@ -149,9 +149,10 @@ pub fn slices(
                         count = k;
                         let mut at = from + n;
                         let mut least = 0;
+                        let mut row = 0;
                         let mut more = has;
                         while more {
-                            let x = next(table, forms, t, least, &m[at..end]);
+                            let x = next(table, forms, t, row, least, &m[at..end]);
                             match x {
                                 Turn::End => {
                                     at += 1;
@@ -162,11 +163,13 @@ pub fn slices(
                                     count += 1;
                                     at += l;
                                     least = tag + 1;
+                                    row = table::chain::pass(table, t, row, tag);
                                 }
                                 Turn::Skipped(tag, l) => {
                                     optionals += 1;
                                     at += l;
                                     least = tag + 1;
+                                    row = table::chain::pass(table, t, row, tag);
                                 }
                                 Turn::Wrong(c, p) => {
                                     answer = refusal(pos, c, at + p);
@@ -231,19 +234,22 @@ pub fn list(
             let mut count = k;
             let mut optionals = 0;
             let mut least = 0;
+            let mut row = 0;
             while at < m.len() {
-                let o = level::optionals::optional(table, forms, top, least, &m[at..]);
+                let o = level::optionals::optional(table, forms, top, row, least, &m[at..]);
                 match o {
                     Optional::Known(member, tag, b, l) => {
                         level::put_row(out, count, member, at + b, l - b);
                         count += 1;
                         at += l;
                         least = tag + 1;
+                        row = table::chain::pass(table, top, row, tag);
                     }
                     Optional::Skipped(tag, l) => {
                         optionals += 1;
                         at += l;
                         least = tag + 1;
+                        row = table::chain::pass(table, top, row, tag);
                     }
                     Optional::Wrong(c, p) => {
                         return Walk::Stop(c, at + p);

@@ -2,21 +2,25 @@
 --
 --   base-is ..        the base of a row
 --   top-.., owner-..  the loop up a chain that looks for a row, or for the owner of a member
---   Optionals, optionals-..   the loop over a row's optional members that looks for a tag
+--   takes-.., tag-.., above-..   whether a row takes a member, and a member's tag
+--   later-..          the greater of two rows
+--   Optionals, optionals-..   the loop over a row's members that looks for a tag
+--   Passing, passing-..       the loop over them that passes those up to a tag
 use Prim.Native.Nat.{ℕ, zero, suc, _+_, _-_, _≤_, _<_}
 use mathlib.Core.Path.{_≡_, refl, sym, ap, _∙_}
 use mathlib.Core.Bool.{Bool, true, false, _&&_, not}
 use mathlib.Core.List.{List, _∷_}
-use native.Mathlib.Numerals.{sub-one}
+use native.Mathlib.Numerals.{add-one, sub-one}
 use native.Mathlib.Omega.{arith}
 use lib.Dec.{eqb, ltb}
-use borrow.Author.Tests.{le-leb, lt-leb, eq-eqb, ne-eqb}
+use borrow.Author.Tests.{le-leb, lt-leb, lt-ltb, le-ltb, eq-eqb, ne-eqb}
 use Rattle.encoding.specs.Result.{pick}
-use Rattle.encoding.specs.Table.{kind, field, isRecord, mark, tag, range, takes, any, base, upward, chain, Member, memberTy, optionalOf, ownRows, trees, optional, lookup}
+use Rattle.encoding.specs.Table.{kind, field, isRecord, mark, tag, range, takes, any, base, upward, chain, Member, memberTy, optionalOf, trees, lookup}
 use Rattle.encoding.specs.TableLaws.{chain-row}
 use Rattle.table.specs.Found.{rowFound, hasTag}
+use Rattle.table.specs.Tags.{later, ownFrom, optionalFrom, isAbove, behind, pass}
 use Rattle.table.specs.declared.Found.the-variants.{At, Nothing}
-use Rattle.table.proofs.Ranges.{range-left, range-empty}
+use Rattle.table.proofs.Ranges.{range-more, range-none}
 
 -- ---- bases
 
@@ -97,34 +101,74 @@ module _ (T : List ℕ) (m k : ℕ) (ek : k ≡ mark T m) where
   pub tag-has : (key g : ℕ) → (k ≡ 0 → ⊥) → g ≡ tag T m → eqb key g ≡ hasTag T key m
   tag-has key g z e = rw (ne-eqb (mark T m) 0 (λ q. z (ek ∙ q)), e)
 
--- what is left to look at decides
-abbrev pub Optionals : List ℕ → ℕ → ℕ → ℕ → ℕ → Type 0
-Optionals T t key m left = (m + left < 131072) × (rowFound (lookup key (optional T t)) ≡ rowFound (lookup key (optionalOf T (trees T) (range m left))))
+  pub above-none : (key : ℕ) → k ≡ 0 → false ≡ isAbove T key m
+  above-none key z = rw (eq-eqb (mark T m) 0 (sym ek ∙ z))
 
-pub optionals-begin : (T : List ℕ) (t key m left : ℕ) → m ≡ field T t 0 → left ≡ field T t 1 → m < 65536 → left < 65536 → Optionals T t key m left
-unfolding optional ownRows
-optionals-begin T t key m left em el hm hl = (omega arith, rw (em, el))
+  pub above-is : (key g : ℕ) → (k ≡ 0 → ⊥) → g ≡ tag T m → ltb key g ≡ isAbove T key m
+  above-is key g z e = rw (ne-eqb (mark T m) 0 (λ q. z (ek ∙ q)), e)
 
-module _ (T : List ℕ) (t key m left : ℕ) (inv : Optionals T t key m left) where
-  optionals-more : 0 < left → rowFound (lookup key (optionalOf T (trees T) (range m left)))
-      ≡ pick (hasTag T key m) (At m) (rowFound (lookup key (optionalOf T (trees T) (range (m + 1) (left - 1)))))
+-- ---- members from a row on
+
+module _ (a b : ℕ) where
+  pub later-other : a < b → b ≡ later a b
+  unfolding later
+  later-other h = rw (lt-ltb a b h)
+
+  pub later-same : b ≤ a → a ≡ later a b
+  unfolding later
+  later-same h = rw (le-ltb a b h)
+
+-- the rows left to look at decide
+abbrev pub Optionals : List ℕ → ℕ → ℕ → ℕ → ℕ → ℕ → Type 0
+Optionals T t from key end m = rowFound (lookup key (optionalFrom T t from)) ≡ rowFound (lookup key (optionalOf T (trees T) (range m (end - m))))
+
+abbrev pub Passing : List ℕ → ℕ → ℕ → ℕ → ℕ → ℕ → Type 0
+Passing T t from key end m = pass T t from key ≡ behind T key m (end - m)
+
+module _ (T : List ℕ) (t from key a b m : ℕ) (ea : a ≡ field T t 0) (eb : b ≡ field T t 1) (em : m ≡ later from a) where
+  pub optionals-begin : Optionals T t from key (a + b) m
+  unfolding optionalFrom ownFrom
+  optionals-begin = rw (em, ea, eb)
+
+  pub passing-begin : Passing T t from key (a + b) m
+  unfolding pass
+  passing-begin = rw (em, ea, eb)
+
+module _ (T : List ℕ) (t from key end m : ℕ) (inv : Optionals T t from key end m) where
+  optionals-more : m < end → rowFound (lookup key (optionalOf T (trees T) (range m (end - m))))
+      ≡ pick (hasTag T key m) (At m) (rowFound (lookup key (optionalOf T (trees T) (range (m + 1) (end - (m + 1))))))
   unfolding optionalOf lookup rowFound
-  optionals-more h = rw (range-left m left h) (go (eqb (mark T m) 0) (eqb key (tag T m)) refl)
+  optionals-more h = rw (range-more m end h) (go (eqb (mark T m) 0) (eqb key (tag T m)) refl)
     where
       rest : List Member
-      rest = optionalOf T (trees T) (range (m + 1) (left - 1))
+      rest = optionalOf T (trees T) (range (m + 1) (end - (m + 1)))
 
       go : (a b : Bool) → eqb key (tag T m) ≡ b → rowFound (lookup key (pick a rest (record { row = m; key = tag T m; ty = memberTy T (trees T) m } ∷ rest))) ≡ pick (not a && b) (At m) (rowFound (lookup key rest))
       go true b e = refl
       go false true e = rw e
       go false false e = rw e
 
-  pub optionals-here : (r : Bool) → 0 < left → r ≡ hasTag T key m → r ≡ true → At m ≡ rowFound (lookup key (optional T t))
-  optionals-here r h e q = sym (inv .1 ∙ optionals-more h ∙ rw (sym e ∙ q))
+  pub optionals-here : (r : Bool) → m < end → r ≡ hasTag T key m → r ≡ true → At m ≡ rowFound (lookup key (optionalFrom T t from))
+  optionals-here r h e q = sym (inv ∙ optionals-more h ∙ rw (sym e ∙ q))
 
-  pub optionals-next : (r : Bool) → 0 < left → r ≡ hasTag T key m → r ≡ false → Optionals T t key (m + 1) (left - 1)
-  optionals-next r h e q = (omega arith, inv .1 ∙ optionals-more h ∙ rw (sym e ∙ q))
+  pub optionals-next : (r : Bool) → m < end → r ≡ hasTag T key m → r ≡ false → Optionals T t from key end (m + 1)
+  optionals-next r h e q = inv ∙ optionals-more h ∙ rw (sym e ∙ q)
 
-  pub optionals-end : left ≤ 0 → Nothing ≡ rowFound (lookup key (optional T t))
+  pub optionals-end : end ≤ m → Nothing ≡ rowFound (lookup key (optionalFrom T t from))
   unfolding optionalOf lookup rowFound
-  optionals-end h = sym (inv .1 ∙ rw (range-empty m left h))
+  optionals-end h = sym (inv ∙ rw (range-none m end h))
+
+module _ (T : List ℕ) (t from key end m : ℕ) (inv : Passing T t from key end m) where
+  passing-more : m < end → behind T key m (end - m) ≡ pick (isAbove T key m) m (behind T key (m + 1) (end - (m + 1)))
+  unfolding behind
+  passing-more h = let e : end - m ≡ suc (end - (m + 1)) = omega arith in rw (e, add-one)
+
+  pub passing-here : (r : Bool) → m < end → r ≡ isAbove T key m → r ≡ true → m ≡ pass T t from key
+  passing-here r h e q = sym (inv ∙ passing-more h ∙ rw (sym e ∙ q))
+
+  pub passing-next : (r : Bool) → m < end → r ≡ isAbove T key m → r ≡ false → Passing T t from key end (m + 1)
+  passing-next r h e q = inv ∙ passing-more h ∙ rw (sym e ∙ q)
+
+  pub passing-end : end ≤ m → m ≡ pass T t from key
+  unfolding behind
+  passing-end h = let e : end - m ≡ 0 = omega arith in sym (inv ∙ rw e)

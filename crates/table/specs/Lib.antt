@@ -6,3 +6,5 @@ pub mod NamesLaws
 pub mod Forms
 pub mod Checks
 pub mod ChecksLaws
+pub mod Tags
+pub mod TagsLaws

@@ -3,8 +3,9 @@ use crate::Found;
 ghost use mathlib.Core.Path.{_≡_};
 ghost use Prim.Native.Nat.{_≤_};
 ghost use lib.Dec.{eqb};
-ghost use Rattle.encoding.specs.Table.{any, takes, optional, lookup, base, chain};
+ghost use Rattle.encoding.specs.Table.{any, takes, lookup, base, chain};
 ghost use Rattle.table.specs.Found.{rowFound, hasTag};
+ghost use Rattle.table.specs.Tags.{later, optionalFrom, isAbove, pass};
 
 // The base row + 1, or 0; a base that is not smaller is none.
 pub fn base(table: &[u8], t: usize) -> usize
@@ -75,19 +76,55 @@ fn has_tag(table: &[u8], m: usize, tag: usize) -> bool
     tag == row.tag
 }
 
-// The optional member of row t that has a tag.
-pub fn tag_member(table: &[u8], t: usize, tag: usize) -> Found
-    ensures { λ r. ⌜ r ≡ rowFound (lookup tag (optional (now (table .entry)) t)) ⌝ }
+// The greater of two row numbers.
+fn later(a: usize, b: usize) -> usize
+    ensures { λ r. ⌜ r ≡ later a b ⌝ }
+{
+    if a < b {
+        return b;
+    }
+    a
+}
+
+// The optional member of row t that has a tag, looked up from a row on.
+pub fn tag_member(table: &[u8], t: usize, from: usize, tag: usize) -> Found
+    ensures { λ r. ⌜ r ≡ rowFound (lookup tag (optionalFrom (now (table .entry)) t from)) ⌝ }
 {
     let row = crate::type_row(table, t);
-    let mut m = row.a;
-    let mut left = row.b;
-    while left > 0 {
+    let end = row.a + row.b;
+    let mut m = later(from, row.a);
+    while m < end {
         if has_tag(table, m, tag) {
             return Found::At(m);
         }
         m += 1;
-        left -= 1;
     }
     Found::Nothing
+}
+
+// Member row m is optional and its tag is above a tag.
+fn is_above(table: &[u8], m: usize, tag: usize) -> bool
+    ensures { λ r. ⌜ r ≡ isAbove (now (table .entry)) tag m ⌝ }
+{
+    let row = crate::member_row(table, m);
+    if row.mark == 0 {
+        return false;
+    }
+    tag < row.tag
+}
+
+// The first member row of row t, from a row on, that is optional and has a tag above a tag; or the row behind them.
+pub fn pass(table: &[u8], t: usize, from: usize, tag: usize) -> usize
+    ensures { λ r. ⌜ r ≡ pass (now (table .entry)) t from tag ⌝ }
+{
+    let row = crate::type_row(table, t);
+    let end = row.a + row.b;
+    let mut m = later(from, row.a);
+    while m < end {
+        if is_above(table, m, tag) {
+            return m;
+        }
+        m += 1;
+    }
+    m
 }

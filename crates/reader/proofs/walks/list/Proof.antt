@@ -12,11 +12,11 @@ use Rattle.reader.proofs.walks.list.Statement.{statement}
 use Rattle.reader.proofs.walks.list.Tie as tie
 
 abbrev Inv-loop : tie.InvT-loop
-Inv-loop table forms top m start out₀ n k at₀ count₀ optionals₀ least₀ out at count optionals least =
-    (length out ≡ length out₀) × Listing table top m (listing table top m at₀ least₀ count₀ optionals₀ out₀) at least count optionals out
+Inv-loop table forms top m start out₀ n k at₀ count₀ optionals₀ least₀ row₀ out at count optionals least row =
+    (length out ≡ length out₀) × Listing table top m (listing table top m at₀ least₀ count₀ optionals₀ out₀) at least row count optionals out
 
 abbrev μ-loop : tie.MeasureT-loop
-μ-loop table forms top m start out₀ n k at₀ count₀ optionals₀ least₀ out at count optionals least = length m - at
+μ-loop table forms top m start out₀ n k at₀ count₀ optionals₀ least₀ row₀ out at count optionals least row = length m - at
 
 pub list-spec : {M : Type 1} → statement M
 list-spec =
@@ -42,14 +42,16 @@ list-spec =
     (λ c. listing-count (c .before .before .before .before .before .before .before .before .before .before .loop .inv .1) (c .before .before .before .before .before .before .before .before .before .loop-test .taken) (c .before .before .before .before .before .before .before .optional .ensures) (c .before .before .before .before .before .o .given .1))  -- add-count
     (λ c. listing-fits (c .before .before .before .before .before .before .before .before .before .before .loop .inv .1) (c .before .before .before .before .before .before .before .before .before .loop-test .taken) (c .before .before .before .before .before .before .before .optional .ensures) (c .before .before .before .before .before .o .given .1))  -- add-at-2
     (λ c. listing-tag (c .before .before .before .before .before .before .before .before .before .before .loop .inv .1) (c .before .before .before .before .before .before .before .before .before .loop-test .taken) (c .before .before .before .before .before .before .before .optional .ensures) (c .before .before .before .before .before .o .given .1))  -- add-least
-    (λ c. omega (arith, listing-two (c .before .before .before .before .before .before .before .before .before .before .loop .inv .1) (c .before .before .before .before .before .before .before .before .before .loop-test .taken) (c .before .before .before .before .before .before .before .optional .ensures) (c .before .before .before .before .before .o .given .1), listing-within (c .before .before .before .before .before .before .before .before .before .before .loop .inv .1) (c .before .before .before .before .before .before .before .before .before .loop-test .taken) (c .before .before .before .before .before .before .before .optional .ensures) (c .before .before .before .before .before .o .given .1)))  -- loop-less
-    (λ c. (ap length (c .before .before .put-row .ensures) ∙ put-length _ _ _ ∙ c .before .before .before .before .before .before .before .before .before .before .loop .inv .0, listing-known (c .before .before .before .before .before .before .before .before .before .before .loop .inv .1) (c .before .before .before .before .before .before .before .before .before .loop-test .taken) (c .before .before .before .before .before .before .before .optional .ensures) (c .before .before .before .before .before .o .given .1) (c .before .before .put-row .ensures)))  -- loop-again
+    (λ c κs. search needs)  -- pass-requires
+    (λ c. omega (arith, listing-two (c .before .before .before .before .before .before .before .before .before .before .before .loop .inv .1) (c .before .before .before .before .before .before .before .before .before .before .loop-test .taken) (c .before .before .before .before .before .before .before .before .optional .ensures) (c .before .before .before .before .before .before .o .given .1), listing-within (c .before .before .before .before .before .before .before .before .before .before .before .loop .inv .1) (c .before .before .before .before .before .before .before .before .before .before .loop-test .taken) (c .before .before .before .before .before .before .before .before .optional .ensures) (c .before .before .before .before .before .before .o .given .1)))  -- loop-less
+    (λ c. (ap length (c .before .before .before .put-row .ensures) ∙ put-length _ _ _ ∙ c .before .before .before .before .before .before .before .before .before .before .before .loop .inv .0, listing-known (c .before .before .before .before .before .before .before .before .before .before .before .loop .inv .1) (c .before .before .before .before .before .before .before .before .before .before .loop-test .taken) (c .before .before .before .before .before .before .before .before .optional .ensures) (c .before .before .before .before .before .before .o .given .1) (c .before .before .before .put-row .ensures) (c .pass .ensures)))  -- loop-again
     (λ c. search needs)  -- enum-known-o-2
     (λ c. listing-skips (c .before .before .before .before .before .before .loop .inv .1) (c .before .before .before .before .before .loop-test .taken) (c .before .before .before .optional .ensures) (c .before .o2 .given .1))  -- add-optionals
     (λ c. listing-past-fits (c .before .before .before .before .before .before .loop .inv .1) (c .before .before .before .before .before .loop-test .taken) (c .before .before .before .optional .ensures) (c .before .o2 .given .1))  -- add-at-3
     (λ c. listing-past-tag (c .before .before .before .before .before .before .loop .inv .1) (c .before .before .before .before .before .loop-test .taken) (c .before .before .before .optional .ensures) (c .before .o2 .given .1))  -- add-least-2
-    (λ c. omega (arith, listing-some (c .before .before .before .before .before .before .loop .inv .1) (c .before .before .before .before .before .loop-test .taken) (c .before .before .before .optional .ensures) (c .before .o2 .given .1), listing-past (c .before .before .before .before .before .before .loop .inv .1) (c .before .before .before .before .before .loop-test .taken) (c .before .before .before .optional .ensures) (c .before .o2 .given .1)))  -- loop-less-2
-    (λ c. (c .before .before .before .before .before .before .loop .inv .0, listing-skipped (c .before .before .before .before .before .before .loop .inv .1) (c .before .before .before .before .before .loop-test .taken) (c .before .before .before .optional .ensures) (c .before .o2 .given .1)))  -- loop-again-2
+    (λ c κs. search needs)  -- pass-requires-2
+    (λ c. omega (arith, listing-some (c .before .before .before .before .before .before .before .loop .inv .1) (c .before .before .before .before .before .before .loop-test .taken) (c .before .before .before .before .optional .ensures) (c .before .before .o2 .given .1), listing-past (c .before .before .before .before .before .before .before .loop .inv .1) (c .before .before .before .before .before .before .loop-test .taken) (c .before .before .before .before .optional .ensures) (c .before .before .o2 .given .1)))  -- loop-less-2
+    (λ c. (c .before .before .before .before .before .before .before .loop .inv .0, listing-skipped (c .before .before .before .before .before .before .before .loop .inv .1) (c .before .before .before .before .before .before .loop-test .taken) (c .before .before .before .before .optional .ensures) (c .before .before .o2 .given .1) (c .pass2 .ensures)))  -- loop-again-2
     (λ c. search needs)  -- enum-known-o-3
     (λ c. listing-stop (c .before .before .before .before .before .before .loop .inv .1) (c .before .before .before .before .before .loop-test .taken) (c .before .before .before .optional .ensures) (c .before .o3 .given .1))  -- add-t42
     (λ c. (c .before .before .before .before .before .before .loop .inv .0 ∙ c .before .before .before .before .before .before .before .before .before .before .before .before .required .ensures .1 .0))  -- same-length

@@ -14,12 +14,12 @@ use Rattle.reader.proofs.walks.slices.Statement.{statement}
 use Rattle.reader.proofs.walks.slices.Tie as tie
 
 abbrev Inv-loop : tie.InvT-loop
-Inv-loop table forms top m start out₀ stage pos count₀ optionals₀ skipped fst t has sliced a e from end n k at₀ least₀ more₀ out count optionals at least more =
+Inv-loop table forms top m start out₀ stage pos count₀ optionals₀ skipped fst t has sliced a e from end n k at₀ least₀ row₀ more₀ out count optionals at least row more =
     (length out ≡ length out₀)
-    × Inner table top m (amid table top m (stageOf stage) pos t sliced from end skipped fst at₀ least₀ count₀ optionals₀ more₀ out₀) stage pos t sliced from end skipped fst at least count optionals more out
+    × Inner table top m (amid table top m (stageOf stage) pos t sliced from end skipped fst at₀ least₀ count₀ optionals₀ more₀ out₀) stage pos t sliced from end skipped fst at least row count optionals more out
 
 abbrev μ-loop : tie.MeasureT-loop
-μ-loop table forms top m start out₀ stage pos count₀ optionals₀ skipped fst t has sliced a e from end n k at₀ least₀ more₀ out count optionals at least more = length m - at
+μ-loop table forms top m start out₀ stage pos count₀ optionals₀ skipped fst t has sliced a e from end n k at₀ least₀ row₀ more₀ out count optionals at least row more = length m - at
 
 abbrev Inv-slices : tie.InvT-slices
 Inv-slices table forms top m start out₀ stage₀ pos₀ count₀ optionals₀ skipped₀ fst₀ out stage pos count optionals skipped fst =
@@ -71,14 +71,16 @@ slices-spec =
     (λ c. count-fits (c .before .before .before .before .before .before .before .before .before .before .loop .inv .1) (c .before .before .before .before .before .before .before .before .before .loop-test .taken) (c .before .before .before .before .before .before .before .next .ensures) (c .before .before .before .before .before .x .given .1))  -- add-count
     (λ c. next-fits (c .before .before .before .before .before .before .before .before .before .before .loop .inv .1) (c .before .before .before .before .before .before .before .before .before .loop-test .taken) (c .before .before .before .before .before .before .before .next .ensures) (c .before .before .before .before .before .x .given .1))  -- add-at-3
     (λ c. tag-fits (c .before .before .before .before .before .before .before .before .before .before .loop .inv .1) (c .before .before .before .before .before .before .before .before .before .loop-test .taken) (c .before .before .before .before .before .before .before .next .ensures) (c .before .before .before .before .before .x .given .1))  -- add-least
-    (λ c. omega (arith, known-two (c .before .before .before .before .before .before .before .before .before .before .loop .inv .1) (c .before .before .before .before .before .before .before .before .before .loop-test .taken) (c .before .before .before .before .before .before .before .next .ensures) (c .before .before .before .before .before .x .given .1), known-ends (c .before .before .before .before .before .before .before .before .before .before .loop .inv .1) (c .before .before .before .before .before .before .before .before .before .loop-test .taken) (c .before .before .before .before .before .before .before .next .ensures) (c .before .before .before .before .before .x .given .1), c .before .before .before .before .before .before .before .before .before .before .loop .inv .1 .within))  -- loop-less-2
-    (λ c. (ap length (c .before .before .put-row .ensures) ∙ put-length _ _ _ ∙ c .before .before .before .before .before .before .before .before .before .before .loop .inv .0, inner-known (c .before .before .before .before .before .before .before .before .before .before .loop .inv .1) (c .before .before .before .before .before .before .before .before .before .loop-test .taken) (c .before .before .before .before .before .before .before .next .ensures) (c .before .before .before .before .before .x .given .1) (c .before .before .put-row .ensures)))  -- loop-again-2
+    (λ c κs. search needs)  -- pass-requires
+    (λ c. omega (arith, known-two (c .before .before .before .before .before .before .before .before .before .before .before .loop .inv .1) (c .before .before .before .before .before .before .before .before .before .before .loop-test .taken) (c .before .before .before .before .before .before .before .before .next .ensures) (c .before .before .before .before .before .before .x .given .1), known-ends (c .before .before .before .before .before .before .before .before .before .before .before .loop .inv .1) (c .before .before .before .before .before .before .before .before .before .before .loop-test .taken) (c .before .before .before .before .before .before .before .before .next .ensures) (c .before .before .before .before .before .before .x .given .1), c .before .before .before .before .before .before .before .before .before .before .before .loop .inv .1 .within))  -- loop-less-2
+    (λ c. (ap length (c .before .before .before .put-row .ensures) ∙ put-length _ _ _ ∙ c .before .before .before .before .before .before .before .before .before .before .before .loop .inv .0, inner-known (c .before .before .before .before .before .before .before .before .before .before .before .loop .inv .1) (c .before .before .before .before .before .before .before .before .before .before .loop-test .taken) (c .before .before .before .before .before .before .before .before .next .ensures) (c .before .before .before .before .before .before .x .given .1) (c .before .before .before .put-row .ensures) (c .pass .ensures)))  -- loop-again-2
     (λ c. search needs)  -- enum-known-x-2
     (λ c. skipped-count (c .before .before .before .before .before .before .loop .inv .1) (c .before .before .before .before .before .loop-test .taken) (c .before .before .before .next .ensures) (c .before .x2 .given .1))  -- add-optionals
     (λ c. skipped-fits (c .before .before .before .before .before .before .loop .inv .1) (c .before .before .before .before .before .loop-test .taken) (c .before .before .before .next .ensures) (c .before .x2 .given .1))  -- add-at-4
     (λ c. skipped-tag-fits (c .before .before .before .before .before .before .loop .inv .1) (c .before .before .before .before .before .loop-test .taken) (c .before .before .before .next .ensures) (c .before .x2 .given .1))  -- add-least-2
-    (λ c. omega (arith, skipped-some (c .before .before .before .before .before .before .loop .inv .1) (c .before .before .before .before .before .loop-test .taken) (c .before .before .before .next .ensures) (c .before .x2 .given .1), skipped-ends (c .before .before .before .before .before .before .loop .inv .1) (c .before .before .before .before .before .loop-test .taken) (c .before .before .before .next .ensures) (c .before .x2 .given .1), c .before .before .before .before .before .before .loop .inv .1 .within))  -- loop-less-3
-    (λ c. (c .before .before .before .before .before .before .loop .inv .0, inner-skipped (c .before .before .before .before .before .before .loop .inv .1) (c .before .before .before .before .before .loop-test .taken) (c .before .before .before .next .ensures) (c .before .x2 .given .1)))  -- loop-again-3
+    (λ c κs. search needs)  -- pass-requires-2
+    (λ c. omega (arith, skipped-some (c .before .before .before .before .before .before .before .loop .inv .1) (c .before .before .before .before .before .before .loop-test .taken) (c .before .before .before .before .next .ensures) (c .before .before .x2 .given .1), skipped-ends (c .before .before .before .before .before .before .before .loop .inv .1) (c .before .before .before .before .before .before .loop-test .taken) (c .before .before .before .before .next .ensures) (c .before .before .x2 .given .1), c .before .before .before .before .before .before .before .loop .inv .1 .within))  -- loop-less-3
+    (λ c. (c .before .before .before .before .before .before .before .loop .inv .0, inner-skipped (c .before .before .before .before .before .before .before .loop .inv .1) (c .before .before .before .before .before .before .loop-test .taken) (c .before .before .before .before .next .ensures) (c .before .before .x2 .given .1) (c .pass2 .ensures)))  -- loop-again-3
     (λ c. search needs)  -- enum-known-x-3
     (λ c. stop-fits (c .before .before .before .before .before .before .loop .inv .1) (c .before .before .before .before .before .loop-test .taken) (c .before .before .before .next .ensures) (c .before .x3 .given .1))  -- add-refusal
     (λ c κs. search needs)  -- refusal-requires

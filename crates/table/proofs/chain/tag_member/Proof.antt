@@ -1,15 +1,16 @@
 -- The loop's invariant: the members left to look at decide. The measure is their number. Assumes nothing.
 use borrow.Author.Needs.{needs}
+use Prim.Native.Nat.{_-_}
 use native.Mathlib.Omega.{arith}
 use Rattle.table.proofs.Chains.{Optionals, optionals-begin, optionals-here, optionals-next, optionals-end}
 use Rattle.table.proofs.chain.tag_member.Statement.{statement}
 use Rattle.table.proofs.chain.tag_member.Tie as tie
 
 abbrev Inv-loop : tie.InvT-loop
-Inv-loop table t tag m₀ left₀ m left = Optionals table t tag m left
+Inv-loop table t from tag end m₀ m = Optionals table t from tag end m
 
 abbrev μ-loop : tie.MeasureT-loop
-μ-loop table t tag m₀ left₀ m left = left
+μ-loop table t from tag end m₀ m = end - m
 
 pub tag-member-spec : {M : Type 1} → statement M
 tag-member-spec =
@@ -18,11 +19,12 @@ tag-member-spec =
     Inv-loop
     μ-loop
     (λ c κs. search needs)  -- type-row-requires
+    (λ c. search needs)  -- add-end
+    (λ c κs. search needs)  -- later-requires
     (λ c. search optionals-begin)  -- loop-holds
     (λ c κs. search needs)  -- has-tag-requires
     (λ c. search optionals-here)  -- returns
     (λ c. omega arith)  -- add-m
-    (λ c. omega arith)  -- sub-left
     (λ c. omega arith)  -- loop-less
     (λ c. search optionals-next)  -- loop-again
     (λ c. search optionals-end))  -- returns-2
