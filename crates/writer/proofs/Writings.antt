@@ -3,7 +3,7 @@
 --   answer-few                   too few row bytes: a refusal, and the output stays
 --   answer-wrong                 a row is wrong: the same
 --   answer-over, answer-room     22: the message is too long, or longer than the output
---   answer-short                 a message put into an array stands, copied, at the output's start
+--   answer-short                 a message put into a draft stands, copied, at the output's start
 --   answer-long                  a message put again stands at the output's start
 use mathlib.Core.Path.{_≡_, refl, sym, ap, _∙_}
 use mathlib.Core.Bool.{Bool, true, false, _&&_, not}

@@ -65,8 +65,49 @@ pub enum Outcome {
     Stopped(usize, usize),
 }
 
+// Rows to a message by a draft: the message is put into the draft first, which judges the rows and gives its length.
+// A message that fits there is copied, a longer one is put again, its parts not judged again.
+fn write_by_draft(
+    table: &[u8],
+    forms: &[u8; 256],
+    top: usize,
+    format: usize,
+    count: usize,
+    rows: &[u8],
+    buffer: &[u8],
+    draft: &mut [u8],
+    out: &mut [u8],
+) -> Outcome
+    requires { ⌜ now forms ≡ formsOf (now table) ⌝ }
+    requires { ⌜ (top < 65536) × (count ≤ 4294967296) × (length (now buffer) ≤ 65536) ⌝ }
+    ensures { λ r. ⌜ (r ≡ outcomeOf (written (now (table .entry)) top format count (now (rows .entry)) (now (buffer .entry)) (length (now (out .entry))))) × (now (out .exit) ≡ output (written (now (table .entry)) top format count (now (rows .entry)) (now (buffer .entry)) (length (now (out .entry)))) (now (out .entry))) ⌝ }
+{
+    if rows.len() / 12 < count {
+        return Outcome::Stopped(20, count);
+    }
+    let sliced = format != 0;
+    let put = message::put_message(table, forms, draft, top, sliced, false, count, rows, buffer);
+    match put {
+        Put::Wrong(number, place) => Outcome::Stopped(number, place),
+        Put::Made(n) => {
+            if 65536 < n {
+                return Outcome::Stopped(22, n);
+            }
+            if out.len() < n {
+                return Outcome::Stopped(22, n);
+            }
+            if n <= draft.len() {
+                wire::put_part(out, 0, draft, 0, n);
+                return Outcome::Made(n);
+            }
+            message::put_message(table, forms, out, top, sliced, true, count, rows, buffer);
+            Outcome::Made(n)
+        }
+    }
+}
+
 // Rows to a message, behind the judgements on table, type, format and buffer: judges the rows, each 20 then 21, then 22, and puts the message at the output's start.
-// The message is put into an array of 1,024 bytes first, which judges the rows and gives its length; a message that fits there is copied, a longer one is put again, its parts not judged again.
+// The draft has 256 bytes where the buffer is short, else 1,024: fewer bytes are cleared sooner.
 pub fn write_rows(
     table: &[u8],
     forms: &[u8; 256],
@@ -81,37 +122,30 @@ pub fn write_rows(
     requires { ⌜ (top < 65536) × (count ≤ 4294967296) × (length (now buffer) ≤ 65536) ⌝ }
     ensures { λ r. ⌜ (r ≡ outcomeOf (written (now (table .entry)) top format count (now (rows .entry)) (now (buffer .entry)) (length (now (out .entry))))) × (now (out .exit) ≡ output (written (now (table .entry)) top format count (now (rows .entry)) (now (buffer .entry)) (length (now (out .entry)))) (now (out .entry))) ⌝ }
 {
-    if rows.len() / 12 < count {
-        return Outcome::Stopped(20, count);
+    if buffer.len() <= 128 {
+        let mut few = [0u8; 256];
+        return write_by_draft(
+            table,
+            forms,
+            top,
+            format,
+            count,
+            rows,
+            buffer,
+            &mut few,
+            out,
+        );
     }
-    let sliced = format != 0;
-    let mut few = [0u8; 1024];
-    let put = message::put_message(
+    let mut more = [0u8; 1024];
+    write_by_draft(
         table,
         forms,
-        &mut few,
         top,
-        sliced,
-        false,
+        format,
         count,
         rows,
         buffer,
-    );
-    match put {
-        Put::Wrong(number, place) => Outcome::Stopped(number, place),
-        Put::Made(n) => {
-            if 65536 < n {
-                return Outcome::Stopped(22, n);
-            }
-            if out.len() < n {
-                return Outcome::Stopped(22, n);
-            }
-            if n <= 1024 {
-                wire::put_part(out, 0, &few, 0, n);
-                return Outcome::Made(n);
-            }
-            message::put_message(table, forms, out, top, sliced, true, count, rows, buffer);
-            Outcome::Made(n)
-        }
-    }
+        &mut more,
+        out,
+    )
 }
