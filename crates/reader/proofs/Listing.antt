@@ -175,7 +175,7 @@ module _ {T : List ℕ} {top : ℕ} {m : List ℕ} {whole : Outcome} {at least r
       pub listing-tag : Fits w64 (tag + 1)
       listing-tag = omega (arith, known-tag (Table.optional T top) least (drop at m) r answers i tag a n q)
 
-      pub listing-known : {out′ : List ℕ} → out′ ≡ put (12 * k) (rowBytes (record { member = i; place = at + a; len = n - a })) out → {row′ : ℕ} → row′ ≡ Tags.pass T top row tag
+      pub listing-known : {out′ : List ℕ} → out′ ≡ put (12 * k) (rowBytes (record { member = i; place = at + a; len = n - a })) out → {row′ : ℕ} → row′ ≡ Tags.onward T top row tag
           → Listing T top m whole (at + n) (tag + 1) row′ (k + 1) o out′
       unfolding listing
       listing-known {out′} w {row′} p = record {
@@ -206,7 +206,7 @@ module _ {T : List ℕ} {top : ℕ} {m : List ℕ} {whole : Outcome} {at least r
       pub listing-past-tag : Fits w64 (tag + 1)
       listing-past-tag = omega (arith, skipped-tag (Table.optional T top) least (drop at m) r answers tag n q)
 
-      pub listing-skipped : {row′ : ℕ} → row′ ≡ Tags.pass T top row tag → Listing T top m whole (at + n) (tag + 1) row′ k (o + 1) out
+      pub listing-skipped : {row′ : ℕ} → row′ ≡ Tags.onward T top row tag → Listing T top m whole (at + n) (tag + 1) row′ k (o + 1) out
       unfolding listing
       listing-skipped {row′} p = record {
         room = inv .room;

@@ -331,7 +331,7 @@ module _ {T : List ℕ} {top : ℕ} {m : List ℕ} {whole : Outcome} {stage : St
       pub count-fits : Fits w64 (k + 1)
       count-fits = omega (arith, inv .room, inv .few, inv .inside, inv .within)
 
-      pub inner-known : {out′ : List ℕ} → out′ ≡ put (12 * k) (rowBytes (record { member = i; place = at + a; len = n - a })) out → {row′ : ℕ} → row′ ≡ Tags.pass T t row tag
+      pub inner-known : {out′ : List ℕ} → out′ ≡ put (12 * k) (rowBytes (record { member = i; place = at + a; len = n - a })) out → {row′ : ℕ} → row′ ≡ Tags.onward T t row tag
           → Inner T top m whole stage pos t z from end s fst (at + n) (tag + 1) row′ (k + 1) o more out′
       unfolding amid
       inner-known {out′} w {row′} p = record {
@@ -370,7 +370,7 @@ module _ {T : List ℕ} {top : ℕ} {m : List ℕ} {whole : Outcome} {stage : St
       pub skipped-count : Fits w64 (o + 1)
       skipped-count = omega (arith, inv .room, inv .fewer, skipped-some, skipped-ends, inv .within)
 
-      pub inner-skipped : {row′ : ℕ} → row′ ≡ Tags.pass T t row tag → Inner T top m whole stage pos t z from end s fst (at + n) (tag + 1) row′ k (o + 1) more out
+      pub inner-skipped : {row′ : ℕ} → row′ ≡ Tags.onward T t row tag → Inner T top m whole stage pos t z from end s fst (at + n) (tag + 1) row′ k (o + 1) more out
       unfolding amid
       inner-skipped {row′} p = record {
         small = inv .small;

@@ -163,13 +163,13 @@ pub fn slices(
                                     count += 1;
                                     at += l;
                                     least = tag + 1;
-                                    row = table::chain::pass(table, t, row, tag);
+                                    row = table::chain::onward(table, t, row, tag);
                                 }
                                 Turn::Skipped(tag, l) => {
                                     optionals += 1;
                                     at += l;
                                     least = tag + 1;
-                                    row = table::chain::pass(table, t, row, tag);
+                                    row = table::chain::onward(table, t, row, tag);
                                 }
                                 Turn::Wrong(c, p) => {
                                     answer = refusal(pos, c, at + p);
@@ -243,13 +243,13 @@ pub fn list(
                         count += 1;
                         at += l;
                         least = tag + 1;
-                        row = table::chain::pass(table, top, row, tag);
+                        row = table::chain::onward(table, top, row, tag);
                     }
                     Optional::Skipped(tag, l) => {
                         optionals += 1;
                         at += l;
                         least = tag + 1;
-                        row = table::chain::pass(table, top, row, tag);
+                        row = table::chain::onward(table, top, row, tag);
                     }
                     Optional::Wrong(c, p) => {
                         return Walk::Stop(c, at + p);

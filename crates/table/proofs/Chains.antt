@@ -6,6 +6,7 @@
 --   later-..          the greater of two rows
 --   Optionals, optionals-..   the loop over a row's members that looks for a tag
 --   Passing, passing-..       the loop over them that passes those up to a tag
+--   onward-..         where the next look-up begins
 use Prim.Native.Nat.{ℕ, zero, suc, _+_, _-_, _≤_, _<_}
 use mathlib.Core.Path.{_≡_, refl, sym, ap, _∙_}
 use mathlib.Core.Bool.{Bool, true, false, _&&_, not}
@@ -18,7 +19,7 @@ use Rattle.encoding.specs.Result.{pick}
 use Rattle.encoding.specs.Table.{kind, field, isRecord, mark, tag, range, takes, any, base, upward, chain, Member, memberTy, optionalOf, trees, lookup}
 use Rattle.encoding.specs.TableLaws.{chain-row}
 use Rattle.table.specs.Found.{rowFound, hasTag}
-use Rattle.table.specs.Tags.{later, ownFrom, optionalFrom, isAbove, behind, pass}
+use Rattle.table.specs.Tags.{later, ownFrom, optionalFrom, isAbove, behind, pass, onward}
 use Rattle.table.specs.declared.Found.the-variants.{At, Nothing}
 use Rattle.table.proofs.Ranges.{range-more, range-none}
 
@@ -172,3 +173,14 @@ module _ (T : List ℕ) (t from key end m : ℕ) (inv : Passing T t from key end
   pub passing-end : end ≤ m → m ≡ pass T t from key
   unfolding behind
   passing-end h = let e : end - m ≡ 0 = omega arith in sym (inv ∙ rw e)
+
+-- ---- the next look-up
+
+module _ (T : List ℕ) (t from key b : ℕ) (eb : b ≡ field T t 1) where
+  pub onward-few : b < 16 → from ≡ onward T t from key
+  unfolding onward
+  onward-few h = rw (← eb, lt-ltb b 16 h)
+
+  pub onward-many : (r : ℕ) → 16 ≤ b → r ≡ pass T t from key → r ≡ onward T t from key
+  unfolding onward
+  onward-many r h e = rw (← eb, le-ltb b 16 h) e

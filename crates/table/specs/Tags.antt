@@ -6,6 +6,7 @@
 --   isAbove k m            member row m is optional and its tag is above k
 --   behind k m n           the first such row of n from row m on, or the row behind them
 --   pass t from k          the first such row of row t's, from a row on, or the row behind them
+--   onward t from k        where the look-up of a greater tag begins: where there are few members, where it did
 --   Passed t from least    each optional member of row t before a row has a tag below `least`
 use mathlib.Core.Path.{_≡_}
 use mathlib.Core.Bool.{Bool, _&&_, not}
@@ -33,6 +34,9 @@ behind T k m (suc n) = pick (isAbove T k m) m (behind T k (suc m) n)
 
 unfoldable pub pass : List ℕ → ℕ → ℕ → ℕ → ℕ
 pass T t from k = behind T k (later from (field T t 0)) (field T t 0 + field T t 1 - later from (field T t 0))
+
+unfoldable pub onward : List ℕ → ℕ → ℕ → ℕ → ℕ
+onward T t from k = pick (ltb (field T t 1) 16) from (pass T t from k)
 
 abbrev pub Passed : List ℕ → ℕ → ℕ → ℕ → Type 0
 Passed T t from least = (m : ℕ) → field T t 0 ≤ m → m < from → (mark T m ≡ 0 → ⊥) → tag T m < least

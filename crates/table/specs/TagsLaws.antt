@@ -14,7 +14,7 @@ use borrow.Author.Tests.{eqb-true, eqb-false, ltb-true, ltb-false, ne-eqb}
 use Rattle.encoding.specs.Result.{pick}
 use Rattle.encoding.specs.Types.{Ty}
 use Rattle.encoding.specs.Table.{field, mark, tag, range, trees, Member, memberTy, optionalOf, ownRows, optional, lookup}
-use Rattle.table.specs.Tags.{later, ownFrom, optionalFrom, isAbove, behind, pass, Passed}
+use Rattle.table.specs.Tags.{later, ownFrom, optionalFrom, isAbove, behind, pass, onward, Passed}
 
 -- ---- the greater of two
 
@@ -63,14 +63,22 @@ module _ (T : List ℕ) (t : ℕ) where
   passed-none m a l o = absurd (omega arith)
 
   module _ (from least : ℕ) (P : Passed T t from least) where
-    pub passed-on : (k : ℕ) → least ≤ k → Passed T t (pass T t from k) (k + 1)
+    passed-all : (k : ℕ) → least ≤ k → Passed T t (pass T t from k) (k + 1)
     unfolding pass
-    passed-on k h m a l o = go (ltb m from) refl
+    passed-all k h m a l o = go (ltb m from) refl
       where
         go : (b : Bool) → ltb m from ≡ b → tag T m < k + 1
         go true e = omega (arith, P m a (ltb-true m from e) o)
         go false e =
             omega (arith, behind-below T k (field T t 0 + field T t 1 - later from (field T t 0)) (later from (field T t 0)) m (later-most from (field T t 0) m (ltb-false m from e) a) l o)
+
+    pub passed-on : (k : ℕ) → least ≤ k → Passed T t (onward T t from k) (k + 1)
+    unfolding onward
+    passed-on k h = go (ltb (field T t 1) 16)
+      where
+        go : (b : Bool) → Passed T t (pick b from (pass T t from k)) (k + 1)
+        go true = λ m a l o. omega (arith, P m a l o)
+        go false = passed-all k h
 
 -- ---- the look-up
 

@@ -5,7 +5,7 @@ ghost use Prim.Native.Nat.{_≤_};
 ghost use lib.Dec.{eqb};
 ghost use Rattle.encoding.specs.Table.{any, takes, lookup, base, chain};
 ghost use Rattle.table.specs.Found.{rowFound, hasTag};
-ghost use Rattle.table.specs.Tags.{later, optionalFrom, isAbove, pass};
+ghost use Rattle.table.specs.Tags.{later, optionalFrom, isAbove, pass, onward};
 
 // The base row + 1, or 0; a base that is not smaller is none.
 pub fn base(table: &[u8], t: usize) -> usize
@@ -114,7 +114,7 @@ fn is_above(table: &[u8], m: usize, tag: usize) -> bool
 }
 
 // The first member row of row t, from a row on, that is optional and has a tag above a tag; or the row behind them.
-pub fn pass(table: &[u8], t: usize, from: usize, tag: usize) -> usize
+fn pass(table: &[u8], t: usize, from: usize, tag: usize) -> usize
     ensures { λ r. ⌜ r ≡ pass (now (table .entry)) t from tag ⌝ }
 {
     let row = crate::type_row(table, t);
@@ -127,4 +127,14 @@ pub fn pass(table: &[u8], t: usize, from: usize, tag: usize) -> usize
         m += 1;
     }
     m
+}
+
+// Where the look-up of a greater tag begins: behind the members that were passed. Where there are few, it begins where it did.
+pub fn onward(table: &[u8], t: usize, from: usize, tag: usize) -> usize
+    ensures { λ r. ⌜ r ≡ onward (now (table .entry)) t from tag ⌝ }
+{
+    if crate::field(table, t, 1) < 16 {
+        return from;
+    }
+    pass(table, t, from, tag)
 }

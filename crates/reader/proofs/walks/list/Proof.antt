@@ -42,16 +42,16 @@ list-spec =
     (λ c. listing-count (c .before .before .before .before .before .before .before .before .before .before .loop .inv .1) (c .before .before .before .before .before .before .before .before .before .loop-test .taken) (c .before .before .before .before .before .before .before .optional .ensures) (c .before .before .before .before .before .o .given .1))  -- add-count
     (λ c. listing-fits (c .before .before .before .before .before .before .before .before .before .before .loop .inv .1) (c .before .before .before .before .before .before .before .before .before .loop-test .taken) (c .before .before .before .before .before .before .before .optional .ensures) (c .before .before .before .before .before .o .given .1))  -- add-at-2
     (λ c. listing-tag (c .before .before .before .before .before .before .before .before .before .before .loop .inv .1) (c .before .before .before .before .before .before .before .before .before .loop-test .taken) (c .before .before .before .before .before .before .before .optional .ensures) (c .before .before .before .before .before .o .given .1))  -- add-least
-    (λ c κs. search needs)  -- pass-requires
+    (λ c κs. search needs)  -- onward-requires
     (λ c. omega (arith, listing-two (c .before .before .before .before .before .before .before .before .before .before .before .loop .inv .1) (c .before .before .before .before .before .before .before .before .before .before .loop-test .taken) (c .before .before .before .before .before .before .before .before .optional .ensures) (c .before .before .before .before .before .before .o .given .1), listing-within (c .before .before .before .before .before .before .before .before .before .before .before .loop .inv .1) (c .before .before .before .before .before .before .before .before .before .before .loop-test .taken) (c .before .before .before .before .before .before .before .before .optional .ensures) (c .before .before .before .before .before .before .o .given .1)))  -- loop-less
-    (λ c. (ap length (c .before .before .before .put-row .ensures) ∙ put-length _ _ _ ∙ c .before .before .before .before .before .before .before .before .before .before .before .loop .inv .0, listing-known (c .before .before .before .before .before .before .before .before .before .before .before .loop .inv .1) (c .before .before .before .before .before .before .before .before .before .before .loop-test .taken) (c .before .before .before .before .before .before .before .before .optional .ensures) (c .before .before .before .before .before .before .o .given .1) (c .before .before .before .put-row .ensures) (c .pass .ensures)))  -- loop-again
+    (λ c. (ap length (c .before .before .before .put-row .ensures) ∙ put-length _ _ _ ∙ c .before .before .before .before .before .before .before .before .before .before .before .loop .inv .0, listing-known (c .before .before .before .before .before .before .before .before .before .before .before .loop .inv .1) (c .before .before .before .before .before .before .before .before .before .before .loop-test .taken) (c .before .before .before .before .before .before .before .before .optional .ensures) (c .before .before .before .before .before .before .o .given .1) (c .before .before .before .put-row .ensures) (c .onward .ensures)))  -- loop-again
     (λ c. search needs)  -- enum-known-o-2
     (λ c. listing-skips (c .before .before .before .before .before .before .loop .inv .1) (c .before .before .before .before .before .loop-test .taken) (c .before .before .before .optional .ensures) (c .before .o2 .given .1))  -- add-optionals
     (λ c. listing-past-fits (c .before .before .before .before .before .before .loop .inv .1) (c .before .before .before .before .before .loop-test .taken) (c .before .before .before .optional .ensures) (c .before .o2 .given .1))  -- add-at-3
     (λ c. listing-past-tag (c .before .before .before .before .before .before .loop .inv .1) (c .before .before .before .before .before .loop-test .taken) (c .before .before .before .optional .ensures) (c .before .o2 .given .1))  -- add-least-2
-    (λ c κs. search needs)  -- pass-requires-2
+    (λ c κs. search needs)  -- onward-requires-2
     (λ c. omega (arith, listing-some (c .before .before .before .before .before .before .before .loop .inv .1) (c .before .before .before .before .before .before .loop-test .taken) (c .before .before .before .before .optional .ensures) (c .before .before .o2 .given .1), listing-past (c .before .before .before .before .before .before .before .loop .inv .1) (c .before .before .before .before .before .before .loop-test .taken) (c .before .before .before .before .optional .ensures) (c .before .before .o2 .given .1)))  -- loop-less-2
-    (λ c. (c .before .before .before .before .before .before .before .loop .inv .0, listing-skipped (c .before .before .before .before .before .before .before .loop .inv .1) (c .before .before .before .before .before .before .loop-test .taken) (c .before .before .before .before .optional .ensures) (c .before .before .o2 .given .1) (c .pass2 .ensures)))  -- loop-again-2
+    (λ c. (c .before .before .before .before .before .before .before .loop .inv .0, listing-skipped (c .before .before .before .before .before .before .before .loop .inv .1) (c .before .before .before .before .before .before .loop-test .taken) (c .before .before .before .before .optional .ensures) (c .before .before .o2 .given .1) (c .onward2 .ensures)))  -- loop-again-2
     (λ c. search needs)  -- enum-known-o-3
     (λ c. listing-stop (c .before .before .before .before .before .before .loop .inv .1) (c .before .before .before .before .before .loop-test .taken) (c .before .before .before .optional .ensures) (c .before .o3 .given .1))  -- add-t42
     (λ c. (c .before .before .before .before .before .before .loop .inv .0 ∙ c .before .before .before .before .before .before .before .before .before .before .before .before .required .ensures .1 .0))  -- same-length

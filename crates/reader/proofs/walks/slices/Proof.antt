@@ -71,16 +71,16 @@ slices-spec =
     (λ c. count-fits (c .before .before .before .before .before .before .before .before .before .before .loop .inv .1) (c .before .before .before .before .before .before .before .before .before .loop-test .taken) (c .before .before .before .before .before .before .before .next .ensures) (c .before .before .before .before .before .x .given .1))  -- add-count
     (λ c. next-fits (c .before .before .before .before .before .before .before .before .before .before .loop .inv .1) (c .before .before .before .before .before .before .before .before .before .loop-test .taken) (c .before .before .before .before .before .before .before .next .ensures) (c .before .before .before .before .before .x .given .1))  -- add-at-3
     (λ c. tag-fits (c .before .before .before .before .before .before .before .before .before .before .loop .inv .1) (c .before .before .before .before .before .before .before .before .before .loop-test .taken) (c .before .before .before .before .before .before .before .next .ensures) (c .before .before .before .before .before .x .given .1))  -- add-least
-    (λ c κs. search needs)  -- pass-requires
+    (λ c κs. search needs)  -- onward-requires
     (λ c. omega (arith, known-two (c .before .before .before .before .before .before .before .before .before .before .before .loop .inv .1) (c .before .before .before .before .before .before .before .before .before .before .loop-test .taken) (c .before .before .before .before .before .before .before .before .next .ensures) (c .before .before .before .before .before .before .x .given .1), known-ends (c .before .before .before .before .before .before .before .before .before .before .before .loop .inv .1) (c .before .before .before .before .before .before .before .before .before .before .loop-test .taken) (c .before .before .before .before .before .before .before .before .next .ensures) (c .before .before .before .before .before .before .x .given .1), c .before .before .before .before .before .before .before .before .before .before .before .loop .inv .1 .within))  -- loop-less-2
-    (λ c. (ap length (c .before .before .before .put-row .ensures) ∙ put-length _ _ _ ∙ c .before .before .before .before .before .before .before .before .before .before .before .loop .inv .0, inner-known (c .before .before .before .before .before .before .before .before .before .before .before .loop .inv .1) (c .before .before .before .before .before .before .before .before .before .before .loop-test .taken) (c .before .before .before .before .before .before .before .before .next .ensures) (c .before .before .before .before .before .before .x .given .1) (c .before .before .before .put-row .ensures) (c .pass .ensures)))  -- loop-again-2
+    (λ c. (ap length (c .before .before .before .put-row .ensures) ∙ put-length _ _ _ ∙ c .before .before .before .before .before .before .before .before .before .before .before .loop .inv .0, inner-known (c .before .before .before .before .before .before .before .before .before .before .before .loop .inv .1) (c .before .before .before .before .before .before .before .before .before .before .loop-test .taken) (c .before .before .before .before .before .before .before .before .next .ensures) (c .before .before .before .before .before .before .x .given .1) (c .before .before .before .put-row .ensures) (c .onward .ensures)))  -- loop-again-2
     (λ c. search needs)  -- enum-known-x-2
     (λ c. skipped-count (c .before .before .before .before .before .before .loop .inv .1) (c .before .before .before .before .before .loop-test .taken) (c .before .before .before .next .ensures) (c .before .x2 .given .1))  -- add-optionals
     (λ c. skipped-fits (c .before .before .before .before .before .before .loop .inv .1) (c .before .before .before .before .before .loop-test .taken) (c .before .before .before .next .ensures) (c .before .x2 .given .1))  -- add-at-4
     (λ c. skipped-tag-fits (c .before .before .before .before .before .before .loop .inv .1) (c .before .before .before .before .before .loop-test .taken) (c .before .before .before .next .ensures) (c .before .x2 .given .1))  -- add-least-2
-    (λ c κs. search needs)  -- pass-requires-2
+    (λ c κs. search needs)  -- onward-requires-2
     (λ c. omega (arith, skipped-some (c .before .before .before .before .before .before .before .loop .inv .1) (c .before .before .before .before .before .before .loop-test .taken) (c .before .before .before .before .next .ensures) (c .before .before .x2 .given .1), skipped-ends (c .before .before .before .before .before .before .before .loop .inv .1) (c .before .before .before .before .before .before .loop-test .taken) (c .before .before .before .before .next .ensures) (c .before .before .x2 .given .1), c .before .before .before .before .before .before .before .loop .inv .1 .within))  -- loop-less-3
-    (λ c. (c .before .before .before .before .before .before .before .loop .inv .0, inner-skipped (c .before .before .before .before .before .before .before .loop .inv .1) (c .before .before .before .before .before .before .loop-test .taken) (c .before .before .before .before .next .ensures) (c .before .before .x2 .given .1) (c .pass2 .ensures)))  -- loop-again-3
+    (λ c. (c .before .before .before .before .before .before .before .loop .inv .0, inner-skipped (c .before .before .before .before .before .before .before .loop .inv .1) (c .before .before .before .before .before .before .loop-test .taken) (c .before .before .before .before .next .ensures) (c .before .before .x2 .given .1) (c .onward2 .ensures)))  -- loop-again-3
     (λ c. search needs)  -- enum-known-x-3
     (λ c. stop-fits (c .before .before .before .before .before .before .loop .inv .1) (c .before .before .before .before .before .loop-test .taken) (c .before .before .before .next .ensures) (c .before .x3 .given .1))  -- add-refusal
     (λ c κs. search needs)  -- refusal-requires
