@@ -38,7 +38,7 @@ fn told(table: &[u8], top: u32, message: &[u8], room: usize, i: usize) -> u32
 }
 
 // The reader: 0 or the refusal number, and the rows in the lent list.
-// Wrong and ruled out: a call that gives 0 for a list too short; one that leaves the list as it was.
+// Wrong and ruled out: the refusal's place in place of its number; a call that leaves the list as it was.
 #[no_mangle]
 pub extern "C" fn icehub_read(table: &[u8], top: u32, message: &[u8], rows: &mut [u8]) -> u32
     ensures { λ r. ⌜ r ≡ readNumber (now (table .entry)) top (now (message .entry)) (length (now (rows .entry))) 0 ⌝ }
@@ -57,7 +57,7 @@ pub extern "C" fn icehub_read_place(table: &[u8], top: u32, message: &[u8], room
 }
 
 // The first known type.
-// Wrong and ruled out: the top in its place; a type where the message is refused.
+// Wrong and ruled out: the format in its place; the type that another list gives.
 #[no_mangle]
 pub extern "C" fn icehub_read_type(table: &[u8], top: u32, message: &[u8], room: usize) -> u32
     ensures { λ r. ⌜ r ≡ readNumber (now (table .entry)) top (now (message .entry)) room 2 ⌝ }
@@ -66,7 +66,7 @@ pub extern "C" fn icehub_read_type(table: &[u8], top: u32, message: &[u8], room:
 }
 
 // The format: 0 compact, 1 sliced or a parameter list.
-// Wrong and ruled out: 1 for every message; 1 where the message is refused.
+// Wrong and ruled out: the first known type in its place; the format that another list gives.
 #[no_mangle]
 pub extern "C" fn icehub_read_format(table: &[u8], top: u32, message: &[u8], room: usize) -> u32
     ensures { λ r. ⌜ r ≡ readNumber (now (table .entry)) top (now (message .entry)) room 3 ⌝ }
@@ -75,7 +75,7 @@ pub extern "C" fn icehub_read_format(table: &[u8], top: u32, message: &[u8], roo
 }
 
 // The row count.
-// Wrong and ruled out: the count where the list is too short; the rows that the list has room for.
+// Wrong and ruled out: the optionals skipped in its place; the count where the list is too short.
 #[no_mangle]
 pub extern "C" fn icehub_read_count(table: &[u8], top: u32, message: &[u8], room: usize) -> u32
     ensures { λ r. ⌜ r ≡ readNumber (now (table .entry)) top (now (message .entry)) room 4 ⌝ }
@@ -84,7 +84,7 @@ pub extern "C" fn icehub_read_count(table: &[u8], top: u32, message: &[u8], room
 }
 
 // How many optionals were skipped.
-// Wrong and ruled out: the slices skipped in their place; 0 for every message.
+// Wrong and ruled out: the slices skipped in their place; those that another list gives.
 #[no_mangle]
 pub extern "C" fn icehub_read_optionals_skipped(
     table: &[u8],
@@ -98,7 +98,7 @@ pub extern "C" fn icehub_read_optionals_skipped(
 }
 
 // How many slices were skipped.
-// Wrong and ruled out: the optionals skipped in their place; 0 for every message.
+// Wrong and ruled out: the optionals skipped in their place; those that another list gives.
 #[no_mangle]
 pub extern "C" fn icehub_read_slices_skipped(
     table: &[u8],
@@ -148,7 +148,7 @@ fn write_number(
 }
 
 // The writer: 0 or the refusal number, and the message at the output's start.
-// Wrong and ruled out: a call that gives 0 for an output too short; one that leaves the output as it was.
+// Wrong and ruled out: the refusal's place in place of its number; a call that leaves the output as it was.
 #[no_mangle]
 pub extern "C" fn icehub_write(
     table: &[u8],
@@ -169,7 +169,7 @@ pub extern "C" fn icehub_write(
 }
 
 // The refusal's place; 0 if written.
-// Wrong and ruled out: the refusal's number in place of its place; the bytes needed where the output holds them.
+// Wrong and ruled out: the refusal's number in its place; the place that another output gives.
 #[no_mangle]
 pub extern "C" fn icehub_write_place(
     table: &[u8],
@@ -186,7 +186,7 @@ pub extern "C" fn icehub_write_place(
 }
 
 // The message's length; 0 on a refusal.
-// Wrong and ruled out: the bytes needed where the output is too short; the output's length.
+// Wrong and ruled out: the bytes needed where the output is too short; the length that another output gives.
 #[no_mangle]
 pub extern "C" fn icehub_write_length(
     table: &[u8],
