@@ -2,10 +2,12 @@
 --
 --   mixed-.., due-.., flags-..   the judgements of flags
 --   text-..                      the cases of a string
+--   id-..                        a type ID, due or not: its cases, and that it lies within the bytes at hand
 --   seek-.., follow-..           the meaning of an ID while no slice was known yet, and behind a known one
 --   heading-..                   both, by where the walk stands
 --   head-..                      the cases of a head
 use mathlib.Core.Path.{_≡_, refl, sym, ap, _∙_}
+use mathlib.Core.Logic.{_⊎_, ⊎-elim}
 use mathlib.Core.Bool.{Bool, true, false, _&&_, _||_, not, Bool·beq}
 use mathlib.Core.Option.{Option, none, some}
 use mathlib.Core.List.{List, [], _∷_}
@@ -15,11 +17,12 @@ use native.Mathlib.Omega.{arith}
 use lib.ListN.{length, take, drop, length-drop}
 use lib.Seq.{length-take-le, drop-drop}
 use lib.Dec.{eqb, ltb}
+use denote.Enum.Declared.{tagOf}
 use mir.Syntax.{w64}
 use mir.Val.{Fits}
 use borrow.Author.Tests.{le-leb, lt-leb, lt-ltb, le-ltb, ne-eqb}
 use Rattle.encoding.specs.Result.{Res, ok, bad, pick, shift, after, _>>=_, pure, chunk, atFirst, item, judged, must, made, mapc, firstOf, sameBytes}
-use Rattle.encoding.specs.ResultLaws.{firstOf-ok, must-ok, held-took, held-refused, Ends, ends-chunk, ends-item, ends-bind}
+use Rattle.encoding.specs.ResultLaws.{firstOf-ok, must-ok, Held, held-took, held-refused, held-pure, held-pick, Ends, ends-chunk, ends-item, ends-bind}
 use Rattle.encoding.specs.Number.{byte, number, size, Content, string}
 use Rattle.encoding.specs.NumberLaws.{held-size, held-string}
 use Rattle.encoding.specs.Table.{at, any, chain, named, nameOf, base}
@@ -34,11 +37,12 @@ use Rattle.table.specs.declared.Found.the-variants.{At, Nothing}
 use Rattle.table.specs.Found.{foundOf}
 use Rattle.reader.specs.declared.Stage.{Stage}
 use Rattle.reader.specs.declared.Stage.the-variants.{First, Seeking, Following}
+use Rattle.reader.proofs.Stage.{the-type}
 use Rattle.reader.specs.declared.Heading.{Heading}
 use Rattle.reader.specs.declared.Heading.the-variants.{Skip, Known, Wrong}
 use Rattle.reader.specs.declared.Text.{Text}
 use Rattle.reader.specs.declared.Text.the-variants.{Is, Isnt}
-use Rattle.reader.specs.Stages.{stageOf, textOf, headOf, meaningAnswer, headAnswer, seekHeading, followHeading, heading}
+use Rattle.reader.specs.Stages.{stageOf, textOf, idText, headOf, meaningAnswer, headAnswer, seekHeading, followHeading, heading}
 
 -- ---- flags
 
@@ -236,13 +240,15 @@ module _ (T : List ℕ) (s : Bool) (b f : ℕ) (nm : List ℕ) (n : ℕ) where
       follow-row q x z ex ez = sym (follow-base h ∙ rw (sym eo ∙ no, ← el, sym ew ∙ q, ← ex, ← ez, format-sliced z))
 
 module _ (T : List ℕ) (top : ℕ) (stage : Stage) (f : ℕ) (nm : List ℕ) (n : ℕ) (r : Heading) where
-  pub heading-first : stage ≡ First → r ≡ seekHeading T top f nm n → r ≡ heading T top stage f nm n
+  -- by the variant's number: no slice was known yet
+  pub heading-seeking : (tagOf the-type stage ≡ 0) ⊎ (tagOf the-type stage ≡ 1) → r ≡ seekHeading T top f nm n → r ≡ heading T top stage f nm n
   unfolding heading
-  heading-first q e = rw q e
-
-  pub heading-seeking : stage ≡ Seeking → r ≡ seekHeading T top f nm n → r ≡ heading T top stage f nm n
-  unfolding heading
-  heading-seeking q e = rw q e
+  heading-seeking q e = go stage q
+    where
+      go : (s : Stage) → (tagOf the-type s ≡ 0) ⊎ (tagOf the-type s ≡ 1) → r ≡ heading T top s f nm n
+      go First q = e
+      go Seeking q = e
+      go (Following b k) q = absurd (⊎-elim (λ z. omega arith) (λ z. omega arith) q)
 
   pub heading-following : (s : Bool) (b : ℕ) → stage ≡ Following s b → r ≡ followHeading T s b f nm n → r ≡ heading T top stage f nm n
   unfolding heading
@@ -283,18 +289,36 @@ ends-string : Ends string
 unfolding string
 ends-string xs d n h = ends-item _ (ends-bind _ _ (λ n. ends-chunk n)) xs d n (must-ok _ xs Content h .0)
 
-module _ (s : List ℕ) (r : Text) (e : r ≡ textOf (string (take (length s - 1) (drop 1 s)))) where
-  string-text : r ≡ textOf (string (drop 1 s))
-  string-text = e ∙ ap (λ (z : List ℕ). textOf (string z)) (rest-is s 1)
+module _ (d : Bool) where
+  pub id-due : d ≡ true → (s : List ℕ) (r : Text) → r ≡ textOf (string s) → r ≡ textOf (idText d s)
+  unfolding idText
+  id-due q s r e = rw q e
+
+  pub id-none : d ≡ false → (s : List ℕ) → Is 0 0 ≡ textOf (idText d s)
+  unfolding idText pure textOf
+  id-none q s = rw q
+
+  held-id : Held (idText d)
+  unfolding idText
+  held-id = held-pick d string (pure []) held-string (held-pure [])
+
+ends-id : (d : Bool) → Ends (idText d)
+unfolding idText pure
+ends-id true xs b n h = ends-string xs b n h
+ends-id false xs b n h = let e : [] ≡ b = cc in let z : 0 ≡ n = cc in rw (← e, ← z) (record { within = omega arith; there = refl })
+
+module _ (s : List ℕ) (d : Bool) (r : Text) (e : r ≡ textOf (idText d (take (length s - 1) (drop 1 s)))) where
+  id-text : r ≡ textOf (idText d (drop 1 s))
+  id-text = e ∙ ap (λ (z : List ℕ). textOf (idText d z)) (rest-is s 1)
 
   module _ (h : 1 ≤ length s) where
     pub id-order : (a b : ℕ) → r ≡ Is a b → 1 + a ≤ 1 + b
-    id-order a b q = let I = text-is (string (drop 1 s)) a b (sym q ∙ string-text) in omega (arith, I .2)
+    id-order a b q = let I = text-is (idText d (drop 1 s)) a b (sym q ∙ id-text) in omega (arith, I .2)
 
     pub id-within : (a b : ℕ) → r ≡ Is a b → 1 + b ≤ length s
     id-within a b q =
-        let I = text-is (string (drop 1 s)) a b (sym q ∙ string-text) in
-        omega (arith, held-took string held-string (drop 1 s) (I .1), length-drop 1 s)
+        let I = text-is (idText d (drop 1 s)) a b (sym q ∙ id-text) in
+        omega (arith, held-took (idText d) (held-id d) (drop 1 s) (I .1), length-drop 1 s)
 
     pub id-start-fits : (a b : ℕ) → r ≡ Is a b → Fits w64 (length s) → Fits w64 (1 + a)
     id-start-fits a b q f = omega (arith, id-order a b q, id-within a b q)
@@ -303,7 +327,8 @@ module _ (s : List ℕ) (r : Text) (e : r ≡ textOf (string (take (length s - 1
     id-end-fits a b q f = omega (arith, id-within a b q)
 
     pub id-place-fits : (c p : ℕ) → r ≡ Isnt c p → Fits w64 (length s) → Fits w64 (1 + p)
-    id-place-fits c p q f = omega (arith, held-refused string held-string (drop 1 s) (text-isnt (string (drop 1 s)) c p (sym q ∙ string-text)), length-drop 1 s)
+    id-place-fits c p q f =
+        omega (arith, held-refused (idText d) (held-id d) (drop 1 s) (text-isnt (idText d (drop 1 s)) c p (sym q ∙ id-text)), length-drop 1 s)
 
 -- flags and ID, judged by 15 at the ID
 heading-answer : (T : List ℕ) (top : ℕ) (stage : Stage) (f : ℕ) (b : List ℕ) (n : ℕ)
@@ -346,6 +371,10 @@ module _ (T : List ℕ) (top : ℕ) (stage : Stage) (s : List ℕ) where
   unfolding must
   whole-is = head-judged T top (stageOf stage) (head (standOf (stageOf stage)) (idForm T (stageOf stage)) s)
 
+  -- the head of flags f, with an ID where one is due
+  abbrev heads : ℕ → Bool → Res Head
+  heads f b = shift 1 (made (λ nm _. headOf f nm) (pick b (must (idForm T (stageOf stage) (formatOf f)) string) (pure []) (drop 1 s)))
+
   pub head-none : length s < 1 → Wrong 4 0 ≡ whole
   unfolding head must judged _>>=_ after byte number chunk headAnswer
   head-none h = sym (whole-is ∙ rw (lt-leb 1 (length s) h))
@@ -356,36 +385,40 @@ module _ (T : List ℕ) (top : ℕ) (stage : Stage) (s : List ℕ) where
     head-flags n = sym (whole-is ∙ rw (le-leb 1 (length s) h, ← ef, ← ec, ne-eqb c 0 n))
 
     module _ (z : c ≡ 0) (d : Bool) (ed : d ≡ due (standOf (stageOf stage)) (formatOf f)) where
-      head-on : head (standOf (stageOf stage)) (idForm T (stageOf stage)) s
-          ≡ shift 1 (made (λ nm _. headOf f nm) (pick d (must (idForm T (stageOf stage) (formatOf f)) string) (pure []) (drop 1 s)))
+      head-on : whole ≡ headAnswer T top (stageOf stage) (heads f d)
       unfolding head must judged _>>=_ after byte number chunk mapc at
-      head-on = rw (le-leb 1 (length s) h, ← ef, ← ec, z, ← ed)
+      head-on = whole-is ∙ rw (le-leb 1 (length s) h, ← ef, ← ec, z, ← ed)
 
-      pub head-bare : d ≡ false → (r : Heading) → r ≡ heading T top stage f (take (1 - 1) (drop 1 s)) 1 → r ≡ whole
-      unfolding pure made shift
-      head-bare q r e =
-          e ∙ heading-bare T top stage f (sym ec ∙ z) (sym ed ∙ q)
-          ∙ sym (whole-is ∙ ap (headAnswer T top (stageOf stage)) (head-on ∙ rw q))
+      -- the ID, due or not, was read
+      head-read : (w : List ℕ) (n : ℕ) → idText d (drop 1 s) ≡ ok w n → heading T top stage f w (1 + n) ≡ whole
+      unfolding idText must pure made shift
+      head-read w n e = go d refl e ∙ sym head-on
+        where
+          go : (b : Bool) → d ≡ b → idText b (drop 1 s) ≡ ok w n → heading T top stage f w (1 + n) ≡ headAnswer T top (stageOf stage) (heads f b)
+          go true q k =
+              heading-answer T top stage f w n
+              ∙ ap (λ (i : Res (List ℕ)). headAnswer T top (stageOf stage) (shift 1 (made (λ nm _. headOf f nm) (judged (idForm T (stageOf stage) (formatOf f)) i)))) (sym k)
+          go false q k =
+              let v : w ≡ [] = cc in
+              let o : n ≡ 0 = cc in
+              rw (v, o) (heading-bare T top stage f (sym ec ∙ z) (sym ed ∙ q))
 
-      module _ (q : d ≡ true) (t : Text) (et : t ≡ textOf (string (take (length s - 1) (drop 1 s)))) where
-        head-text : head (standOf (stageOf stage)) (idForm T (stageOf stage)) s
-            ≡ shift 1 (made (λ nm _. headOf f nm) (judged (idForm T (stageOf stage) (formatOf f)) (string (drop 1 s))))
-        unfolding must
-        head-text = head-on ∙ rw q
-
+      module _ (t : Text) (et : t ≡ textOf (idText d (take (length s - 1) (drop 1 s)))) where
         pub head-unread : (c p : ℕ) → t ≡ Isnt c p → Wrong c (1 + p) ≡ whole
-        unfolding judged made shift headAnswer
-        head-unread c p k =
-            sym (whole-is ∙ ap (headAnswer T top (stageOf stage)) head-text ∙ rw (text-isnt (string (drop 1 s)) c p (sym k ∙ string-text s t et)))
+        unfolding idText must judged pure made shift headAnswer
+        head-unread c p k = sym (head-on ∙ go d (text-isnt (idText d (drop 1 s)) c p (sym k ∙ id-text s d t et)))
+          where
+            go : (b : Bool) → idText b (drop 1 s) ≡ bad c p → headAnswer T top (stageOf stage) (heads f b) ≡ Wrong c (1 + p)
+            go true q = rw q
+            go false q = let x : _≡_ {A = ℕ} 0 1 = cc in absurd (omega arith)
 
         pub head-named : (a b : ℕ) → t ≡ Is a b → (r : Heading) → r ≡ heading T top stage f (take (1 + b - (1 + a)) (drop (1 + a) s)) (1 + b) → r ≡ whole
-        head-named a b k r e = go (text-is (string (drop 1 s)) a b (sym k ∙ string-text s t et))
+        head-named a b k r e = go (text-is (idText d (drop 1 s)) a b (sym k ∙ id-text s d t et))
           where
-            go : (w : List ℕ) × (string (drop 1 s) ≡ ok w b) × (a ≡ b - length w) → r ≡ whole
+            go : (w : List ℕ) × (idText d (drop 1 s) ≡ ok w b) × (a ≡ b - length w) → r ≡ whole
             go I =
-                let E = ends-string (drop 1 s) (I .0) b (I .1) in
+                let E = ends-id d (drop 1 s) (I .0) b (I .1) in
                 let l : 1 + b - (1 + a) ≡ length (I .0) = omega (arith, I .2, E .within) in
                 let w : take (1 + b - (1 + a)) (drop (1 + a) s) ≡ I .0 =
                 ap (λ (i : ℕ). take i (drop (1 + a) s)) l ∙ ap (take (length (I .0))) (sym (drop-drop a 1 s) ∙ ap (λ (i : ℕ). drop i (drop 1 s)) (I .2)) ∙ E .there in
-                e ∙ ap (λ (i : List ℕ). heading T top stage f i (1 + b)) w ∙ heading-answer T top stage f (I .0) b
-                ∙ sym (whole-is ∙ ap (headAnswer T top (stageOf stage)) (head-text ∙ ap (λ (i : Res (List ℕ)). shift 1 (made (λ nm _. headOf f nm) (judged (idForm T (stageOf stage) (formatOf f)) i))) (I .1)))
+                e ∙ ap (λ (i : List ℕ). heading T top stage f i (1 + b)) w ∙ head-read (I .0) b (I .1)

@@ -2,6 +2,7 @@
 --
 --   stageOf          where the walk over slices stands, as the definitions have it
 --   textOf           a string: where its bytes begin and end
+--   idText           a type ID where one is due, else no bytes
 --   headOf           a head of flags and an ID
 --   meaningAnswer    what a head means: skip it, the slice of a known row, or a refusal
 --   headAnswer       the same of a head that was read, or the refusal of its reading
@@ -10,9 +11,10 @@
 --   heading          one of the two, by where the walk stands
 use mathlib.Core.Bool.{Bool, _&&_, not}
 use Prim.Native.Nat.{ℕ, _-_}
-use mathlib.Core.List.{List}
+use mathlib.Core.List.{List, []}
 use lib.ListN.{length}
-use Rattle.encoding.specs.Result.{Res, ok, bad, pick}
+use Rattle.encoding.specs.Result.{Res, ok, bad, Parser, pick, pure}
+use Rattle.encoding.specs.Number.{string}
 use Rattle.encoding.specs.Table.{named}
 use Rattle.encoding.specs.Slice.{compact, sliced, isSliced, bit, formatOf, first, later, seek, follow, Head, Meaning, skip, row, wrong, isNone, seekMeaning, meaning}
 use Rattle.encoding.specs.Slice
@@ -31,6 +33,9 @@ stageOf (Following s b) = follow (pick s sliced compact) b
 unfoldable pub textOf : Res (List ℕ) → Text
 textOf (ok b n) = Is (n - length b) n
 textOf (bad c p) = Isnt c p
+
+unfoldable pub idText : Bool → Parser (List ℕ)
+idText d = pick d string (pure [])
 
 abbrev pub headOf : ℕ → List ℕ → Head
 headOf f nm = record { format = formatOf f; optionals = bit f 4; last = bit f 32; id = nm }

@@ -5,7 +5,7 @@ ghost use Rattle.encoding.specs.Result.{must, sameBytes};
 ghost use Rattle.encoding.specs.Number.{string};
 ghost use Rattle.encoding.specs.Table.{nameOf};
 ghost use Rattle.encoding.specs.Slice.{formatOf, mixed, due, flagForm, head, standOf, idForm, wrongLast, meaning, meaningForm};
-ghost use Rattle.reader.specs.Stages.{stageOf, textOf, seekHeading, followHeading, heading, headAnswer};
+ghost use Rattle.reader.specs.Stages.{stageOf, textOf, idText, seekHeading, followHeading, heading, headAnswer};
 use crate::Heading;
 use crate::Stage;
 use crate::Text;
@@ -74,6 +74,16 @@ fn text(s: &[u8]) -> Text
         }
         Sized::Isnt(c, p) => Text::Isnt(c, 0),
     }
+}
+
+// A type ID where one is due: where its bytes begin and end; without one, an empty part.
+fn id_text(due: bool, s: &[u8]) -> Text
+    ensures { λ r. ⌜ r ≡ textOf (idText due (now (s .entry))) ⌝ }
+{
+    if due {
+        return text(s);
+    }
+    Text::Is(0, 0)
 }
 
 // Bit 5 is set on a row with a base, or is not on one without.
@@ -150,9 +160,8 @@ fn heading(table: &[u8], top: usize, stage: Stage, flags: usize, id: &[u8], n: u
     ensures { λ r. ⌜ r ≡ heading (now (table .entry)) top stage flags (now (id .entry)) n ⌝ }
 {
     match stage {
-        Stage::First => seek_heading(table, top, flags, id, n),
-        Stage::Seeking => seek_heading(table, top, flags, id, n),
         Stage::Following(sliced, b) => follow_heading(table, sliced, b, flags, id, n),
+        _ => seek_heading(table, top, flags, id, n),
     }
 }
 
@@ -168,13 +177,9 @@ pub fn slice_head(table: &[u8], top: usize, stage: Stage, s: &[u8]) -> Heading
     if c != 0 {
         return Heading::Wrong(c, 0);
     }
-    if due(stage, flags) {
-        let id = text(&s[1..]);
-        match id {
-            Text::Is(a, e) => heading(table, top, stage, flags, &s[1 + a..1 + e], 1 + e),
-            Text::Isnt(d, p) => Heading::Wrong(d, 1 + p),
-        }
-    } else {
-        heading(table, top, stage, flags, &s[1..1], 1)
+    let id = id_text(due(stage, flags), &s[1..]);
+    match id {
+        Text::Is(a, e) => heading(table, top, stage, flags, &s[1 + a..1 + e], 1 + e),
+        Text::Isnt(d, p) => Heading::Wrong(d, 1 + p),
     }
 }

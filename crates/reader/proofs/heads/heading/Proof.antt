@@ -1,5 +1,5 @@
 -- By where the walk stands. Assumes nothing.
-use Rattle.reader.proofs.Headings.{heading-first, heading-seeking, heading-following}
+use Rattle.reader.proofs.Headings.{heading-seeking, heading-following}
 use borrow.Author.Needs.{needs}
 use Rattle.reader.proofs.heads.heading.Statement.{statement}
 use Rattle.reader.proofs.heads.heading.Tie as tie
@@ -8,12 +8,8 @@ pub heading-spec : {M : Type 1} → statement M
 heading-spec =
     tie.close
     (tie.spec
-    (λ c. search needs)  -- enum-told
-    (λ c κs. search needs)  -- seek-heading-requires
-    (λ c. search needs)  -- enum-told-2
-    (λ c κs. search needs)  -- seek-heading-requires-2
     (λ c. search needs)  -- enum-known-stage
     (λ c κs. search needs)  -- follow-heading-requires
-    (λ c. search heading-first)  -- returns
-    (λ c. search heading-seeking)  -- returns-2
-    (λ c. search heading-following))  -- returns-3
+    (λ c κs. search needs)  -- seek-heading-requires
+    (λ c. search heading-following)  -- returns
+    (λ c. search heading-seeking))  -- returns-2

@@ -1,5 +1,5 @@
 -- The flags, then an ID where one is due, then what they mean; the ID lies within the bytes at hand. Assumes nothing.
-use Rattle.reader.proofs.Headings.{id-order, id-within, id-start-fits, id-end-fits, id-place-fits, head-none, head-flags, head-bare, head-unread, head-named}
+use Rattle.reader.proofs.Headings.{id-order, id-within, id-start-fits, id-end-fits, id-place-fits, head-none, head-flags, head-unread, head-named}
 use borrow.Author.Needs.{needs}
 use Rattle.reader.proofs.heads.slice_head.Statement.{statement}
 use Rattle.reader.proofs.heads.slice_head.Tie as tie
@@ -13,10 +13,10 @@ slice-head-spec =
     (λ c κs. search needs)  -- flag-form-requires
     (λ c. search head-flags)  -- returns-2
     (λ c κs. search needs)  -- due-requires
-    (λ c. search needs)  -- sub-text
-    (λ c. search needs)  -- part-text-start
-    (λ c. search needs)  -- part-text-end
-    (λ c κs. search needs)  -- text-requires
+    (λ c. search needs)  -- sub-id-text
+    (λ c. search needs)  -- part-id-text-start
+    (λ c. search needs)  -- part-id-text-end
+    (λ c κs. search needs)  -- id-text-requires
     (λ c. search needs)  -- enum-known-id
     (λ c. search (needs, id-start-fits))  -- add-heading
     (λ c. search (needs, id-end-fits))  -- add-heading-2
@@ -26,11 +26,6 @@ slice-head-spec =
     (λ c. search (needs, id-end-fits))  -- add-heading-3
     (λ c κs. search needs)  -- heading-requires
     (λ c. search needs)  -- enum-known-id-2
-    (λ c. search (needs, id-place-fits))  -- add-t28
-    (λ c. search needs)  -- sub-heading-2
-    (λ c. search needs)  -- part-heading-start-2
-    (λ c. search needs)  -- part-heading-end-2
-    (λ c κs. search needs)  -- heading-requires-2
+    (λ c. search (needs, id-place-fits))  -- add-t25
     (λ c. search head-named)  -- returns-3
-    (λ c. search head-unread)  -- returns-4
-    (λ c. search head-bare))  -- returns-5
+    (λ c. search head-unread))  -- returns-4

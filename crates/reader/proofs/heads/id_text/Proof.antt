@@ -1,0 +1,13 @@
+-- By whether an ID is due. Assumes nothing.
+use Rattle.reader.proofs.Headings.{id-due, id-none}
+use borrow.Author.Needs.{needs}
+use Rattle.reader.proofs.heads.id_text.Statement.{statement}
+use Rattle.reader.proofs.heads.id_text.Tie as tie
+
+pub id-text-spec : {M : Type 1} → statement M
+id-text-spec =
+    tie.close
+    (tie.spec
+    (λ c κs. search needs)  -- text-requires
+    (λ c. search id-due)  -- returns
+    (λ c. search id-none))  -- returns-2
