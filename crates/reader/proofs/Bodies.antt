@@ -1,8 +1,10 @@
 -- A whole message: its encapsulation, the three kinds of top, its end. Assumes nothing.
 --
 --   capsule-.., marker-.., ended-..    the cases of size and version, of a class's marker, of the end
+--   mark-..                            the marker, or no byte, lies within the message
 --   body-..                            what a walk over the contents makes of the message
 use mathlib.Core.Path.{_≡_, refl, sym, ap, ap₂, _∙_}
+use mathlib.Core.Bool.{Bool, true, false}
 use mathlib.Core.List.{List, [], _∷_}
 use Prim.Native.Nat.{ℕ, _+_, _-_, _≤_, _<_}
 use native.Mathlib.Omega.{arith}
@@ -12,15 +14,15 @@ use lib.Dec.{eqb}
 use borrow.Author.Tests.{lt-ltb, le-ltb, le-leb, lt-leb, eq-eqb, ne-eqb}
 use mir.Syntax.{w64}
 use mir.Val.{Fits}
-use Rattle.encoding.specs.Result.{Res, ok, bad, Parser, pick, shift, after, _>>=_, chunk, judged, must, made, mapc}
-use Rattle.encoding.specs.ResultLaws.{ok≢bad, shift-shift, Bound, bind-ok, chunk-ok, must-ok, bind-bad, bind-next, held-took, held-refused, held-must}
+use Rattle.encoding.specs.Result.{Res, ok, bad, Parser, pick, shift, after, _>>=_, pure, chunk, judged, must, made, mapc}
+use Rattle.encoding.specs.ResultLaws.{ok≢bad, shift-shift, Bound, bind-ok, chunk-ok, must-ok, bind-bad, bind-next, Held, held-took, held-refused, held-pure, held-pick, held-must}
 use Rattle.encoding.specs.Number.{val, byte, number}
 use Rattle.encoding.specs.NumberLaws.{held-byte, byte-canonical}
 use Rattle.encoding.specs.Table.{kind}
 use Rattle.encoding.specs.Table
 use Rattle.encoding.specs.Optional.{Piece}
-use Rattle.encoding.specs.Slice.{sliced, first, formatNumber, Chain, slices}
-use Rattle.encoding.specs.Message.{list, exception, class, Read, parameters, markerForm, contents, sizeForm, versionForm, body, pieceRows, firstIn, firstKnown, rows, skippedIn, passedIn, optionalsSkipped, slicesSkipped}
+use Rattle.encoding.specs.Slice.{sliced, Chain, slices}
+use Rattle.encoding.specs.Message.{list, exception, class, Read, parameters, markerForm, contents, sizeForm, versionForm, body, Row, pieceRows, firstKnown, rows, optionalsSkipped, slicesSkipped}
 use Rattle.encoding.specs.Message
 use Rattle.encoding.specs.MessageLaws.{ended-ok, held-contents}
 use Rattle.wire.specs.declared.Step.{Step}
@@ -30,7 +32,7 @@ use Rattle.wire.specs.StepLaws.{rest-is, step-took, step-fault}
 use Rattle.level.specs.Fill.{fill}
 use Rattle.reader.specs.declared.Walk.{Walk}
 use Rattle.reader.specs.declared.Walk.the-variants.{Done, Stop}
-use Rattle.reader.specs.Walks.{chainRows, sliceWalk, listWalk, capsule, endedWalk, readDone, readWalk, bodyWalk}
+use Rattle.reader.specs.Walks.{chainRows, sliceWalk, listWalk, capsule, markerOf, endedWalk, readDone, readWalk, bodyWalk}
 
 -- ---- size and version
 
@@ -81,6 +83,28 @@ module _ (s : List ℕ) where
     unfolding must judged byte number chunk markerForm stepOf Table.at
     marker-right q = rw (le-leb 1 (length s) h, ← e, eq-eqb b 1 q)
 
+module _ (k : ℕ) (s : List ℕ) where
+  pub marker-class : k ≡ 14 → (r : Step) → r ≡ stepOf (must markerForm byte s) → r ≡ stepOf (markerOf k s)
+  unfolding markerOf
+  marker-class h r e = rw (eq-eqb k 14 h) e
+
+  pub marker-bare : (k ≡ 14 → ⊥) → Took 0 ≡ stepOf (markerOf k s)
+  unfolding markerOf pure stepOf
+  marker-bare h = rw (ne-eqb k 14 h)
+
+held-marker : (k : ℕ) → Held (markerOf k)
+unfolding markerOf
+held-marker k = held-pick (eqb k 14) (must markerForm byte) (pure 0) (held-must byte held-byte markerForm) (held-pure 0)
+
+-- a class instance's marker is one byte
+marker-takes : (k : ℕ) (xs : List ℕ) (b i : ℕ) → markerOf k xs ≡ ok b i → i ≡ pick (eqb k 14) 1 0
+unfolding markerOf pure
+marker-takes k xs b i e = go (eqb k 14) e
+  where
+    go : (c : Bool) → pick c (must markerForm byte) (pure 0) xs ≡ ok b i → i ≡ pick c 1 0
+    go true h = byte-canonical xs (must-ok byte xs markerForm h .0) .1
+    go false h = cc
+
 -- ---- the end
 
 module _ (w : Walk) (l : ℕ) where
@@ -116,75 +140,62 @@ ok-same e = cc
 asList : List Piece → ℕ → Read
 asList ps _ = record { format = sliced; pieces = list ps }
 
-asException : Chain → ℕ → Read
-asException c _ = record { format = c .format; pieces = exception (c .list) }
+-- a class instance's slices, or an exception's
+asSlices : Bool → Chain → ℕ → Read
+asSlices b c _ = record { format = c .format; pieces = pick b class exception (c .list) }
 
-asClass : Chain → ℕ → Read
-asClass c _ = record { format = c .format; pieces = class (c .list) }
+shift-none : {A : Type 0} (r : Res A) → shift 0 r ≡ r
+unfolding shift
+shift-none (ok a n) = ap (ok a) (omega arith)
+shift-none (bad c p) = ap (bad c) (omega arith)
 
 module _ (T : List ℕ) (top : ℕ) (xs : List ℕ) where
   contents-list : kind T top ≡ 15 → contents T top xs ≡ made asList (parameters T top xs)
   unfolding contents mapc asList
   contents-list k = rw (eq-eqb (kind T top) 15 k)
 
-  module _ (n : kind T top ≡ 15 → ⊥) where
-    contents-exception : (kind T top ≡ 14 → ⊥) → contents T top xs ≡ made asException (slices T top xs)
-    unfolding contents mapc asException
-    contents-exception k = rw (ne-eqb (kind T top) 15 n, ne-eqb (kind T top) 14 k)
+  contents-slices : (kind T top ≡ 15 → ⊥) → contents T top xs ≡ (markerOf (kind T top) >>= λ _. mapc (asSlices (eqb (kind T top) 14)) (slices T top)) xs
+  unfolding contents markerOf _>>=_ after pure mapc asSlices
+  contents-slices n = rw (ne-eqb (kind T top) 15 n) (go (eqb (kind T top) 14))
+    where
+      go : (b : Bool) → pick b (must markerForm byte >>= λ _. mapc (asSlices true) (slices T top)) (mapc (asSlices false) (slices T top)) xs
+          ≡ (pick b (must markerForm byte) (pure 0) >>= λ _. mapc (asSlices b) (slices T top)) xs
+      go true = refl
+      go false = sym (shift-none (mapc (asSlices false) (slices T top) xs))
 
-    contents-marked : kind T top ≡ 14 → contents T top xs ≡ (must markerForm byte >>= λ _. mapc asClass (slices T top)) xs
-    unfolding contents asClass
-    contents-marked k = rw (ne-eqb (kind T top) 15 n, eq-eqb (kind T top) 14 k)
+-- ---- what the walks answer of them, and their rows
 
-    contents-class : kind T top ≡ 14 → (b : ℕ) → must markerForm byte xs ≡ ok b 1 → contents T top xs ≡ shift 1 (made asClass (slices T top (drop 1 xs)))
-    unfolding mapc
-    contents-class k b e = contents-marked k ∙ bind-next (must markerForm byte) _ xs e
-
-    contents-unmarked : kind T top ≡ 14 → (c p : ℕ) → must markerForm byte xs ≡ bad c p → contents T top xs ≡ bad c p
-    contents-unmarked k c p e = contents-marked k ∙ bind-bad (must markerForm byte) _ xs e
-
-  -- what the walks answer of them
+module _ (T : List ℕ) (top : ℕ) where
   walk-list : (r : Res (List Piece)) → readWalk T top 6 (made asList r) ≡ listWalk T top 6 r
   unfolding readWalk readDone made asList listWalk firstKnown rows optionalsSkipped slicesSkipped
   walk-list (ok ps n) = refl
   walk-list (bad c p) = refl
 
-  walk-exception : (r : Res Chain) → readWalk T top 6 (made asException r) ≡ sliceWalk T 6 r
-  unfolding readWalk readDone made asException sliceWalk chainRows firstKnown rows optionalsSkipped slicesSkipped
-  walk-exception (ok c n) = refl
-  walk-exception (bad c p) = refl
+  walk-slices : (b : Bool) (r : Res Chain) → readWalk T top 6 (shift (pick b 1 0) (made (asSlices b) r)) ≡ sliceWalk T (6 + pick b 1 0) r
+  unfolding readWalk readDone shift made asSlices sliceWalk chainRows firstKnown rows optionalsSkipped slicesSkipped
+  walk-slices b (ok c n) = ap (readDone T top (asSlices b c n)) (omega arith) ∙ go b
+    where
+      go : (b : Bool) → readDone T top (asSlices b c n) (6 + pick b 1 0 + n) ≡ sliceWalk T (6 + pick b 1 0) (ok c n)
+      go true = refl
+      go false = refl
+  walk-slices b (bad c p) = ap (Stop c) (omega arith)
 
-  walk-class : (r : Res Chain) → readWalk T top 6 (shift 1 (made asClass r)) ≡ sliceWalk T 7 r
-  unfolding readWalk readDone shift made asClass sliceWalk chainRows firstKnown rows optionalsSkipped slicesSkipped
-  walk-class (ok c n) =
-      let e : 6 + (1 + n) ≡ 7 + n = omega arith in
-      ap (Done (firstIn T (c .list)) (formatNumber (c .format)) (length (chainRows T 7 c)) (skippedIn (c .list)) (passedIn (c .list))) e
-  walk-class (bad c p) = let e : 6 + (1 + p) ≡ 7 + p = omega arith in ap (Stop c) e
+  list-rows : (ps : List Piece) (n : ℕ) → pieceRows T top 6 ps ≡ rows T top (asList ps n .format) (asList ps n .pieces)
+  unfolding asList rows
+  list-rows ps n = refl
 
--- ---- their rows
+  slice-rows : (b : Bool) (c : Chain) (n : ℕ) → chainRows T (6 + pick b 1 0) c ≡ rows T top (asSlices b c n .format) (asSlices b c n .pieces)
+  unfolding asSlices rows chainRows
+  slice-rows true c n = refl
+  slice-rows false c n = refl
 
-module _ (T : List ℕ) (top : ℕ) where
-  list-rows : (y : Res (List Piece)) (r : Read) (j : ℕ) → made asList y ≡ ok r j → (out l : List ℕ) → ((ps : List Piece) (n : ℕ) → y ≡ ok ps n → out ≡ fill 0 (pieceRows T top 6 ps) l)
-      → out ≡ fill 0 (rows T top (r .format) (r .pieces)) l
-  unfolding made asList rows
-  list-rows (ok ps n) r j e out l fills = fills ps n refl ∙ ap (λ (x : Read). fill 0 (rows T top (x .format) (x .pieces)) l) (ok-same e)
-  list-rows (bad c p) r j e out l fills = absurd (ok≢bad e refl)
-
-  exception-rows : (y : Res Chain) (r : Read) (j : ℕ) → made asException y ≡ ok r j → (out l : List ℕ) → ((c : Chain) (n : ℕ) → y ≡ ok c n → out ≡ fill 0 (chainRows T 6 c) l)
-      → out ≡ fill 0 (rows T top (r .format) (r .pieces)) l
-  unfolding made asException rows chainRows
-  exception-rows (ok c n) r j e out l fills = fills c n refl ∙ ap (λ (x : Read). fill 0 (rows T top (x .format) (x .pieces)) l) (ok-same e)
-  exception-rows (bad c p) r j e out l fills = absurd (ok≢bad e refl)
-
-  class-rows : (y : Res Chain) (r : Read) (j : ℕ) → made asClass y ≡ ok r j → (out l : List ℕ) → ((c : Chain) (n : ℕ) → y ≡ ok c n → out ≡ fill 0 (chainRows T 7 c) l)
-      → out ≡ fill 0 (rows T top (r .format) (r .pieces)) l
-  unfolding made asClass rows chainRows
-  class-rows (ok c n) r j e out l fills = fills c n refl ∙ ap (λ (x : Read). fill 0 (rows T top (x .format) (x .pieces)) l) (ok-same e)
-  class-rows (bad c p) r j e out l fills = absurd (ok≢bad e refl)
-
--- a marker takes one byte
-marker-one : (xs : List ℕ) (i : ℕ) → (b : ℕ) × (must markerForm byte xs ≡ ok b i) → (b : ℕ) × (must markerForm byte xs ≡ ok b 1)
-marker-one xs i K = (K .0, K .1 ∙ ap (ok (K .0)) (byte-canonical xs (must-ok byte xs markerForm (K .1) .0) .1))
+  -- a list filled with the rows of what was read
+  filled : {A : Type 0} (f : A → ℕ → Read) (g : A → List Row) → ((a : A) (n : ℕ) → g a ≡ rows T top (f a n .format) (f a n .pieces)) → (y : Res A) (r : Read) (j : ℕ) → made f y ≡ ok r j
+      → (out l : List ℕ) → ((a : A) (n : ℕ) → y ≡ ok a n → out ≡ fill 0 (g a) l) → out ≡ fill 0 (rows T top (r .format) (r .pieces)) l
+  unfolding made
+  filled f g same (ok a n) r j e out l fills =
+      fills a n refl ∙ ap (λ (x : List Row). fill 0 x l) (same a n) ∙ ap (λ (x : Read). fill 0 (rows T top (x .format) (x .pieces)) l) (ok-same e)
+  filled f g same (bad c p) r j e out l fills = absurd (ok≢bad e refl)
 
 -- ---- the message
 
@@ -279,74 +290,76 @@ module _ (T : List ℕ) (top : ℕ) (m : List ℕ) where
 
           pub body-list : (w v : Walk) → w ≡ listWalk T top 6 (parameters T top (drop 6 m)) → v ≡ endedWalk (length m) w → v ≡ bodyWalk T top (body T top m)
           body-list w v ew ev =
-              ev ∙ ap (endedWalk (length m)) (ew ∙ sym (ap (readWalk T top 6) lists ∙ walk-list T top (drop 6 m) (parameters T top (drop 6 m)))) ∙ by-contents
+              ev ∙ ap (endedWalk (length m)) (ew ∙ sym (ap (readWalk T top 6) lists ∙ walk-list T top (parameters T top (drop 6 m)))) ∙ by-contents
 
           pub body-list-gives : (out l : List ℕ) → ((ps : List Piece) (n : ℕ) → parameters T top (drop 6 m) ≡ ok ps n → out ≡ fill 0 (pieceRows T top 6 ps) l)
               → (r : Read) (n : ℕ) → body T top m ≡ ok r n → out ≡ fill 0 (rows T top (r .format) (r .pieces)) l
           body-list-gives out l fills r n e =
               let C = contents-ok r n e in
-              list-rows T top (parameters T top (drop 6 m)) r (C .0) (sym lists ∙ C .1) out l fills
+              filled T top asList (pieceRows T top 6) (list-rows T top) (parameters T top (drop 6 m)) r (C .0) (sym lists ∙ C .1) out l fills
 
-        module _ (u : k ≡ 15 → ⊥) where
-          not-list : kind T top ≡ 15 → ⊥
-          not-list z = u (ek ∙ z)
+        -- slices, behind a class instance's marker
+        module _ (u : k ≡ 15 → ⊥) (mark : Step) (em : mark ≡ stepOf (markerOf k (take (length m - 6) (drop 6 m)))) where
+          marks : mark ≡ stepOf (markerOf (kind T top) (drop 6 m))
+          marks = em ∙ ap₂ (λ (i : ℕ) (l : List ℕ). stepOf (markerOf i l)) ek (rest-is m 6)
 
-          -- an exception
-          module _ (h : k ≡ 14 → ⊥) where
-            excepts : contents T top (drop 6 m) ≡ made asException (slices T top (drop 6 m))
-            excepts = contents-exception T top (drop 6 m) not-list (λ z. h (ek ∙ z))
+          sliced-in : ℕ → Parser Read
+          sliced-in _ = mapc (asSlices (eqb (kind T top) 14)) (slices T top)
 
-            pub body-exception : (w v : Walk) → w ≡ sliceWalk T 6 (slices T top (drop 6 m)) → v ≡ endedWalk (length m) w → v ≡ bodyWalk T top (body T top m)
-            body-exception w v ew ev =
-                ev ∙ ap (endedWalk (length m)) (ew ∙ sym (ap (readWalk T top 6) excepts ∙ walk-exception T top (drop 6 m) (slices T top (drop 6 m)))) ∙ by-contents
+          by-slices : contents T top (drop 6 m) ≡ (markerOf (kind T top) >>= sliced-in) (drop 6 m)
+          unfolding sliced-in
+          by-slices = contents-slices T top (drop 6 m) (λ z. u (ek ∙ z))
 
-            pub body-exception-gives : (out l : List ℕ) → ((c : Chain) (n : ℕ) → slices T top (drop 6 m) ≡ ok c n → out ≡ fill 0 (chainRows T 6 c) l)
+          module _ (c p : ℕ) (g : mark ≡ Fault c p) where
+            unmarked : markerOf (kind T top) (drop 6 m) ≡ bad c p
+            unmarked = step-fault (markerOf (kind T top) (drop 6 m)) c p (sym g ∙ marks)
+
+            body-bad : body T top m ≡ bad c (6 + p)
+            body-bad = inside .1 ∙ after-bad 6 m (contents T top (drop 6 m)) c p (by-slices ∙ bind-bad (markerOf (kind T top)) sliced-in (drop 6 m) unmarked)
+
+            pub body-unmarked : Stop c (6 + p) ≡ bodyWalk T top (body T top m)
+            unfolding bodyWalk
+            body-unmarked = rw body-bad
+
+            pub body-unmarked-gives : (out l : List ℕ) (r : Read) (n : ℕ) → body T top m ≡ ok r n → out ≡ fill 0 (rows T top (r .format) (r .pieces)) l
+            body-unmarked-gives out l r n e = absurd (ok≢bad e body-bad)
+
+            pub mark-place : Fits w64 (length m) → Fits w64 (6 + p)
+            mark-place f = omega (arith, held-refused (markerOf (kind T top)) (held-marker (kind T top)) (drop 6 m) unmarked, length-drop 6 m, inside .0)
+
+          module _ (i : ℕ) (g : mark ≡ Took i) where
+            marked : (b : ℕ) × (markerOf (kind T top) (drop 6 m) ≡ ok b i)
+            marked = step-took (markerOf (kind T top) (drop 6 m)) i (sym g ∙ marks)
+
+            takes : i ≡ pick (eqb (kind T top) 14) 1 0
+            takes = marker-takes (kind T top) (drop 6 m) (marked .0) i (marked .1)
+
+            pub mark-within : 6 + i ≤ length m
+            mark-within = omega (arith, held-took (markerOf (kind T top)) (held-marker (kind T top)) (drop 6 m) (marked .1), length-drop 6 m, inside .0)
+
+            pub mark-fits : Fits w64 (length m) → Fits w64 (6 + i)
+            mark-fits f = omega (arith, mark-within)
+
+            by-chain : contents T top (drop 6 m) ≡ shift i (made (asSlices (eqb (kind T top) 14)) (slices T top (drop (6 + i) m)))
+            unfolding sliced-in mapc
+            by-chain =
+                by-slices ∙ bind-next (markerOf (kind T top)) sliced-in (drop 6 m) (marked .1)
+                ∙ ap (λ (l : List ℕ). shift i (made (asSlices (eqb (kind T top) 14)) (slices T top l))) (drop-drop i 6 m)
+
+            walked : readWalk T top 6 (contents T top (drop 6 m)) ≡ sliceWalk T (6 + i) (slices T top (drop (6 + i) m))
+            walked =
+                ap (readWalk T top 6) by-chain
+                ∙ ap (λ (j : ℕ). readWalk T top 6 (shift j (made (asSlices (eqb (kind T top) 14)) (slices T top (drop (6 + i) m))))) takes
+                ∙ walk-slices T top (eqb (kind T top) 14) (slices T top (drop (6 + i) m))
+                ∙ ap (λ (j : ℕ). sliceWalk T (6 + j) (slices T top (drop (6 + i) m))) (sym takes)
+
+            pub body-slices : (w v : Walk) → w ≡ sliceWalk T (6 + i) (slices T top (drop (6 + i) m)) → v ≡ endedWalk (length m) w → v ≡ bodyWalk T top (body T top m)
+            body-slices w v ew ev = ev ∙ ap (endedWalk (length m)) (ew ∙ sym walked) ∙ by-contents
+
+            pub body-slices-gives : (out l : List ℕ) → ((c : Chain) (n : ℕ) → slices T top (drop (6 + i) m) ≡ ok c n → out ≡ fill 0 (chainRows T (6 + i) c) l)
                 → (r : Read) (n : ℕ) → body T top m ≡ ok r n → out ≡ fill 0 (rows T top (r .format) (r .pieces)) l
-            body-exception-gives out l fills r n e =
+            body-slices-gives out l fills r n e =
                 let C = contents-ok r n e in
-                exception-rows T top (slices T top (drop 6 m)) r (C .0) (sym excepts ∙ C .1) out l fills
-
-          -- a class instance
-          module _ (h : k ≡ 14) (mark : Step) (em : mark ≡ stepOf (must markerForm byte (take (length m - 6) (drop 6 m)))) where
-            marks : mark ≡ stepOf (must markerForm byte (drop 6 m))
-            marks = em ∙ ap (λ (l : List ℕ). stepOf (must markerForm byte l)) (rest-is m 6)
-
-            module _ (c p : ℕ) (g : mark ≡ Fault c p) where
-              unmarked : body T top m ≡ bad c (6 + p)
-              unmarked =
-                  inside .1 ∙ after-bad 6 m (contents T top (drop 6 m)) c p
-                  (contents-unmarked T top (drop 6 m) not-list (sym ek ∙ h) c p (step-fault (must markerForm byte (drop 6 m)) c p (sym g ∙ marks)))
-
-              pub body-unmarked : Stop c (6 + p) ≡ bodyWalk T top (body T top m)
-              unfolding bodyWalk
-              body-unmarked = rw unmarked
-
-              pub body-unmarked-gives : (out l : List ℕ) (r : Read) (n : ℕ) → body T top m ≡ ok r n → out ≡ fill 0 (rows T top (r .format) (r .pieces)) l
-              body-unmarked-gives out l r n e = absurd (ok≢bad e unmarked)
-
-              pub mark-place : Fits w64 (length m) → Fits w64 (6 + p)
-              mark-place f =
-                  omega (arith, held-refused (must markerForm byte) (held-must byte held-byte markerForm) (drop 6 m) (step-fault (must markerForm byte (drop 6 m)) c p (sym g ∙ marks)), length-drop 6 m, inside .0)
-
-            module _ (i : ℕ) (g : mark ≡ Took i) where
-              marked : (b : ℕ) × (must markerForm byte (drop 6 m) ≡ ok b 1)
-              marked = marker-one (drop 6 m) i (step-took (must markerForm byte (drop 6 m)) i (sym g ∙ marks))
-
-              pub body-seven : 7 ≤ length m
-              body-seven = omega (arith, held-took (must markerForm byte) (held-must byte held-byte markerForm) (drop 6 m) (marked .1), length-drop 6 m, inside .0)
-
-              classes : contents T top (drop 6 m) ≡ shift 1 (made asClass (slices T top (drop 7 m)))
-              classes =
-                  contents-class T top (drop 6 m) not-list (sym ek ∙ h) (marked .0) (marked .1)
-                  ∙ ap (λ (l : List ℕ). shift 1 (made asClass (slices T top l))) (drop-drop 1 6 m)
-
-              pub body-class : (w v : Walk) → w ≡ sliceWalk T 7 (slices T top (drop 7 m)) → v ≡ endedWalk (length m) w → v ≡ bodyWalk T top (body T top m)
-              body-class w v ew ev =
-                  ev ∙ ap (endedWalk (length m)) (ew ∙ sym (ap (readWalk T top 6) classes ∙ walk-class T top (drop 7 m) (slices T top (drop 7 m)))) ∙ by-contents
-
-              pub body-class-gives : (out l : List ℕ) → ((c : Chain) (n : ℕ) → slices T top (drop 7 m) ≡ ok c n → out ≡ fill 0 (chainRows T 7 c) l)
-                  → (r : Read) (n : ℕ) → body T top m ≡ ok r n → out ≡ fill 0 (rows T top (r .format) (r .pieces)) l
-              body-class-gives out l fills r n e =
-                  let C = contents-ok r n e in
-                  let S = shift-ok 1 (made asClass (slices T top (drop 7 m))) r (C .0) (sym classes ∙ C .1) in
-                  class-rows T top (slices T top (drop 7 m)) r (S .0) (S .1) out l fills
+                let S = shift-ok i (made (asSlices (eqb (kind T top) 14)) (slices T top (drop (6 + i) m))) r (C .0) (sym by-chain ∙ C .1) in
+                filled T top (asSlices (eqb (kind T top) 14)) (chainRows T (6 + pick (eqb (kind T top) 14) 1 0)) (slice-rows T top (eqb (kind T top) 14)) (slices T top (drop (6 + i) m)) r (S .0) (S .1) out l
+                (λ c j h. fills c j h ∙ ap (λ (x : ℕ). fill 0 (chainRows T (6 + x) c) l) takes)

@@ -3,6 +3,7 @@
 --   sliceWalk      of the slices of a record
 --   listWalk       of a parameter list
 --   capsule        an encapsulation's size and version
+--   markerOf       a class instance's marker byte; no byte before the slices of another kind
 --   endedWalk      the same where a message ends at a place: 18 for bytes behind
 --   readWalk       of what an encapsulation holds
 --   bodyWalk       of a whole message: its first known type, format, rows, optionals and slices skipped, and its end; or a refusal
@@ -10,12 +11,12 @@ use Prim.Native.Nat.{ℕ, _+_}
 use mathlib.Core.List.{List}
 use lib.ListN.{length}
 use lib.Dec.{eqb}
-use Rattle.encoding.specs.Result.{Res, ok, bad, Parser, pick, _>>=_, must}
-use Rattle.encoding.specs.Number.{number}
+use Rattle.encoding.specs.Result.{Res, ok, bad, Parser, pick, _>>=_, pure, must}
+use Rattle.encoding.specs.Number.{byte, number}
 use Rattle.encoding.specs.Table.{chain}
 use Rattle.encoding.specs.Optional.{Piece}
 use Rattle.encoding.specs.Slice.{first, formatNumber, Chain}
-use Rattle.encoding.specs.Message.{sizeForm, versionForm, Row, Read, pieceRows, sliceRows, firstIn, firstKnown, rows, skippedPieces, skippedIn, passedIn, optionalsSkipped, slicesSkipped}
+use Rattle.encoding.specs.Message.{markerForm, sizeForm, versionForm, Row, Read, pieceRows, sliceRows, firstIn, firstKnown, rows, skippedPieces, skippedIn, passedIn, optionalsSkipped, slicesSkipped}
 use Rattle.reader.specs.declared.Walk.{Walk}
 use Rattle.reader.specs.declared.Walk.the-variants.{Done, Stop}
 
@@ -34,6 +35,9 @@ listWalk T top at (bad c p) = Stop c (at + p)
 
 unfoldable pub capsule : Parser ℕ
 capsule m = (must (sizeForm (length m)) (number 4) >>= λ _. must versionForm (number 2)) m
+
+unfoldable pub markerOf : ℕ → Parser ℕ
+markerOf k = pick (eqb k 14) (must markerForm byte) (pure 0)
 
 -- no bytes after the record
 unfoldable pub endedWalk : ℕ → Walk → Walk

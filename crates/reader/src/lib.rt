@@ -12,7 +12,7 @@ ghost use Rattle.encoding.specs.Message.{Read, markerForm, body, rows};
 ghost use Rattle.wire.specs.Steps.{stepOf};
 ghost use Rattle.table.specs.Forms.{formsOf};
 ghost use Rattle.level.specs.Fill.{fill};
-ghost use Rattle.reader.specs.Walks.{capsule, endedWalk, bodyWalk};
+ghost use Rattle.reader.specs.Walks.{capsule, markerOf, endedWalk, bodyWalk};
 use wire::Step;
 
 // Where the walk over slices stands: at the first slice; behind skipped ones only; behind a known one, sliced or not, whose base row + 1 is given, 0 for none.
@@ -89,6 +89,16 @@ fn marker(s: &[u8]) -> Step
     Step::Took(1)
 }
 
+// What stands before the slices of a top of kind k: the marker byte of a class instance, else no byte.
+fn marker_of(k: usize, s: &[u8]) -> Step
+    ensures { λ r. ⌜ r ≡ stepOf (markerOf k (now (s .entry))) ⌝ }
+{
+    if k == 14 {
+        return marker(s);
+    }
+    Step::Took(0)
+}
+
 // No bytes after the record.
 fn ended(w: Walk, len: usize) -> Walk
     ensures { λ r. ⌜ r ≡ endedWalk len w ⌝ }
@@ -119,18 +129,11 @@ pub fn body(table: &[u8], forms: &[u8; 256], top: usize, m: &[u8], out: &mut [u8
             if k == 15 {
                 return ended(walks::list(table, forms, top, m, 6, out), m.len());
             }
-            if k == 14 {
-                let mark = marker(&m[6..]);
-                match mark {
-                    Step::Took(l) => {
-                        return ended(walks::slices(table, forms, top, m, 7, out), m.len());
-                    }
-                    Step::Fault(c, p) => {
-                        return Walk::Stop(c, 6 + p);
-                    }
-                }
+            let mark = marker_of(k, &m[6..]);
+            match mark {
+                Step::Took(l) => ended(walks::slices(table, forms, top, m, 6 + l, out), m.len()),
+                Step::Fault(c, p) => Walk::Stop(c, 6 + p),
             }
-            ended(walks::slices(table, forms, top, m, 6, out), m.len())
         }
         Step::Fault(c, p) => Walk::Stop(c, p),
     }
