@@ -22,6 +22,9 @@ pub fn walk(table: &[u8], top: usize, message: &[u8], out: &mut [u8]) -> Walk
     ensures { λ r. ⌜ Walked (now (table .entry)) top (now (message .entry)) r (now (out .entry)) (now (out .exit)) ⌝ }
 {
     let n = count(message);
+    // A part taken anew is handed on as two numbers; a slice as it came is copied through memory.
+    let table = &table[0..];
+    let message = &message[0..];
     let v = table::rules::check(table);
     match v {
         Verdict::Broken(c, p) => {

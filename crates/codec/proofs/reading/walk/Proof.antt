@@ -24,6 +24,12 @@ walk-spec =
     tie.close
     (tie.spec
     (λ c κs. search needs)  -- count-requires
+    (λ c. search needs)  -- sub-table
+    (λ c. search needs)  -- part-table-start
+    (λ c. search needs)  -- part-table-end
+    (λ c. search needs)  -- sub-message
+    (λ c. search needs)  -- part-message-start
+    (λ c. search needs)  -- part-message-end
     (λ c κs. search needs)  -- check-requires
     (λ c. search needs)  -- enum-known-v
     returns
