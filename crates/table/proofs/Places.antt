@@ -3,10 +3,12 @@
 --   row-here, row-past                              where a type row begins, or the table's end for a row past it
 --   member-here, member-short, member-far           the same of a member row
 --   Shows                                           the first bytes of a part are those of the table from a place on
---   rest-shows, row-shows, member-shows             the part from a place to the end; a row's own bytes
---   kind-direct                                     a kind read at its place
+--   rest-shows, row-shows                           the part from a place to the end; a type row's own bytes
+--   place-first, place-next                         a number of the 8 bytes at a place, the first or a later one
+--   kind-direct, kind-byte                          a kind read at its place
 --   kind-is .. tag-is                               a field of a row, read from a part that shows the row
 --   field-past                                      a field past the table's end
+--   member-placed                                   what is read at a member row's place is the member row
 --   rows-few, rows-many                             how many rows have a tree
 --   rows-below                                      at most 256 rows have a tree
 --   member-row, no-member                           the row of a member's type
@@ -16,7 +18,7 @@ use mathlib.Core.Bool.{Bool, true, false}
 use mathlib.Core.List.{List}
 use native.Mathlib.Nat.{add-zero}
 use native.Mathlib.Omega.{arith}
-use lib.ListN.{length, take, drop, drop-of-length-le}
+use lib.ListN.{length, take, drop, getD, drop-of-length-le}
 use lib.Seq.{drop-drop}
 use lib.Dec.{leb}
 use borrow.Author.Tests.{le-leb, lt-leb, leb-true}
@@ -24,7 +26,9 @@ use Rattle.encoding.specs.Result.{pick}
 use Rattle.encoding.specs.Table.{at, types, members, typesAt, rowAt, membersAt, memberAt, kind, field, memberType, mark, tag, typeRows, trees, tyOf, memberTy}
 use Rattle.encoding.specs.TableLaws.{ty-past, member-past, member-whole}
 use Rattle.wire.specs.StepLaws.{rest-is}
-use Rattle.wire.specs.At.{at-past, at-within}
+use Rattle.wire.specs.At.{at-byte, at-past, at-within}
+use Rattle.table.specs.Rows.{IsMemberAt, IsMemberRow}
+use Rattle.table.specs.declared.MemberRow.{MemberRow}
 
 -- both begin at the end
 past : (T : List ℕ) (p : ℕ) → length T ≤ p → drop (length T) T ≡ drop p T
@@ -67,14 +71,22 @@ pub row-shows : (T : List ℕ) (t w : ℕ) → w ≤ 12 → Shows T (take (12 + 
 unfolding rowAt typesAt
 row-shows T t w h = part-shows T (12 + 12 * t) (12 + 12 * t + 12) w (omega arith)
 
-pub member-shows : (T : List ℕ) (m n : ℕ) → n ≡ types T → Shows T (take (12 + 12 * n + 8 * m + 8 - (12 + 12 * n + 8 * m)) (drop (12 + 12 * n + 8 * m) T)) (memberAt T m) 8
-unfolding memberAt membersAt rowAt typesAt
-member-shows T m n e = rw (← e) (part-shows T (12 + 12 * n + 8 * m) (12 + 12 * n + 8 * m + 8) 8 (omega arith))
+-- a number of the 8 bytes at a place
+module _ (T : List ℕ) (p r : ℕ) where
+  pub place-first : (k : ℕ) → k ≤ 8 → r ≡ at (take (p + 8 - p) (drop p T)) k 0 → r ≡ at T k p
+  place-first k l h = h ∙ part-shows T p (p + 8) 8 (omega arith) .same k 0 (omega arith) ∙ rw add-zero
+
+  pub place-next : (k i : ℕ) → i + k ≤ 8 → r ≡ at (take (p + 8 - p) (drop p T)) k i → r ≡ at T k (p + i)
+  place-next k i l h = h ∙ part-shows T p (p + 8) 8 (omega arith) .same k i l
 
 -- fields of a type row
 pub kind-direct : (T : List ℕ) (t r : ℕ) → r ≡ at T 1 (12 + 12 * t) → r ≡ kind T t
 unfolding kind rowAt typesAt
 kind-direct T t r h = h
+
+pub kind-byte : (T : List ℕ) (t r : ℕ) → r ≡ getD T (12 + 12 * t) 0 → r ≡ kind T t
+unfolding kind rowAt typesAt
+kind-byte T t r h = h ∙ sym (at-byte T (12 + 12 * t))
 
 module _ (T s : List ℕ) (t r : ℕ) where
   pub kind-is : Shows T s (rowAt T t) 1 → r ≡ at s 1 0 → r ≡ kind T t
@@ -108,6 +120,19 @@ module _ (T s : List ℕ) (m : ℕ) (shows : Shows T s (memberAt T m) 8) (r : �
   pub tag-is : r ≡ at s 4 4 → r ≡ tag T m
   unfolding tag
   tag-is h = h ∙ shows .same 4 4 (omega arith)
+
+pub member-placed : (T : List ℕ) (m n : ℕ) (r : MemberRow) → n ≡ types T → IsMemberAt T (12 + 12 * n + 8 * m) r → IsMemberRow T m r
+unfolding memberType mark tag memberAt membersAt rowAt typesAt
+member-placed T m n r e i = record {
+  of-is = i .of-is ∙ rw e;
+  mark-is = i .mark-is ∙ rw e;
+  spare-is = i .spare-is ∙ rw e;
+  tag-is = i .tag-is ∙ rw e;
+  of-small = i .of-small;
+  mark-small = i .mark-small;
+  spare-small = i .spare-small;
+  tag-small = i .tag-small;
+}
 
 module _ (T : List ℕ) (n : ℕ) (e : n ≡ types T) where
   pub rows-few : n ≤ 256 → n ≡ typeRows T

@@ -2,6 +2,7 @@
 --
 --   typeRowOf, memberRowOf     type row t; member row m
 --   IsTypeRow, IsMemberRow     what the code answers for them: each field is the table's, and small
+--   IsMemberAt                 the same of the member row that begins at place p
 use Prim.Native.Nat.{ℕ, _+_, _<_}
 use mathlib.Core.Path.{_≡_}
 use mathlib.Core.List.{List}
@@ -38,6 +39,16 @@ pub record IsTypeRow (T : List ℕ) (t : ℕ) (r : TypeRow) : Type 0 where
   pub c-small : r .c < 65536
   pub d-small : r .d < 65536
   pub e-small : r .e < 65536
+
+pub record IsMemberAt (T : List ℕ) (p : ℕ) (r : MemberRow) : Type 0 where
+  pub of-is : r .of ≡ at T 2 p
+  pub mark-is : r .mark ≡ at T 1 (p + 2)
+  pub spare-is : r .spare ≡ at T 1 (p + 3)
+  pub tag-is : r .tag ≡ at T 4 (p + 4)
+  pub of-small : r .of < 65536
+  pub mark-small : r .mark < 256
+  pub spare-small : r .spare < 256
+  pub tag-small : r .tag < 4294967296
 
 pub record IsMemberRow (T : List ℕ) (m : ℕ) (r : MemberRow) : Type 0 where
   pub of-is : r .of ≡ memberType T m

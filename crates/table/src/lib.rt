@@ -7,10 +7,10 @@ pub mod naming;
 pub mod rules;
 
 ghost use mathlib.Core.Path.{_≡_};
-ghost use Prim.Native.Nat.{_+_, _≤_, _<_};
+ghost use Prim.Native.Nat.{_+_, _*_, _≤_, _<_};
 ghost use lib.ListN.{length, drop};
 ghost use Rattle.encoding.specs.Table.{at, types, members, names, rowAt, memberAt, isRecord, owns, kind, field, memberType, mark, tag, typeRows, trees, tyOf, memberTy};
-ghost use Rattle.table.specs.Rows.{IsTypeRow, IsMemberRow};
+ghost use Rattle.table.specs.Rows.{IsTypeRow, IsMemberAt, IsMemberRow};
 
 // A row number, if there is one.
 pub enum Found {
@@ -110,6 +110,14 @@ pub fn kind(table: &[u8], t: usize) -> usize
     wire::byte_at(&table[a..], 0)
 }
 
+// The kind of a type row whose first byte lies inside the table.
+fn kind_in(table: &[u8], t: usize) -> usize
+    requires { ⌜ 12 + 12 * t < length (now table) ⌝ }
+    ensures { λ r. ⌜ (r ≡ kind (now (table .entry)) t) × (r < 256) ⌝ }
+{
+    wire::wide(table[12 + 12 * t])
+}
+
 // A type row's zero byte.
 fn spare(table: &[u8], t: usize) -> usize
     ensures { λ r. ⌜ (r ≡ at (now (table .entry)) 1 (rowAt (now (table .entry)) t + 1)) × (r < 256) ⌝ }
@@ -168,18 +176,13 @@ fn type_row_outside(table: &[u8], t: usize) -> TypeRow
     }
 }
 
-// Type row t whole.
-pub fn type_row(table: &[u8], t: usize) -> TypeRow
+// Type row t whole, which lies inside the table.
+fn type_row_in(table: &[u8], t: usize) -> TypeRow
+    requires { ⌜ 24 + 12 * t ≤ length (now table) ⌝ }
     ensures { λ r. ⌜ IsTypeRow (now (table .entry)) t r ⌝ }
 {
-    if 65536 <= t {
-        return type_row_outside(table, t);
-    }
     let start = 12 + 12 * t;
     let end = start + 12;
-    if table.len() < end {
-        return type_row_outside(table, t);
-    }
     let bytes = &table[start..end];
     TypeRow {
         kind: wire::byte_at(bytes, 0),
@@ -190,6 +193,37 @@ pub fn type_row(table: &[u8], t: usize) -> TypeRow
         d: wire::short_at(bytes, 8),
         e: wire::short_at(bytes, 10),
     }
+}
+
+// Type row t whole. The fields of a row outside are copied, so that the row that is returned is lent to no call.
+pub fn type_row(table: &[u8], t: usize) -> TypeRow
+    ensures { λ r. ⌜ IsTypeRow (now (table .entry)) t r ⌝ }
+{
+    if 65536 <= t {
+        let far = type_row_outside(table, t);
+        return TypeRow {
+            kind: far.kind,
+            spare: far.spare,
+            a: far.a,
+            b: far.b,
+            c: far.c,
+            d: far.d,
+            e: far.e,
+        };
+    }
+    if table.len() < 24 + 12 * t {
+        let cut = type_row_outside(table, t);
+        return TypeRow {
+            kind: cut.kind,
+            spare: cut.spare,
+            a: cut.a,
+            b: cut.b,
+            c: cut.c,
+            d: cut.d,
+            e: cut.e,
+        };
+    }
+    type_row_in(table, t)
 }
 
 // Member row m by the look-ups, for a row that is not wholly inside. Called at two places, so that it stays apart and `member_row` small.
@@ -205,18 +239,12 @@ fn member_row_outside(table: &[u8], m: usize) -> MemberRow
     }
 }
 
-// Member row m whole.
-pub fn member_row(table: &[u8], m: usize) -> MemberRow
-    ensures { λ r. ⌜ IsMemberRow (now (table .entry)) m r ⌝ }
+// The member row that begins at `start` whole, which lies inside the table.
+fn member_row_in(table: &[u8], start: usize) -> MemberRow
+    requires { ⌜ start + 8 ≤ length (now table) ⌝ }
+    ensures { λ r. ⌜ IsMemberAt (now (table .entry)) start r ⌝ }
 {
-    if 65536 <= m {
-        return member_row_outside(table, m);
-    }
-    let start = 12 + 12 * types(table) + 8 * m;
     let end = start + 8;
-    if table.len() < end {
-        return member_row_outside(table, m);
-    }
     let bytes = &table[start..end];
     MemberRow {
         of: wire::short_at(bytes, 0),
@@ -224,6 +252,32 @@ pub fn member_row(table: &[u8], m: usize) -> MemberRow
         spare: wire::byte_at(bytes, 3),
         tag: wire::int_at(bytes, 4),
     }
+}
+
+// Member row m whole. The fields of a row outside are copied, so that the row that is returned is lent to no call.
+pub fn member_row(table: &[u8], m: usize) -> MemberRow
+    ensures { λ r. ⌜ IsMemberRow (now (table .entry)) m r ⌝ }
+{
+    if 65536 <= m {
+        let far = member_row_outside(table, m);
+        return MemberRow {
+            of: far.of,
+            mark: far.mark,
+            spare: far.spare,
+            tag: far.tag,
+        };
+    }
+    let start = 12 + 12 * types(table) + 8 * m;
+    if table.len() < start + 8 {
+        let cut = member_row_outside(table, m);
+        return MemberRow {
+            of: cut.of,
+            mark: cut.mark,
+            spare: cut.spare,
+            tag: cut.tag,
+        };
+    }
+    member_row_in(table, start)
 }
 
 // Kind k is an exception or a class.

@@ -1,6 +1,6 @@
--- A member row that lies inside is read from its own 8 bytes; any other by the look-ups. Assumes nothing.
+-- A member row that lies inside is read at its place; any other by the look-ups. Assumes nothing.
 use borrow.Author.Needs.{needs}
-use Rattle.table.proofs.Places.{member-shows, member-type-is, mark-is, member-spare-is, tag-is}
+use Rattle.table.proofs.Places.{member-placed}
 use Rattle.table.proofs.member_row.Statement.{statement}
 use Rattle.table.proofs.member_row.Tie as tie
 
@@ -15,14 +15,8 @@ member-row-spec =
     (λ c. search needs)  -- add-start
     (λ c. search needs)  -- mul-start-2
     (λ c. search needs)  -- add-start-2
-    (λ c. search needs)  -- add-end
+    (λ c. search needs)  -- add-if2
     (λ c κs. search needs)  -- member-row-outside-requires-2
     (λ c. search needs)  -- returns-2
-    (λ c. search needs)  -- sub-bytes
-    (λ c. search needs)  -- part-bytes-start
-    (λ c. search needs)  -- part-bytes-end
-    (λ c κs. search needs)  -- short-at-requires
-    (λ c κs. search needs)  -- byte-at-requires
-    (λ c κs. search needs)  -- byte-at-requires-2
-    (λ c κs. search needs)  -- int-at-requires
-    (λ c. search (needs, member-shows, member-type-is, mark-is, member-spare-is, tag-is)))  -- returns-3
+    (λ c κs. search needs)  -- member-row-in-requires
+    (λ c. search member-placed))  -- returns-3

@@ -1,21 +1,17 @@
--- A row that lies inside is read from its own 12 bytes; any other by the look-ups. Assumes nothing.
+-- A row that lies inside is read from its own 12 bytes. Assumes nothing.
 use borrow.Author.Needs.{needs}
 use native.Mathlib.Omega.{arith}
 use Rattle.table.proofs.Places.{row-shows, kind-is, spare-is, field-is}
-use Rattle.table.proofs.type_row.Statement.{statement}
-use Rattle.table.proofs.type_row.Tie as tie
+use Rattle.table.proofs.type_row_in.Statement.{statement}
+use Rattle.table.proofs.type_row_in.Tie as tie
 
-pub type-row-spec : {M : Type 1} → statement M
-type-row-spec =
+pub type-row-in-spec : {M : Type 1} → statement M
+type-row-in-spec =
     tie.close
     (tie.spec
-    (λ c κs. search needs)  -- type-row-outside-requires
-    (λ c. search needs)  -- returns
     (λ c. search needs)  -- mul-start
     (λ c. search needs)  -- add-start
     (λ c. search needs)  -- add-end
-    (λ c κs. search needs)  -- type-row-outside-requires-2
-    (λ c. search needs)  -- returns-2
     (λ c. search needs)  -- sub-bytes
     (λ c. search needs)  -- part-bytes-start
     (λ c. search needs)  -- part-bytes-end
@@ -41,4 +37,4 @@ type-row-spec =
       c-small = search;
       d-small = search;
       e-small = search;
-    }))  -- returns-3
+    }))  -- returns
