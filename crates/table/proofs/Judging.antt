@@ -12,7 +12,7 @@
 --   Tags, tags-..              the loop over the tags before; alike-above, alike-below only of a tag below a bound
 --   required-.., optional-.., member-..   the rules of a member row
 --   Owner, owner-..            the member rows of one owner; Owners, owners-.. of all owners
---   check-..                   the passes one after another
+--   check-..                   the passes one after another; check-rows the rows lie inside
 use Prim.Native.Nat.{ℕ, zero, suc, _+_, _-_, _*_, _^_, _≤_, _<_, max}
 use mathlib.Core.Path.{_≡_, refl, sym, ap, ap₂, _∙_}
 use mathlib.Core.Bool.{Bool, true, false, _&&_, _||_, not}
@@ -30,7 +30,7 @@ use Rattle.encoding.specs.Table.{at, types, members, names, typesAt, rowAt, mem
 use Rattle.table.specs.Names.{nameStart, isNamed}
 use Rattle.table.specs.NamesLaws.{name-part}
 use Rattle.table.specs.Checks.{verdictOf, isSetFrom, noBaseOf, enumRules, structRules, seqRules, dictRules, recordRules, listRules, kindRules, rowRules, share, typePass, memberPass, isOptionalOf, isTagBefore, isTagAlike, requiredRules, optionalRules, memberRulesBy, memberRulesOf, ownerPass, ownersPass}
-use Rattle.table.specs.ChecksLaws.{row-rules, or-assoc, owners-pass}
+use Rattle.table.specs.ChecksLaws.{row-rules, or-assoc, table-length, owners-pass}
 use Rattle.table.specs.Rows.{typeRowOf, memberRowOf, IsTypeRow, IsMemberRow}
 use Rattle.table.specs.declared.TypeRow.{TypeRow}
 use Rattle.table.specs.declared.MemberRow.{MemberRow}
@@ -686,6 +686,10 @@ module _ (T : List ℕ) (h : ℕ) (eh : faultAt 0 h ≡ headerRules T) where
       go : (h : ℕ) → (h ≡ 0 → ⊥) → verdictOf (faultAt 0 h) ≡ Broken h 0
       go zero z = absurd (z refl)
       go (suc c) z = refl
+
+  pub check-rows : h ≡ 0 → 12 + 12 * types T ≤ length T
+  unfolding faultAt
+  check-rows z = omega (arith, table-length T (sym eh ∙ rw z))
 
   module _ (head : h ≡ 0) (v : Verdict) (ev : v ≡ verdictOf (orElse (typePass T) (sumRules T))) where
     past-header : verdictOf (faults T) ≡ verdictOf (orElse (orElse (typePass T) (sumRules T)) (orElse (memberPass T) fine))

@@ -3,19 +3,20 @@
 --   row-rules      the rules of a type row, taken by its kind, find what the row's rules find
 --   owners-pass    where the type rows and the sum are fine, the member rows owner by owner are the member rows in order
 --   or-assoc       the first fault of three passes
-use Prim.Native.Nat.{ℕ, zero, suc, _+_, _-_, _≤_, _<_}
+--   table-length   where the header is fine, the table is as long as it says
+use Prim.Native.Nat.{ℕ, zero, suc, _+_, _-_, _*_, _≤_, _<_}
 use mathlib.Core.Path.{_≡_, refl, sym, ap, ap₂, _∙_}
 use mathlib.Core.Bool.{Bool, true, false, _&&_, not}
 use mathlib.Core.Logic.{⊎-elim}
 use mathlib.Core.List.{List, [], _∷_, _++_}
 use native.Mathlib.Nat.{eq-or-lt-of-le, add-zero}
 use native.Mathlib.Omega.{arith}
-use lib.ListN.{drop, drop-of-length-le}
+use lib.ListN.{length, drop, drop-of-length-le}
 use lib.Dec.{eqb}
 use borrow.Author.Tests.{eqb-true, eqb-false, not-false, lt-leb, le-leb, lt-ltb}
 use Rattle.encoding.specs.Result.{pick, firstOf}
 use Rattle.encoding.specs.Number.{negative}
-use Rattle.encoding.specs.Table.{types, members, rowAt, memberAt, kind, field, mark, tag, owns, range, any, used, noBase, taken, takes, ownerOf, tagAlike, typeRules, memberRules, sumRules, faultAt, Fault, fine, fault, orElse, pass}
+use Rattle.encoding.specs.Table.{types, members, names, typesAt, rowAt, membersAt, memberAt, namesAt, kind, field, mark, tag, owns, range, any, used, noBase, taken, takes, ownerOf, tagAlike, typeRules, memberRules, headerTests, headerRules, sumRules, faultAt, Fault, fine, fault, orElse, pass}
 use Rattle.table.specs.Rows.{typeRowOf}
 use Rattle.table.specs.Checks.{isSetFrom, noBaseOf, enumRules, structRules, seqRules, dictRules, recordRules, listRules, kindRules, rowRules, share, typePass, memberPass, isTagBefore, requiredRules, optionalRules, memberRulesBy, memberRulesOf, ownerPass, ownersPass}
 
@@ -226,6 +227,18 @@ sum-fine T e = go (eqb (taken T (types T)) (members T)) refl (at-fine 0 _ e)
     go : (b : Bool) → eqb (taken T (types T)) (members T) ≡ b → _≡_ {A = ℕ} (pick b 0 35) 0 → taken T (types T) ≡ members T
     go true q z = eqb-true _ _ q
     go false q z = absurd (omega arith)
+
+pub table-length : (T : List ℕ) → headerRules T ≡ fine → length T ≡ 12 + 12 * types T + 8 * members T + names T
+unfolding headerRules headerTests namesAt memberAt membersAt rowAt typesAt
+table-length T e =
+    let a = first-none 31 _ _ (omega arith) (at-fine 0 _ e) in
+    let b = first-none 31 _ _ (omega arith) (a .1) in
+    let c = first-none 31 _ _ (omega arith) (b .1) in
+    let d = first-none 31 _ _ (omega arith) (c .1) in
+    let f = first-none 31 _ _ (omega arith) (d .1) in
+    let g = first-none 31 _ _ (omega arith) (f .1) in
+    let h = first-none 31 (not (eqb (length T) (12 + 12 * types T + 8 * members T + names T))) _ (omega arith) (g .1) in
+    eqb-true _ _ (not-false _ (h .0))
 
 pub owners-pass : (T : List ℕ) → orElse (typePass T) (sumRules T) ≡ fine → ownersPass T (range 0 (types T)) ≡ memberPass T
 unfolding memberPass taken

@@ -3,7 +3,8 @@ use crate::MemberRow;
 use crate::TypeRow;
 use crate::Verdict;
 ghost use mathlib.Core.Path.{_≡_};
-ghost use Prim.Native.Nat.{_+_, _≤_, _<_, max};
+ghost use Prim.Native.Nat.{_+_, _*_, _≤_, _<_, max};
+ghost use lib.ListN.{length};
 ghost use Rattle.encoding.specs.Result.{firstOf};
 ghost use Rattle.encoding.specs.Table.{any, range, types, headerRules, sumRules, orElse, used, noPart, alike, faultAt, faults};
 ghost use Rattle.table.specs.Names.{isNamed};
@@ -102,18 +103,20 @@ fn is_unused_set(row: TypeRow) -> bool
     false
 }
 
-// Row r is no row below t of kinds 0..12.
+// Row r is no row below t of kinds 0..12; the rows below t lie inside.
 fn no_part(table: &[u8], t: usize, r: usize) -> bool
+    requires { ⌜ 12 + 12 * t ≤ length (now table) ⌝ }
     ensures { λ b. ⌜ b ≡ noPart (now (table .entry)) t r ⌝ }
 {
     if t <= r {
         return true;
     }
-    12 < crate::kind(table, r)
+    12 < crate::kind_in(table, r)
 }
 
 // Row b - 1 is no base of row t of kind k: not smaller, or of another kind.
 fn no_base(table: &[u8], t: usize, k: usize, b: usize) -> bool
+    requires { ⌜ 12 + 12 * t ≤ length (now table) ⌝ }
     ensures { λ r. ⌜ r ≡ noBaseOf (now (table .entry)) t k b ⌝ }
 {
     if b == 0 {
@@ -122,7 +125,7 @@ fn no_base(table: &[u8], t: usize, k: usize, b: usize) -> bool
     if t < b {
         return true;
     }
-    crate::kind(table, b - 1) != k
+    crate::kind_in(table, b - 1) != k
 }
 
 // A record among the first t rows has this name.
@@ -174,6 +177,7 @@ fn struct_row(row: TypeRow, prior: usize) -> usize
 
 // The own rule of a sequence, row t.
 fn seq_row(table: &[u8], t: usize, row: TypeRow) -> usize
+    requires { ⌜ 12 + 12 * t ≤ length (now table) ⌝ }
     ensures { λ r. ⌜ r ≡ firstOf (seqRules (now (table .entry)) t row) ⌝ }
 {
     if no_part(table, t, row.a) {
@@ -184,6 +188,7 @@ fn seq_row(table: &[u8], t: usize, row: TypeRow) -> usize
 
 // The own rules of a dictionary, row t.
 fn dict_row(table: &[u8], t: usize, row: TypeRow) -> usize
+    requires { ⌜ 12 + 12 * t ≤ length (now table) ⌝ }
     ensures { λ r. ⌜ r ≡ firstOf (dictRules (now (table .entry)) t row) ⌝ }
 {
     if no_part(table, t, row.a) {
@@ -197,6 +202,7 @@ fn dict_row(table: &[u8], t: usize, row: TypeRow) -> usize
 
 // The own rules of an exception or a class, row t.
 fn record_row(table: &[u8], t: usize, row: TypeRow, prior: usize) -> usize
+    requires { ⌜ 12 + 12 * t ≤ length (now table) ⌝ }
     requires { ⌜ row .d < 65536 ⌝ }
     ensures { λ r. ⌜ r ≡ firstOf (recordRules (now (table .entry)) t row prior) ⌝ }
 {
@@ -233,6 +239,7 @@ fn list_row(row: TypeRow, prior: usize) -> usize
 
 // The rules of row t that its kind has.
 fn kind_row(table: &[u8], t: usize, row: TypeRow, prior: usize) -> usize
+    requires { ⌜ 12 + 12 * t ≤ length (now table) ⌝ }
     requires { ⌜ (row .a < 65536) × (row .b < 65536) × (row .d < 65536) ⌝ }
     ensures { λ r. ⌜ r ≡ firstOf (kindRules (now (table .entry)) t row prior) ⌝ }
 {
@@ -260,6 +267,7 @@ fn kind_row(table: &[u8], t: usize, row: TypeRow, prior: usize) -> usize
 
 // The class of type row t, or 0.
 fn type_class(table: &[u8], t: usize, row: TypeRow, prior: usize) -> usize
+    requires { ⌜ 12 + 12 * t ≤ length (now table) ⌝ }
     requires { ⌜ (row .a < 65536) × (row .b < 65536) × (row .d < 65536) ⌝ }
     ensures { λ r. ⌜ r ≡ firstOf (rowRules (now (table .entry)) t row prior) ⌝ }
 {
@@ -287,13 +295,14 @@ fn share(row: TypeRow) -> usize
 
 // The pass over the type rows, then the member sum.
 fn type_rows(table: &[u8]) -> Verdict
+    requires { ⌜ 12 + 12 * types (now table) ≤ length (now table) ⌝ }
     ensures { λ r. ⌜ r ≡ verdictOf (orElse (typePass (now (table .entry))) (sumRules (now (table .entry)))) ⌝ }
 {
     let n = crate::types(table);
     let mut prior = 0;
     let mut t = 0;
     while t < n {
-        let row = crate::type_row(table, t);
+        let row = crate::type_row_in(table, t);
         let c = type_class(table, t, row, prior);
         if c != 0 {
             return Verdict::Broken(c, 12 + 12 * t);
@@ -344,6 +353,7 @@ fn is_tag_alike(table: &[u8], first: usize, m: usize, above: usize, tag: usize) 
 
 // The rules of a required member of owner o.
 fn required_row(table: &[u8], o: usize, row: MemberRow) -> usize
+    requires { ⌜ 12 + 12 * o ≤ length (now table) ⌝ }
     ensures { λ r. ⌜ r ≡ firstOf (requiredRules (now (table .entry)) o row) ⌝ }
 {
     if row.tag != 0 {
@@ -364,6 +374,7 @@ fn optional_row(
     row: MemberRow,
     above: usize,
 ) -> usize
+    requires { ⌜ 12 + 12 * o ≤ length (now table) ⌝ }
     ensures { λ r. ⌜ r ≡ firstOf (optionalRules (now (table .entry)) o owner row (isTagAlike (now (table .entry)) (owner .a) m above (row .tag))) ⌝ }
 {
     if no_part(table, o, row.of) {
@@ -393,6 +404,7 @@ fn member_class(
     row: MemberRow,
     above: usize,
 ) -> usize
+    requires { ⌜ 12 + 12 * o ≤ length (now table) ⌝ }
     ensures { λ r. ⌜ r ≡ firstOf (memberRulesBy (now (table .entry)) o owner row (isTagAlike (now (table .entry)) (owner .a) m above (row .tag))) ⌝ }
 {
     if row.spare != 0 {
@@ -414,10 +426,11 @@ fn raised(above: usize, tag: usize) -> usize
 
 // The member rows of owner o; the tags before m are below `above`.
 fn owner(table: &[u8], o: usize) -> Verdict
+    requires { ⌜ 24 + 12 * o ≤ length (now table) ⌝ }
     ensures { λ r. ⌜ r ≡ verdictOf (ownerPass (now (table .entry)) o) ⌝ }
 {
     let start = 12 + 12 * crate::types(table);
-    let own = crate::type_row(table, o);
+    let own = crate::type_row_in(table, o);
     let mut left = share(own);
     let mut m = own.a;
     let mut above = 0;
@@ -436,6 +449,7 @@ fn owner(table: &[u8], o: usize) -> Verdict
 
 // The pass over the member rows, owner by owner.
 fn member_rows(table: &[u8]) -> Verdict
+    requires { ⌜ 12 + 12 * types (now table) ≤ length (now table) ⌝ }
     ensures { λ r. ⌜ r ≡ verdictOf (ownersPass (now (table .entry)) (range 0 (types (now (table .entry))))) ⌝ }
 {
     let n = crate::types(table);

@@ -1,6 +1,6 @@
 -- The passes in turn; once the type rows and the sum are fine, the member rows owner by owner are the member rows in order. Assumes nothing.
 use borrow.Author.Needs.{needs}
-use Rattle.table.proofs.Judging.{check-header, check-types, check-members}
+use Rattle.table.proofs.Judging.{check-header, check-rows, check-types, check-members}
 use Rattle.table.proofs.rules.check.Statement.{statement}
 use Rattle.table.proofs.rules.check.Tie as tie
 
@@ -10,9 +10,9 @@ check-spec =
     (tie.spec
     (λ c κs. search needs)  -- header-requires
     (λ c. search check-header)  -- returns
-    (λ c κs. search needs)  -- type-rows-requires
+    (λ c κs. search check-rows)  -- type-rows-requires
     (λ c. search needs)  -- enum-known-v
     (λ c. search check-types)  -- returns-2
     (λ c. search needs)  -- enum-told
-    (λ c κs. search needs)  -- member-rows-requires
+    (λ c κs. search check-rows)  -- member-rows-requires
     (λ c. search check-members))  -- returns-3
