@@ -12,7 +12,7 @@
 --   Tags, tags-..              the loop over the tags before; alike-above, alike-below only of a tag below a bound
 --   required-.., optional-.., member-..   the rules of a member row
 --   Owner, owner-..            the member rows of one owner; Owners, owners-.. of all owners
---   check-..                   the passes one after another; check-rows the rows lie inside
+--   check-..                   the passes one after another; check-rows, check-inside the rows lie inside
 use Prim.Native.Nat.{ℕ, zero, suc, _+_, _-_, _*_, _^_, _≤_, _<_, max}
 use mathlib.Core.Path.{_≡_, refl, sym, ap, ap₂, _∙_}
 use mathlib.Core.Bool.{Bool, true, false, _&&_, _||_, not}
@@ -29,13 +29,14 @@ use Rattle.encoding.specs.Number.{negative}
 use Rattle.encoding.specs.Table.{at, types, members, names, typesAt, rowAt, membersAt, memberAt, namesAt, kind, field, memberType, mark, tag, isRecord, owns, nameOf, range, any, used, taken, noPart, alike, typeRules, headerTests, headerRules, sumRules, faultAt, Fault, fine, fault, orElse, pass, passes, faults}
 use Rattle.table.specs.Names.{nameStart, isNamed}
 use Rattle.table.specs.NamesLaws.{name-part}
-use Rattle.table.specs.Checks.{verdictOf, isSetFrom, noBaseOf, enumRules, structRules, seqRules, dictRules, recordRules, listRules, kindRules, rowRules, share, typePass, memberPass, isOptionalOf, isTagBefore, isTagAlike, requiredRules, optionalRules, memberRulesBy, memberRulesOf, ownerPass, ownersPass}
-use Rattle.table.specs.ChecksLaws.{row-rules, or-assoc, table-length, owners-pass}
-use Rattle.table.specs.Rows.{typeRowOf, memberRowOf, IsTypeRow, IsMemberRow}
+use Rattle.table.specs.Checks.{verdictOf, isSetFrom, noBaseOf, enumRules, structRules, seqRules, dictRules, recordRules, listRules, kindRules, rowRules, share, typePass, memberPass, isOptionalOf, isTagBefore, isTagAlike, requiredRules, optionalRules, memberRulesBy, memberRulesOf, ownerPass, ownersPass, MembersInside, OwnersInside}
+use Rattle.table.specs.ChecksLaws.{row-rules, or-assoc, table-length, owners-pass, owners-inside}
+use Rattle.table.specs.Rows.{typeRowOf, memberRowOf, IsTypeRow, IsMemberAt, IsMemberRow}
 use Rattle.table.specs.declared.TypeRow.{TypeRow}
 use Rattle.table.specs.declared.MemberRow.{MemberRow}
 use Rattle.table.specs.declared.Verdict.{Verdict}
 use Rattle.table.specs.declared.Verdict.the-variants.{Fine, Broken}
+use Rattle.table.proofs.Places.{member-placed}
 use Rattle.table.proofs.Ranges.{range-more, range-none, range-left, range-empty, any-here, any-next, any-none, any-never}
 use Rattle.table.proofs.Shapes.{by-kind}
 
@@ -594,13 +595,15 @@ module _ (T : List ℕ) (o : ℕ) (own : TypeRow) (r : MemberRow) (s : Bool) whe
 -- over the members of one owner; the tags before m are below `above`
 pub record Owner (T : List ℕ) (o m left above : ℕ) : Type 0 where
   pub few : m + left < 131072
+  pub inside : (i : ℕ) → m ≤ i → i < m + left → memberAt T i + 8 ≤ length T
   pub below : (i : ℕ) → field T o 0 ≤ i → i < m → tag T i < above
   pub rest : verdictOf (ownerPass T o) ≡ verdictOf (pass (memberAt T) (memberRulesOf T o) (range m left))
 
-pub owner-begin : (T : List ℕ) (o left : ℕ) (own : TypeRow) → IsTypeRow T o own → left ≡ share own → left ≤ own .b → Owner T o (own .a) left 0
+pub owner-begin : (T : List ℕ) (o left : ℕ) (own : TypeRow) → MembersInside T o → IsTypeRow T o own → left ≡ share own → left ≤ own .b → Owner T o (own .a) left 0
 unfolding ownerPass
-owner-begin T o left own eo el hl = record {
+owner-begin T o left own there eo el hl = record {
   few = omega (arith, eo .a-small, eo .b-small);
+  inside = λ i l h. there .inside i (omega (arith, eo .a-is)) (omega (arith, eo .a-is, el, ap share (whole-type T o own eo)));
   below = λ i l h. absurd (omega (arith, eo .a-is));
   rest = rw (eo .a-is, el, whole-type T o own eo);
 }
@@ -609,6 +612,10 @@ module _ (T : List ℕ) (o m left above : ℕ) (inv : Owner T o m left above) wh
   pub owner-end : left ≤ 0 → Fine ≡ verdictOf (ownerPass T o)
   unfolding verdictOf pass
   owner-end h = sym (inv .rest ∙ rw (range-empty m left h))
+
+  pub owner-place : 0 < left → (n : ℕ) → n ≡ types T → 12 + 12 * n + 8 * m + 8 ≤ length T
+  unfolding memberAt membersAt rowAt typesAt
+  owner-place h n e = omega (arith, inv .inside m (omega arith) (omega arith))
 
   -- a tag that is not below `above` is not among them
   tag-new : (g : ℕ) → above ≤ g → isTagBefore T (field T o 0) m g ≡ false
@@ -632,20 +639,24 @@ module _ (T : List ℕ) (o m left above : ℕ) (inv : Owner T o m left above) wh
       go true e = refl
       go false e = sym (tag-new g (ltb-false g above e))
 
-  module _ (h : 0 < left) (own : TypeRow) (eo : IsTypeRow T o own) (r : MemberRow) (er : IsMemberRow T m r) (c : ℕ) (e : c ≡ firstOf (memberRulesBy T o own r (isTagAlike T (own .a) m above (r .tag)))) where
+  module _ (h : 0 < left) (own : TypeRow) (eo : IsTypeRow T o own) (n : ℕ) (en : n ≡ types T) (r : MemberRow) (at : IsMemberAt T (12 + 12 * n + 8 * m) r) (c : ℕ) (e : c ≡ firstOf (memberRulesBy T o own r (isTagAlike T (own .a) m above (r .tag)))) where
+    er : IsMemberRow T m r
+    er = member-placed T m n r en at
+
     owner-row : c ≡ firstOf (memberRulesOf T o m)
     unfolding memberRulesOf
     owner-row =
         e ∙ ap₂ (λ (y : TypeRow) (z : MemberRow). firstOf (memberRulesBy T o y z (isTagAlike T (y .a) m above (z .tag)))) (whole-type T o own eo) (whole-member T m r er)
         ∙ ap (λ (b : Bool). firstOf (memberRulesBy T o (typeRowOf T o) (memberRowOf T m) b)) (tag-alike (tag T m))
 
-    pub owner-fault : (n : ℕ) → n ≡ types T → (c ≡ 0 → ⊥) → Broken c (12 + 12 * n + 8 * m) ≡ verdictOf (ownerPass T o)
+    pub owner-fault : (c ≡ 0 → ⊥) → Broken c (12 + 12 * n + 8 * m) ≡ verdictOf (ownerPass T o)
     unfolding memberAt membersAt rowAt typesAt
-    owner-fault n en z = rw en (sym (inv .rest ∙ rw (range-left m left h) (pass-fault (memberAt T) (memberRulesOf T o) m c (range (m + 1) (left - 1)) owner-row z)))
+    owner-fault z = rw en (sym (inv .rest ∙ rw (range-left m left h) (pass-fault (memberAt T) (memberRulesOf T o) m c (range (m + 1) (left - 1)) owner-row z)))
 
     pub owner-next : c ≡ 0 → (a : ℕ) → a ≡ max above (r .tag + 1) → Owner T o (m + 1) (left - 1) a
     owner-next z a ea = record {
       few = omega (arith, inv .few);
+      inside = λ i l k. inv .inside i (omega arith) (omega arith);
       below = λ i l k. ⊎-elim (λ q. omega (arith, er .tag-is, ap (tag T) q)) (λ q. omega (arith, inv .below i l q)) (eq-or-lt-of-le {n = i} {m = m} (omega arith));
       rest = inv .rest ∙ rw (range-left m left h) (ap verdictOf (pass-next (memberAt T) (memberRulesOf T o) m c (range (m + 1) (left - 1)) owner-row z));
     }
@@ -662,6 +673,9 @@ module _ (T : List ℕ) (n o : ℕ) (inv : Owners T n o) where
   pub owners-end : n ≤ o → Fine ≡ verdictOf (ownersPass T (range 0 (types T)))
   unfolding verdictOf ownersPass
   owners-end h = sym (inv .rest ∙ rw (range-none o n h))
+
+  pub owners-members : o < n → n ≡ types T → OwnersInside T → MembersInside T o
+  owners-members h e there = there .owners o (omega arith)
 
   module _ (h : o < n) (v : Verdict) (e : v ≡ verdictOf (ownerPass T o)) where
     pub owners-fault : (c p : ℕ) → v ≡ Broken c p → Broken c p ≡ verdictOf (ownersPass T (range 0 (types T)))
@@ -698,6 +712,10 @@ module _ (T : List ℕ) (h : ℕ) (eh : faultAt 0 h ≡ headerRules T) where
 
     pub check-types : (c p : ℕ) → v ≡ Broken c p → Broken c p ≡ verdictOf (faults T)
     check-types c p q = sym (past-header ∙ or-broken (orElse (typePass T) (sumRules T)) _ c p (sym ev ∙ q))
+
+    pub check-inside : v ≡ Fine → OwnersInside T
+    unfolding faultAt
+    check-inside q = owners-inside T (sym eh ∙ rw head) (is-fine (orElse (typePass T) (sumRules T)) (sym ev ∙ q))
 
     pub check-members : v ≡ Fine → (w : Verdict) → w ≡ verdictOf (ownersPass T (range 0 (types T))) → w ≡ verdictOf (faults T)
     unfolding orElse verdictOf

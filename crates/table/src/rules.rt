@@ -8,7 +8,7 @@ ghost use lib.ListN.{length};
 ghost use Rattle.encoding.specs.Result.{firstOf};
 ghost use Rattle.encoding.specs.Table.{any, range, types, headerRules, sumRules, orElse, used, noPart, alike, faultAt, faults};
 ghost use Rattle.table.specs.Names.{isNamed};
-ghost use Rattle.table.specs.Checks.{verdictOf, isSetFrom, noBaseOf, enumRules, structRules, seqRules, dictRules, recordRules, listRules, kindRules, rowRules, share, typePass, isOptionalOf, isTagBefore, isTagAlike, requiredRules, optionalRules, memberRulesBy, ownerPass, ownersPass};
+ghost use Rattle.table.specs.Checks.{verdictOf, isSetFrom, noBaseOf, enumRules, structRules, seqRules, dictRules, recordRules, listRules, kindRules, rowRules, share, typePass, isOptionalOf, isTagBefore, isTagAlike, requiredRules, optionalRules, memberRulesBy, ownerPass, ownersPass, MembersInside, OwnersInside};
 
 // The class of the header, or 0.
 fn header(table: &[u8]) -> usize
@@ -427,6 +427,7 @@ fn raised(above: usize, tag: usize) -> usize
 // The member rows of owner o; the tags before m are below `above`.
 fn owner(table: &[u8], o: usize) -> Verdict
     requires { ⌜ 24 + 12 * o ≤ length (now table) ⌝ }
+    requires { ⌜ MembersInside (now table) o ⌝ }
     ensures { λ r. ⌜ r ≡ verdictOf (ownerPass (now (table .entry)) o) ⌝ }
 {
     let start = 12 + 12 * crate::types(table);
@@ -435,7 +436,7 @@ fn owner(table: &[u8], o: usize) -> Verdict
     let mut m = own.a;
     let mut above = 0;
     while left > 0 {
-        let row = crate::member_row(table, m);
+        let row = crate::member_row_in(table, start + 8 * m);
         let c = member_class(table, o, own, m, row, above);
         if c != 0 {
             return Verdict::Broken(c, start + 8 * m);
@@ -450,6 +451,7 @@ fn owner(table: &[u8], o: usize) -> Verdict
 // The pass over the member rows, owner by owner.
 fn member_rows(table: &[u8]) -> Verdict
     requires { ⌜ 12 + 12 * types (now table) ≤ length (now table) ⌝ }
+    requires { ⌜ OwnersInside (now table) ⌝ }
     ensures { λ r. ⌜ r ≡ verdictOf (ownersPass (now (table .entry)) (range 0 (types (now (table .entry))))) ⌝ }
 {
     let n = crate::types(table);

@@ -1,7 +1,7 @@
 -- The loop's invariant: the members left decide, and the tags before are below `above`. The measure is the number of members left. Assumes nothing.
 use borrow.Author.Needs.{needs}
 use native.Mathlib.Omega.{arith}
-use Rattle.table.proofs.Judging.{Owner, owner-begin, owner-fault, owner-next, owner-end}
+use Rattle.table.proofs.Judging.{Owner, owner-begin, owner-place, owner-fault, owner-next, owner-end}
 use Rattle.table.proofs.rules.owner.Statement.{statement}
 use Rattle.table.proofs.rules.owner.Tie as tie
 
@@ -20,10 +20,12 @@ owner-spec =
     (λ c κs. search needs)  -- types-requires
     (λ c. search needs)  -- mul-start
     (λ c. search needs)  -- add-start
-    (λ c κs. search needs)  -- type-row-requires
+    (λ c κs. search needs)  -- type-row-in-requires
     (λ c κs. search needs)  -- share-requires
     (λ c. search owner-begin)  -- loop-holds
-    (λ c κs. search needs)  -- member-row-requires
+    (λ c. omega arith)  -- mul-member-row-in
+    (λ c. omega arith)  -- add-member-row-in
+    (λ c κs. search owner-place)  -- member-row-in-requires
     (λ c κs. search needs)  -- member-class-requires
     (λ c. omega arith)  -- mul-t13
     (λ c. omega arith)  -- add-t14
