@@ -1,6 +1,7 @@
 -- What the tests of the check tell, rule by rule, and its loops. Assumes nothing.
 --
 --   whole-..                   a row read whole is the table's
+--   marked-..                  the first five bytes, read as an int and a byte
 --   header-..                  the header's rules in the code's order
 --   set-.., clear-..           fields that are not 0, from one on
 --   unused-..                  those that a kind does not use
@@ -16,16 +17,19 @@
 use Prim.Native.Nat.{ℕ, zero, suc, _+_, _-_, _*_, _^_, _≤_, _<_, max}
 use mathlib.Core.Path.{_≡_, refl, sym, ap, ap₂, _∙_}
 use mathlib.Core.Bool.{Bool, true, false, _&&_, _||_, not}
-use mathlib.Core.List.{List, [], _∷_}
+use mathlib.Core.List.{List, [], _∷_, _++_}
 use mathlib.Core.Logic.{⊎-elim}
 use native.Mathlib.Nat.{eq-or-lt-of-le}
 use native.Mathlib.Numerals.{add-one, sub-one}
 use native.Mathlib.Omega.{arith}
-use lib.ListN.{length, take, drop, List·getD-eq-default}
+use lib.ListN.{length, take, drop, getD, List·getD-eq-default}
+use lib.Seq.{take-take}
 use lib.Dec.{eqb, ltb}
 use borrow.Author.Tests.{eqb-true, eqb-false, ltb-false, lt-ltb, le-ltb, le-leb, lt-leb, eq-eqb, ne-eqb}
 use Rattle.encoding.specs.Result.{pick, firstOf, sameBytes}
-use Rattle.encoding.specs.Number.{negative}
+use Rattle.encoding.specs.ResultLaws.{sameBytes-ok}
+use Rattle.encoding.specs.Number.{val, leBytes, negative}
+use Rattle.encoding.specs.NumberLaws.{leBytes-val}
 use Rattle.encoding.specs.Table.{at, types, members, names, typesAt, rowAt, membersAt, memberAt, namesAt, kind, field, memberType, mark, tag, isRecord, owns, nameOf, range, any, used, taken, noPart, alike, typeRules, headerTests, headerRules, sumRules, faultAt, Fault, fine, fault, orElse, pass, passes, faults}
 use Rattle.table.specs.Names.{nameStart, isNamed}
 use Rattle.table.specs.NamesLaws.{name-part}
@@ -57,6 +61,31 @@ whole-member T m r i = go (i .of-is) (i .mark-is) (i .spare-is) (i .tag-is)
     go et ek es eg = rw (et, ek, es, eg)
 
 -- ---- header
+
+module _ (n : ℕ) where
+  pub marked-other : (T : List ℕ) → n ≡ at T 4 0 → (n ≡ 22300486 → ⊥) → false ≡ sameBytes (take 5 T) (70 ∷ 71 ∷ 84 ∷ 1 ∷ 0 ∷ [])
+  unfolding at val
+  marked-other T en h = go (sameBytes (take 5 T) (70 ∷ 71 ∷ 84 ∷ 1 ∷ 0 ∷ [])) refl
+    where
+      go : (s : Bool) → sameBytes (take 5 T) (70 ∷ 71 ∷ 84 ∷ 1 ∷ 0 ∷ []) ≡ s → false ≡ s
+      go true e = absurd (h (en ∙ ap val (sym (take-take 4 5 T (omega arith))) ∙ ap (λ (l : List ℕ). val (take 4 l)) (sameBytes-ok (take 5 T) (70 ∷ 71 ∷ 84 ∷ 1 ∷ 0 ∷ []) e)))
+      go false e = refl
+
+  pub marked-last : (T : List ℕ) → 5 ≤ length T → ((i : ℕ) → getD T i 0 < 256) → n ≡ at T 4 0 → n ≡ 22300486 → (v : ℕ) → v ≡ at T 1 4 → eqb v 0 ≡ sameBytes (take 5 T) (70 ∷ 71 ∷ 84 ∷ 1 ∷ 0 ∷ [])
+  unfolding at val leBytes sameBytes
+  marked-last (a ∷ b ∷ c ∷ d ∷ e ∷ r) long small en eh v ev =
+      let front : 70 ∷ 71 ∷ 84 ∷ 1 ∷ [] ≡ a ∷ b ∷ c ∷ d ∷ [] = ap (leBytes 4) (sym eh ∙ en) ∙ leBytes-val (a ∷ b ∷ c ∷ d ∷ []) (small 0, (small 1, (small 2, (small 3, tt)))) in
+      let ee : v ≡ e = omega arith in
+      rw ee (go (eqb e 0)) ∙ ap (λ (l : List ℕ). sameBytes (l ++ (e ∷ [])) (70 ∷ 71 ∷ 84 ∷ 1 ∷ 0 ∷ [])) front
+    where
+      go : (q : Bool) → q ≡ q && true
+      go true = refl
+      go false = refl
+  marked-last [] long small en eh v ev = absurd (omega arith)
+  marked-last (a ∷ []) long small en eh v ev = absurd (omega arith)
+  marked-last (a ∷ b ∷ []) long small en eh v ev = absurd (omega arith)
+  marked-last (a ∷ b ∷ c ∷ []) long small en eh v ev = absurd (omega arith)
+  marked-last (a ∷ b ∷ c ∷ d ∷ []) long small en eh v ev = absurd (omega arith)
 
 pub header-short : (T : List ℕ) → length T < 12 → faultAt 0 31 ≡ headerRules T
 unfolding headerRules headerTests firstOf typesAt

@@ -3,12 +3,24 @@ use crate::MemberRow;
 use crate::TypeRow;
 use crate::Verdict;
 ghost use mathlib.Core.Path.{_≡_};
+ghost use mathlib.Core.List.{[], _∷_};
 ghost use Prim.Native.Nat.{_+_, _*_, _≤_, _<_, max};
-ghost use lib.ListN.{length};
-ghost use Rattle.encoding.specs.Result.{firstOf};
+ghost use lib.ListN.{length, take};
+ghost use Rattle.encoding.specs.Result.{firstOf, sameBytes};
 ghost use Rattle.encoding.specs.Table.{any, range, types, headerRules, sumRules, orElse, used, noPart, alike, faultAt, faults};
 ghost use Rattle.table.specs.Names.{isNamed};
 ghost use Rattle.table.specs.Checks.{verdictOf, isSetFrom, noBaseOf, enumRules, structRules, seqRules, dictRules, recordRules, listRules, kindRules, rowRules, share, typePass, isOptionalOf, isTagBefore, isTagAlike, requiredRules, optionalRules, memberRulesBy, ownerPass, ownersPass, MembersInside, OwnersInside};
+
+// The mark FGT and version 1 stand in front: four bytes as an int, then a 0.
+fn is_marked(table: &[u8]) -> bool
+    requires { ⌜ 5 ≤ length (now table) ⌝ }
+    ensures { λ r. ⌜ r ≡ sameBytes (take 5 (now (table .entry))) (70 ∷ 71 ∷ 84 ∷ 1 ∷ 0 ∷ []) ⌝ }
+{
+    if wire::int_at(table, 0) != 22300486 {
+        return false;
+    }
+    wire::byte_at(table, 4) == 0
+}
 
 // The class of the header, or 0.
 fn header(table: &[u8]) -> usize
@@ -17,7 +29,7 @@ fn header(table: &[u8]) -> usize
     if table.len() < 12 {
         return 31;
     }
-    if !crate::naming::same(&table[0..5], b"FGT\x01\x00") {
+    if !is_marked(table) {
         return 31;
     }
     let t = crate::types(table);

@@ -9,11 +9,7 @@ header-spec =
     tie.close
     (tie.spec
     (λ c. search header-short)  -- returns
-    (λ c. search needs)  -- sub-same
-    (λ c. search needs)  -- part-same-start
-    (λ c. search needs)  -- part-same-end
-    (λ c. search needs)  -- slice-aggregate-same
-    (λ c κs. search needs)  -- same-requires
+    (λ c κs. search needs)  -- is-marked-requires
     (λ c. search header-mark)  -- returns-2
     (λ c κs. search needs)  -- types-requires
     (λ c. search header-none)  -- returns-3
