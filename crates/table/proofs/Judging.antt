@@ -9,6 +9,7 @@
 --   Before, before-.., alike-is   the loop over the names before, and that it finds what is alike
 --   enum-.. list-..            the rules of each kind; kind-.. those of a row by its kind; row-.. all of a type row
 --   share-.., Sum, sum-..      the member rows that rows take
+--   basic-..                   a basic row breaks no rule and takes no member rows
 --   Types, types-..            the pass over the type rows and the member sum
 --   Tags, tags-..              the loop over the tags before; alike-above, alike-below only of a tag below a bound
 --   required-.., optional-.., member-..   the rules of a member row
@@ -19,28 +20,29 @@ use mathlib.Core.Path.{_≡_, refl, sym, ap, ap₂, _∙_}
 use mathlib.Core.Bool.{Bool, true, false, _&&_, _||_, not}
 use mathlib.Core.List.{List, [], _∷_, _++_}
 use mathlib.Core.Logic.{⊎-elim}
-use native.Mathlib.Nat.{eq-or-lt-of-le}
+use native.Mathlib.Nat.{add-zero, eq-or-lt-of-le}
 use native.Mathlib.Numerals.{add-one, sub-one}
 use native.Mathlib.Omega.{arith}
 use lib.ListN.{length, take, drop, getD, List·getD-eq-default}
 use lib.Seq.{take-take}
 use lib.Dec.{eqb, ltb}
-use borrow.Author.Tests.{eqb-true, eqb-false, ltb-false, lt-ltb, le-ltb, le-leb, lt-leb, eq-eqb, ne-eqb}
+use borrow.Author.Tests.{eqb-true, eqb-false, ltb-true, ltb-false, lt-ltb, le-ltb, le-leb, lt-leb, eq-eqb, ne-eqb}
 use Rattle.encoding.specs.Result.{pick, firstOf, sameBytes}
-use Rattle.encoding.specs.ResultLaws.{sameBytes-ok}
+use Rattle.encoding.specs.ResultLaws.{both-true, either-false, sameBytes-ok}
 use Rattle.encoding.specs.Number.{val, leBytes, negative}
 use Rattle.encoding.specs.NumberLaws.{leBytes-val}
 use Rattle.encoding.specs.Table.{at, types, members, names, typesAt, rowAt, membersAt, memberAt, namesAt, kind, field, memberType, mark, tag, isRecord, owns, nameOf, range, any, used, taken, noPart, alike, typeRules, headerTests, headerRules, sumRules, faultAt, Fault, fine, fault, orElse, pass, passes, faults}
+use Rattle.wire.specs.At.{at-split}
 use Rattle.table.specs.Names.{nameStart, isNamed}
 use Rattle.table.specs.NamesLaws.{name-part}
-use Rattle.table.specs.Checks.{verdictOf, isSetFrom, noBaseOf, enumRules, structRules, seqRules, dictRules, recordRules, listRules, kindRules, rowRules, share, typePass, memberPass, isOptionalOf, isTagBefore, isTagAlike, requiredRules, optionalRules, memberRulesBy, memberRulesOf, ownerPass, ownersPass, MembersInside, OwnersInside}
+use Rattle.table.specs.Checks.{verdictOf, isSetFrom, noBaseOf, enumRules, structRules, seqRules, dictRules, recordRules, listRules, kindRules, rowRules, share, isBasic, typePass, memberPass, isOptionalOf, isTagBefore, isTagAlike, requiredRules, optionalRules, memberRulesBy, memberRulesOf, ownerPass, ownersPass, MembersInside, OwnersInside}
 use Rattle.table.specs.ChecksLaws.{row-rules, or-assoc, table-length, owners-pass, owners-inside}
 use Rattle.table.specs.Rows.{typeRowOf, memberRowOf, IsTypeRow, IsMemberAt, IsMemberRow}
 use Rattle.table.specs.declared.TypeRow.{TypeRow}
 use Rattle.table.specs.declared.MemberRow.{MemberRow}
 use Rattle.table.specs.declared.Verdict.{Verdict}
 use Rattle.table.specs.declared.Verdict.the-variants.{Fine, Broken}
-use Rattle.table.proofs.Places.{member-placed}
+use Rattle.table.proofs.Places.{row-shows, member-placed}
 use Rattle.table.proofs.Ranges.{range-more, range-none, range-left, range-empty, any-here, any-next, any-none, any-never}
 use Rattle.table.proofs.Shapes.{by-kind}
 
@@ -453,6 +455,67 @@ pub sum-next : (T : List ℕ) (t sum s : ℕ) → Sum T t sum → s ≡ share (t
 unfolding taken share
 sum-next T t sum s inv e h = record { so-far = rw (add-one, inv .so-far, e); bound = omega (arith, inv .bound) }
 
+-- ---- basic rows
+
+module _ (T : List ℕ) (t n : ℕ) (en : n ≡ at (take (12 + 12 * t + 12 - (12 + 12 * t)) (drop (12 + 12 * t) T)) 4 0) where
+  first-is : n ≡ at T 4 (rowAt T t)
+  first-is = en ∙ row-shows T t 12 (omega arith) .same 4 0 (omega arith) ∙ rw add-zero
+
+  pub basic-other : 8 ≤ n → false ≡ isBasic T t
+  unfolding isBasic
+  basic-other h = rw (← first-is, le-ltb n 8 h)
+
+  pub basic-rest : n < 8 → (v : ℕ) → v ≡ at (take (12 + 12 * t + 12 - (12 + 12 * t)) (drop (12 + 12 * t) T)) 8 4 → eqb v 0 ≡ isBasic T t
+  unfolding isBasic
+  basic-rest h v ev = rw (← first-is, lt-ltb n 8 h) (ap (λ (z : ℕ). eqb z 0) (ev ∙ row-shows T t 12 (omega arith) .same 8 4 (omega arith)))
+
+-- a number that is 0 begins with a short that is 0, and so does what is behind it
+zero-parts : (T : List ℕ) (k p : ℕ) → at T (2 + k) p ≡ 0 → (at T 2 p ≡ 0) × (at T k (p + 2) ≡ 0)
+zero-parts T k p h = (omega (arith, at-split T 2 k p), omega (arith, at-split T 2 k p))
+
+-- a kind below 8 takes no member rows
+low-owns : (k : ℕ) → k < 8 → owns k ≡ false
+low-owns k h = rw (ne-eqb k 9 (λ e. omega arith), ne-eqb k 13 (λ e. omega arith), ne-eqb k 14 (λ e. omega arith), ne-eqb k 15 (λ e. omega arith))
+
+module _ (T : List ℕ) (t : ℕ) (basic : isBasic T t ≡ true) where
+  basic-tests : (at T 4 (rowAt T t) < 8) × (at T 8 (rowAt T t + 4) ≡ 0)
+  unfolding isBasic
+  basic-tests = let b = both-true (ltb (at T 4 (rowAt T t)) 8) _ basic in (ltb-true _ _ (b .0), eqb-true _ _ (b .1))
+
+  basic-kind : kind T t < 8
+  unfolding kind
+  basic-kind = omega (arith, at-split T 2 2 (rowAt T t), at-split T 1 1 (rowAt T t), basic-tests .0)
+
+  basic-spare : at T 1 (rowAt T t + 1) ≡ 0
+  basic-spare = omega (arith, at-split T 2 2 (rowAt T t), at-split T 1 1 (rowAt T t), basic-tests .0)
+
+  basic-field : (i p : ℕ) → rowAt T t + 2 + 2 * i ≡ p → at T 2 p ≡ 0 → field T t i ≡ 0
+  unfolding field
+  basic-field i p e h = ap (at T 2) e ∙ h
+
+  basic-clear : false ≡ isSetFrom (typeRowOf T t) 0
+  unfolding isSetFrom any
+  basic-clear =
+      let p = rowAt T t in
+      let a : at T 2 (p + 2) ≡ 0 = omega (arith, at-split T 2 2 p, basic-tests .0) in
+      let b = zero-parts T 6 (p + 4) (basic-tests .1) in
+      let c = zero-parts T 4 (p + 4 + 2) (b .1) in
+      let d = zero-parts T 2 (p + 4 + 2 + 2) (c .1) in
+      rw (basic-field 0 _ (omega arith) a, basic-field 1 _ (omega arith) (b .0), basic-field 2 _ (omega arith) (c .0), basic-field 3 _ (omega arith) (d .0), basic-field 4 _ (omega arith) (d .1))
+
+  basic-rules : 0 ≡ firstOf (typeRules T t)
+  basic-rules =
+      let l = basic-kind in
+      let r = typeRowOf T t in
+      let z = either-false (eqb (kind T t) 9) _ (low-owns (kind T t) l) in
+      let y = either-false (isRecord (kind T t)) _ (z .1) in
+      row-known T t r (taken T t) basic-spare false (unused-low r (kind T t) false l basic-clear) refl (omega arith) 0
+      (kind-plain T t r (taken T t) 0 (λ e. omega arith) (λ e. omega arith) (λ e. omega arith) (λ e. omega arith) (isRecord (kind T t)) refl (y .0) (λ e. omega arith))
+      ∙ row-rules T t
+
+  basic-share : 0 ≡ share (typeRowOf T t)
+  basic-share = share-none (typeRowOf T t) (owns (kind T t)) refl (low-owns (kind T t) basic-kind)
+
 -- ---- a pass
 
 module _ (place : ℕ → ℕ) (f : ℕ → List (ℕ × Bool)) (r c : ℕ) (l : List ℕ) (e : c ≡ firstOf (f r)) where
@@ -510,6 +573,16 @@ module _ (T : List ℕ) (n t prior : ℕ) (inv : Types T n t prior) where
     pub types-end : prior ≡ m → Fine ≡ verdictOf (orElse (typePass T) (sumRules T))
     unfolding sumRules faultAt verdictOf
     types-end z = sym (rows-fine ∙ rw (← sum-is, ← em, eq-eqb prior m z))
+
+  pub types-basic : t < n → (b : Bool) → b ≡ isBasic T t → b ≡ true → Types T n (t + 1) prior
+  types-basic h b e q =
+      let basic = sym e ∙ q in
+      record {
+        within = omega arith;
+        few = inv .few;
+        sum = rw add-zero at (sum-next T t prior 0 (inv .sum) (basic-share T t basic) (omega arith));
+        rest = inv .rest ∙ rw (range-more t n h) (ap verdictOf (pass-next (rowAt T) (typeRules T) t 0 (range (t + 1) (n - (t + 1))) (basic-rules T t basic) refl));
+      }
 
   module _ (h : t < n) (r : TypeRow) (er : IsTypeRow T t r) (c : ℕ) (e : c ≡ firstOf (rowRules T t r prior)) where
     types-row : c ≡ firstOf (typeRules T t)

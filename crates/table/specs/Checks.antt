@@ -6,6 +6,7 @@
 --   enumRules .. listRules    the rules that a kind has, of row t by its fields r; n is the number of member rows taken before
 --   kindRules, rowRules       those of its kind; all of a type row
 --   share                     how many member rows a row takes
+--   isBasic                   a type row's kind is below 8 and every other byte is 0
 --   typePass, memberPass      the passes over type rows and over member rows
 --   isOptionalOf              a member row is optional and has a tag
 --   isTagBefore               a member row from a first one on, before m, is one
@@ -20,7 +21,7 @@ use mathlib.Core.List.{List, [], _∷_}
 use lib.ListN.{length, drop}
 use lib.Dec.{eqb, leb, ltb}
 use Rattle.encoding.specs.Result.{pick}
-use Rattle.encoding.specs.Table.{types, members, names, rowAt, memberAt, kind, field, mark, tag, isRecord, owns, range, any, great, used, noPart, alike, typeRules, memberRules, Fault, fine, fault, orElse, pass}
+use Rattle.encoding.specs.Table.{at, types, members, names, rowAt, memberAt, kind, field, mark, tag, isRecord, owns, range, any, great, used, noPart, alike, typeRules, memberRules, Fault, fine, fault, orElse, pass}
 use Rattle.table.specs.Rows.{typeRowOf, memberRowOf}
 use Rattle.table.specs.declared.TypeRow.{TypeRow}
 use Rattle.table.specs.declared.MemberRow.{MemberRow}
@@ -82,6 +83,9 @@ rowRules T t r n =
 
 unfoldable pub share : TypeRow → ℕ
 share r = pick (owns (r .kind)) (r .b) 0
+
+unfoldable pub isBasic : List ℕ → ℕ → Bool
+isBasic T t = ltb (at T 4 (rowAt T t)) 8 && eqb (at T 8 (rowAt T t + 4)) 0
 
 unfoldable pub typePass : List ℕ → Fault
 typePass T = pass (rowAt T) (typeRules T) (range 0 (types T))

@@ -9,7 +9,7 @@ ghost use lib.ListN.{length, take};
 ghost use Rattle.encoding.specs.Result.{firstOf, sameBytes};
 ghost use Rattle.encoding.specs.Table.{any, range, types, headerRules, sumRules, orElse, used, noPart, alike, faultAt, faults};
 ghost use Rattle.table.specs.Names.{isNamed};
-ghost use Rattle.table.specs.Checks.{verdictOf, isSetFrom, noBaseOf, enumRules, structRules, seqRules, dictRules, recordRules, listRules, kindRules, rowRules, share, typePass, isOptionalOf, isTagBefore, isTagAlike, requiredRules, optionalRules, memberRulesBy, ownerPass, ownersPass, MembersInside, OwnersInside};
+ghost use Rattle.table.specs.Checks.{verdictOf, isSetFrom, noBaseOf, enumRules, structRules, seqRules, dictRules, recordRules, listRules, kindRules, rowRules, share, isBasic, typePass, isOptionalOf, isTagBefore, isTagAlike, requiredRules, optionalRules, memberRulesBy, ownerPass, ownersPass, MembersInside, OwnersInside};
 
 // The mark FGT and version 1 stand in front: four bytes as an int, then a 0.
 fn is_marked(table: &[u8]) -> bool
@@ -305,7 +305,21 @@ fn share(row: TypeRow) -> usize
     0
 }
 
-// The pass over the type rows, then the member sum.
+// Type row t is basic: its kind is below 8 and every other byte is 0.
+fn is_basic(table: &[u8], t: usize) -> bool
+    requires { ⌜ 24 + 12 * t ≤ length (now table) ⌝ }
+    ensures { λ r. ⌜ r ≡ isBasic (now (table .entry)) t ⌝ }
+{
+    let start = 12 + 12 * t;
+    let end = start + 12;
+    let row = &table[start..end];
+    if wire::int_at(row, 0) < 8 {
+        return wire::long_at(row, 4) == 0;
+    }
+    false
+}
+
+// The pass over the type rows, then the member sum. A basic row breaks no rule and takes no member rows.
 fn type_rows(table: &[u8]) -> Verdict
     requires { ⌜ 12 + 12 * types (now table) ≤ length (now table) ⌝ }
     ensures { λ r. ⌜ r ≡ verdictOf (orElse (typePass (now (table .entry))) (sumRules (now (table .entry)))) ⌝ }
@@ -314,6 +328,10 @@ fn type_rows(table: &[u8]) -> Verdict
     let mut prior = 0;
     let mut t = 0;
     while t < n {
+        if is_basic(table, t) {
+            t += 1;
+            continue;
+        }
         let row = crate::type_row_in(table, t);
         let c = type_class(table, t, row, prior);
         if c != 0 {

@@ -2,7 +2,7 @@
 use Prim.Native.Nat.{_-_}
 use borrow.Author.Needs.{needs}
 use native.Mathlib.Omega.{arith}
-use Rattle.table.proofs.Judging.{Types, types-begin, types-fault, types-next, types-sum, types-end}
+use Rattle.table.proofs.Judging.{Types, types-begin, types-basic, types-fault, types-next, types-sum, types-end}
 use Rattle.table.proofs.rules.type_rows.Statement.{statement}
 use Rattle.table.proofs.rules.type_rows.Tie as tie
 
@@ -20,16 +20,20 @@ type-rows-spec =
     μ-loop
     (λ c κs. search needs)  -- types-requires
     (λ c. search types-begin)  -- loop-holds
-    (λ c κs. search needs)  -- type-row-requires
+    (λ c κs. search needs)  -- is-basic-requires
+    (λ c. omega arith)  -- add-t
+    (λ c. omega arith)  -- loop-less
+    (λ c. search types-basic)  -- loop-again
+    (λ c κs. search needs)  -- type-row-in-requires
     (λ c κs. search needs)  -- type-class-requires
-    (λ c. omega arith)  -- mul-t8
-    (λ c. omega arith)  -- add-t9
+    (λ c. omega arith)  -- mul-t9
+    (λ c. omega arith)  -- add-t10
     (λ c. search types-fault)  -- returns
     (λ c κs. search needs)  -- share-requires
     (λ c. omega arith)  -- add-prior
-    (λ c. omega arith)  -- add-t
-    (λ c. omega arith)  -- loop-less
-    (λ c. search types-next)  -- loop-again
+    (λ c. omega arith)  -- add-t-2
+    (λ c. omega arith)  -- loop-less-2
+    (λ c. search types-next)  -- loop-again-2
     (λ c κs. search needs)  -- members-requires
     (λ c. types-sum _ _ _ _ (c .before .before .before .loop .inv) (c .before .before .before .before .types .ensures .0) (c .before .before .loop-test .left) _ (c .before .members .ensures .0) (λ e. omega arith))  -- returns-2
     (λ c. search types-end))  -- returns-3
