@@ -157,6 +157,10 @@ module _ (T : List ℕ) where
   unfolding taken share
   taken-more n = refl
 
+  share-own : (o : ℕ) → owns (kind T o) ≡ true → share (typeRowOf T o) ≡ field T o 1
+  unfolding share
+  share-own o e = rw e
+
   taken-rises : (d o : ℕ) → taken T o ≤ taken T (o + d)
   taken-rises zero o = rw add-zero (omega arith)
   taken-rises (suc d) o = let z : o + suc d ≡ suc (o + d) = omega arith in rw z (omega (arith, taken-more (o + d), taken-rises d o))
@@ -165,16 +169,12 @@ module _ (T : List ℕ) where
   taken-least o n h = let z : o + (n - o) ≡ n = omega arith in rw z at (taken-rises (n - o) o)
 
   module _ (begin : Turns T) (m o : ℕ) (own : owns (kind T o) ≡ true) (ho : o < types T) (low : taken T o ≤ m) (high : m < taken T o + share (typeRowOf T o)) where
-    share-own : share (typeRowOf T o) ≡ field T o 1
-    unfolding share
-    share-own = rw own
-
     takes-own : takes T o m ≡ true
     unfolding takes Turns
     takes-own =
         let z = begin o ho own in
         let l : field T o 0 ≤ m = omega arith in
-        let k : m < field T o 0 + field T o 1 = omega (arith, share-own) in
+        let k : m < field T o 0 + field T o 1 = omega (arith, share-own o own) in
         rw (le-leb _ _ l, lt-ltb _ _ k)
 
     takes-later : (n : ℕ) → o < n → n < types T → owns (kind T n) && takes T n m ≡ false
@@ -205,10 +205,7 @@ module _ (T : List ℕ) where
 
         go : (b : Bool) → owns (kind T o) ≡ b → pass (memberAt T) (memberRulesOf T o) (range (field T o 0) (pick b (field T o 1) 0)) ≡ pass (memberAt T) (memberRules T) (range (taken T o) (pick b (field T o 1) 0))
         go false e = refl
-        go true e = rw (begin o h e) (pass-same (memberAt T) (memberRulesOf T o) (memberRules T) (field T o 1) (taken T o) (λ m a b. same e m a (omega (arith, own e))))
-          where
-            own : owns (kind T o) ≡ true → share (typeRowOf T o) ≡ field T o 1
-            own e = rw e
+        go true e = rw (begin o h e) (pass-same (memberAt T) (memberRulesOf T o) (memberRules T) (field T o 1) (taken T o) (λ m a b. same e m a (omega (arith, share-own o e))))
 
     owners-from : (d o : ℕ) → o + d ≡ types T → ownersPass T (range o d) ≡ pass (memberAt T) (memberRules T) (range (taken T o) (taken T (types T) - taken T o))
     unfolding ownersPass range pass
@@ -255,10 +252,7 @@ owners-inside T e f = record { owners = λ o h. record { inside = λ m low high.
     p : (typePass T ≡ fine) × (sumRules T ≡ fine)
     p = or-fine (typePass T) (sumRules T) f
 
-    own : (o : ℕ) → owns (kind T o) ≡ true → share (typeRowOf T o) ≡ field T o 1
-    own o q = rw q
-
     go : (o : ℕ) → o < types T → (m : ℕ) (b : Bool) → owns (kind T o) ≡ b → field T o 0 ≤ m → m < field T o 0 + pick b (field T o 1) 0 → memberAt T m + 8 ≤ length T
     go o h m true q low high =
-        omega (arith, turns T (p .0) o h q, own o q, taken-more T o, taken-least T (suc o) (types T) h, sum-fine T (p .1), table-length T e)
+        omega (arith, turns T (p .0) o h q, share-own T o q, taken-more T o, taken-least T (suc o) (types T) h, sum-fine T (p .1), table-length T e)
     go o h m false q low high = absurd (omega arith)

@@ -10,6 +10,6 @@ no-base-spec =
     (tie.spec
     (λ c. search base-free)  -- returns
     (λ c. search base-over)  -- returns-2
-    (λ c. search needs)  -- sub-kind
-    (λ c κs. search needs)  -- kind-requires
+    (λ c. search needs)  -- sub-kind-in
+    (λ c κs. search needs)  -- kind-in-requires
     (λ c. search base-kinds))  -- returns-3

@@ -10,5 +10,5 @@ no-part-spec =
     tie.close
     (tie.spec
     (λ c. part-above _ _ _ (omega arith))  -- returns
-    (λ c κs. search needs)  -- kind-requires
+    (λ c κs. search needs)  -- kind-in-requires
     (λ c. search part-below))  -- returns-2
