@@ -11,20 +11,21 @@
 use mathlib.Core.Path.{_≡_, refl, sym, ap, _∙_}
 use mathlib.Core.Bool.{Bool, true, false}
 use mathlib.Core.Option.{Option, none, some}
-use mathlib.Core.List.{List, [], _∷_, map}
+use mathlib.Core.List.{List, map}
 use Prim.Native.Nat.{ℕ, zero, suc, _+_, _≤_, _<_}
 use native.Mathlib.Omega.{arith}
 use lib.ListN.{getD}
-use lib.Dec.{eqb, ltb}
+use lib.Dec.{ltb}
 use borrow.Author.Tests.{ltb-true, ltb-false, lt-ltb, le-ltb}
 use Rattle.encoding.specs.Result.{pick}
-use Rattle.encoding.specs.Types.{Ty, formOf}
+use Rattle.encoding.specs.Types.{formOf}
 use Rattle.encoding.specs.TableLaws.{ty-past}
-use Rattle.encoding.specs.Table.{members, range, memberType, mark, tag, memberTy, trees, tyOf, Member, optionalOf, lookup}
+use Rattle.encoding.specs.Table.{members, range, memberType, memberTy, trees, tyOf, Member, lookup}
 use Rattle.table.specs.declared.Found.the-variants.{At, Nothing}
 use Rattle.table.specs.Found.{rowFound}
 use Rattle.table.specs.Forms.{formNumber, formAt, formsOf}
 use Rattle.table.specs.Tags.{ownFrom, optionalFrom}
+use Rattle.table.specs.TagsLaws.{found-own}
 use Rattle.table.proofs.Places.{rows-below, member-row, no-member}
 use Rattle.level.specs.Forms.{formNamed, formIn}
 use Rattle.level.specs.FormsLaws.{named-number}
@@ -78,27 +79,9 @@ pub typed : (T : List ℕ) (m all i r : ℕ) → all ≡ members T → i ≡ mem
 unfolding typeRow
 typed T m all i r ea ei e = rw (← ea, ← ei) e
 
-optional-type : (T : List ℕ) (l : List Ty) (rs : List ℕ) (k : ℕ) (m : Member) → lookup k (optionalOf T l rs) ≡ some m → m .ty ≡ memberTy T l (m .row)
-unfolding optionalOf lookup
-optional-type T l [] k m h = let z : _≡_ {A = ℕ} 0 1 = cc in absurd (omega arith)
-optional-type T l (r ∷ rs) k m h = go (eqb (mark T r) 0) (eqb k (tag T r)) refl h (optional-type T l rs k m)
-  where
-    here : (b : Bool) → pick b (some (record { row = r; key = tag T r; ty = memberTy T l r })) (lookup k (optionalOf T l rs)) ≡ some m
-        → (lookup k (optionalOf T l rs) ≡ some m → m .ty ≡ memberTy T l (m .row)) → m .ty ≡ memberTy T l (m .row)
-    here true h again =
-        let e : record { row = r; key = tag T r; ty = memberTy T l r } ≡ m = cc in
-        sym (ap (λ (x : Member). x .ty) e) ∙ ap (λ (x : Member). memberTy T l (x .row)) e
-    here false h again = again h
-
-    go : (a b : Bool) → eqb k (tag T r) ≡ b
-        → lookup k (pick a (optionalOf T l rs) (record { row = r; key = tag T r; ty = memberTy T l r } ∷ optionalOf T l rs)) ≡ some m
-        → (lookup k (optionalOf T l rs) ≡ some m → m .ty ≡ memberTy T l (m .row)) → m .ty ≡ memberTy T l (m .row)
-    go true b e h again = again h
-    go false b e h again = here (eqb k (tag T r)) h again
-
 pub optional-of : (T : List ℕ) (t from k : ℕ) (m : Member) → lookup k (optionalFrom T t from) ≡ some m → m .ty ≡ memberTy T (trees T) (m .row)
-unfolding optionalFrom
-optional-of T t from k m h = optional-type T (trees T) (ownFrom T t from) k m h
+unfolding optionalFrom ownFrom
+optional-of T t from k m h = found-own T (trees T) k _ _ m h .type-is
 
 pub record Met (T : List ℕ) (t from k row : ℕ) : Type 0 where
   pub member : Member

@@ -2,24 +2,27 @@
 --
 --   answer-alike     of members among which every tag from the least on is looked up alike
 --   passed-answer    of all optional members of a row, and of those behind the passed
-use mathlib.Core.Path.{_≡_, refl, sym}
+--   member-tag       the member of a known optional has its tag
+--   member-within    it is one of the row's members
+use mathlib.Core.Path.{_≡_, refl, sym, ap, _∙_}
 use mathlib.Core.Bool.{Bool, true, false, _&&_}
 use mathlib.Core.Option.{Option, none, some}
 use mathlib.Core.List.{List}
-use Prim.Native.Nat.{ℕ, suc, _≤_}
+use Prim.Native.Nat.{ℕ, suc, _+_, _≤_, _<_}
+use native.Mathlib.Omega.{arith}
 use lib.ListN.{drop}
 use lib.Dec.{eqb, ltb}
 use borrow.Author.Tests.{ltb-false}
 use Rattle.encoding.specs.Result.{Res, ok, bad, pick, shift, after, _>>=_, judged, must, made, mapc, bytes, inside, firstOf}
 use Rattle.encoding.specs.Types.{bits, Form, formOf}
 use Rattle.encoding.specs.Value.{value}
-use Rattle.encoding.specs.Table.{Member, lookup}
+use Rattle.encoding.specs.Table.{field, tag, Member, lookup}
 use Rattle.encoding.specs.Table
 use Rattle.encoding.specs.Optional.{optional, skipped, Header, wrongType, headerForm, header, extent, part, content, optionalOf}
 use Rattle.table.specs.Tags.{optionalFrom, Passed}
-use Rattle.table.specs.TagsLaws.{passed-lookup}
+use Rattle.table.specs.TagsLaws.{optional-own, passed-lookup}
 use Rattle.level.specs.Answers.{front, pieceAnswer, optionalAnswer}
-use Rattle.level.specs.AnswersLaws.{header-rises}
+use Rattle.level.specs.AnswersLaws.{header-rises, KnownRead}
 
 module _ (ms ns : List Member) (least : ℕ) (alike : (k : ℕ) → least ≤ k → lookup k ms ≡ lookup k ns) where
   form-alike : (h : Header) → headerForm ms least h ≡ headerForm ns least h
@@ -74,3 +77,11 @@ module _ (ms ns : List Member) (least : ℕ) (alike : (k : ℕ) → least ≤ k 
 pub passed-answer : (T : List ℕ) (t from least : ℕ) → Passed T t from least → (s : List ℕ)
     → optionalAnswer (optionalFrom T t from) (optionalOf (optionalFrom T t from) least s) ≡ optionalAnswer (Table.optional T t) (optionalOf (Table.optional T t) least s)
 passed-answer T t from least P s = sym (answer-alike (Table.optional T t) (optionalFrom T t from) least (passed-lookup T t from least P) s)
+
+-- the member of a known optional
+module _ (T : List ℕ) (t least : ℕ) (s : List ℕ) (m k a n : ℕ) (K : KnownRead (Table.optional T t) least s m k a n) where
+  pub member-tag : tag T m ≡ k
+  member-tag = ap (tag T) (sym (K .row)) ∙ optional-own T t k (K .member) (K .found) .tag-is
+
+  pub member-within : m < field T t 0 + field T t 1
+  member-within = omega (arith, K .row, optional-own T t k (K .member) (K .found) .within)

@@ -1,7 +1,7 @@
 -- How a walk ends, numbers that stay small, and parts of a message. Assumes nothing.
 --
 --   Ends, ends-..                 an answer and a lent list are those of an outcome
---   Small, types-below, members-below   a table is of bytes, so that it has few types and members
+--   Small, types-below, field-below     a table is of bytes, so that it has few types and a row names few members
 --   part-on, part-length                what is left of a part of a message
 use mathlib.Core.Path.{_≡_, refl, sym, ap, ap₂, _∙_, subst}
 use mathlib.Core.List.{List, [], _∷_}
@@ -11,7 +11,6 @@ use native.Mathlib.Omega.{arith}
 use lib.ListN.{length, take, drop, getD, length-drop}
 use lib.Seq.{take-nil, drop-drop, length-take-le}
 use Rattle.encoding.specs.Table.{at as number-at, types, field}
-use Rattle.encoding.specs.Table
 use Rattle.wire.specs.At.{at-more, at-byte}
 use Rattle.reader.specs.declared.Walk.{Walk}
 use Rattle.reader.specs.declared.Walk.the-variants.{Stop}
@@ -55,9 +54,9 @@ pub types-below : (T : List ℕ) → Small T → types T < 65536
 unfolding types
 types-below T S = short-below T S 5
 
-pub members-below : (T : List ℕ) → Small T → (t : ℕ) → field T t 1 < 65536
+pub field-below : (T : List ℕ) → Small T → (t i : ℕ) → field T t i < 65536
 unfolding field
-members-below T S t = short-below T S _
+field-below T S t i = short-below T S _
 
 -- ---- parts
 

@@ -24,9 +24,9 @@ use Rattle.wire.specs.Put.{put}
 use Rattle.wire.specs.StepLaws.{rest-is}
 use Rattle.table.specs.Tags.{optionalFrom, Passed}
 use Rattle.table.specs.Tags
-use Rattle.table.specs.TagsLaws.{passed-none, passed-on}
+use Rattle.table.specs.TagsLaws.{passed-none, passed-still, passed-behind}
 use Rattle.level.specs.Fill.{fill}
-use Rattle.level.specs.TagLaws.{passed-answer}
+use Rattle.level.specs.TagLaws.{passed-answer, member-tag, member-within}
 use Rattle.level.specs.Answers.{membersOf, optionalAnswer}
 use Rattle.level.specs.AnswersLaws.{KnownRead, known-read, skipped-read, wrong-read, known-within, known-start, known-tag, skipped-some, skipped-within, skipped-tag, wrong-within, members-read, members-refused, members-within, refused-within}
 use Rattle.level.specs.declared.Members.{Members}
@@ -39,7 +39,7 @@ use Rattle.reader.specs.Walks.{listWalk}
 use Rattle.reader.specs.Left.{Outcome, listed, refused, answerOf, optionalsFrom, finish, listClose, listing}
 use Rattle.reader.specs.LeftLaws.{parameters-required, parameters-refused, finish-end, finish-wrong, finish-known, finish-skipped}
 use Rattle.reader.specs.MemberLaws.{required-few, optional-two}
-use Rattle.reader.proofs.Endings.{Ends, ends-refused, ends-listed, ends-answer, ends-list, Small, members-below}
+use Rattle.reader.proofs.Endings.{Ends, ends-refused, ends-listed, ends-answer, ends-list, Small, field-below}
 
 -- ---- the whole walk
 
@@ -78,6 +78,7 @@ not-end m at h = go (drop at m) (omega (arith, length-drop at m))
     go (x ∷ l) h = refl
 
 pub record Listing (T : List ℕ) (top : ℕ) (m : List ℕ) (whole : Outcome) (at least row k o : ℕ) (out : List ℕ) : Type 0 where
+  pub small : Small T
   pub room : length m < 2 ^ 63
   pub inside : at ≤ length m
   pub few : 2 * k ≤ 131072 + at
@@ -123,15 +124,16 @@ module _ (T : List ℕ) (top : ℕ) (m : List ℕ) (start : ℕ) (h : start ≤ 
             ∙ ap₂ (λ (i : ℕ) (l : List ℕ). finish T top (listClose top) refused false (start + n) i 0 l (optionalsFrom atEnd (Table.optional T top) 0 (drop n (drop start m)))) (sym (R .2)) (sym (fills (R .0) n e))
             ∙ ap (λ (l : List ℕ). finish T top (listClose top) refused false (start + n) j 0 out′ (optionalsFrom atEnd (Table.optional T top) 0 l)) (drop-drop n start m)
 
-    pub list-in : (out′ : List ℕ) → Small T → length m < 2 ^ 63 → Listing T top m (listing T top m (start + n) 0 j 0 out′) (start + n) 0 0 j 0 out′
-    list-in out′ S l =
+    pub list-in : {row : ℕ} → row ≡ Table.field T top 0 → (out′ : List ℕ) → Small T → length m < 2 ^ 63 → Listing T top m (listing T top m (start + n) 0 j 0 out′) (start + n) 0 row j 0 out′
+    list-in e out′ S l =
         let R = members-read (Table.required T top) 0 (drop start m) ms reads n j q in
         record {
+          small = S;
           room = l;
           inside = list-within;
-          few = omega (arith, R .2, required-few T top (drop start m) (R .0) n (R .1), members-below T S top);
+          few = omega (arith, R .2, required-few T top (drop start m) (R .0) n (R .1), field-below T S top 1);
           fewer = omega arith;
-          passed = passed-none T top;
+          passed = rw e (passed-none T top);
           rest = refl;
         }
 
@@ -175,15 +177,19 @@ module _ {T : List ℕ} {top : ℕ} {m : List ℕ} {whole : Outcome} {at least r
       pub listing-tag : Fits w64 (tag + 1)
       listing-tag = omega (arith, known-tag (Table.optional T top) least (drop at m) r answers i tag a n q)
 
-      pub listing-known : {out′ : List ℕ} → out′ ≡ put (12 * k) (rowBytes (record { member = i; place = at + a; len = n - a })) out → {row′ : ℕ} → row′ ≡ Tags.onward T top row tag
+      pub listing-few : i < 131072
+      listing-few = omega (arith, member-within T top least (drop at m) i tag a n reading, field-below T (inv .small) top 0, field-below T (inv .small) top 1)
+
+      pub listing-known : {out′ : List ℕ} → out′ ≡ put (12 * k) (rowBytes (record { member = i; place = at + a; len = n - a })) out → {row′ : ℕ} → row′ ≡ Tags.behind T row i tag
           → Listing T top m whole (at + n) (tag + 1) row′ (k + 1) o out′
       unfolding listing
       listing-known {out′} w {row′} p = record {
+        small = inv .small;
         room = inv .room;
         inside = listing-within;
         few = omega (arith, inv .few, listing-two);
         fewer = omega (arith, inv .fewer);
-        passed = rw p (passed-on T top row least (inv .passed) tag (reading .rises));
+        passed = rw p (passed-behind T top row least (inv .passed) tag (reading .rises) i (member-tag T top least (drop at m) i tag a n reading));
         rest = inv .rest ∙ finish-known T top (listClose top) refused atEnd false least (drop at m) at k o out (not-end m at on) i tag a n reading
             ∙ ap₂ (λ (y : List ℕ) (l : List ℕ). finish T top (listClose top) refused false (at + n) (k + 1) o y (optionalsFrom atEnd (Table.optional T top) (suc tag) l)) (sym w) (drop-drop n at m)
             ∙ rw (add-one tag);
@@ -206,14 +212,15 @@ module _ {T : List ℕ} {top : ℕ} {m : List ℕ} {whole : Outcome} {at least r
       pub listing-past-tag : Fits w64 (tag + 1)
       listing-past-tag = omega (arith, skipped-tag (Table.optional T top) least (drop at m) r answers tag n q)
 
-      pub listing-skipped : {row′ : ℕ} → row′ ≡ Tags.onward T top row tag → Listing T top m whole (at + n) (tag + 1) row′ k (o + 1) out
+      pub listing-skipped : Listing T top m whole (at + n) (tag + 1) row k (o + 1) out
       unfolding listing
-      listing-skipped {row′} p = record {
+      listing-skipped = record {
+        small = inv .small;
         room = inv .room;
         inside = listing-past;
         few = omega (arith, inv .few);
         fewer = omega (arith, inv .fewer, listing-some);
-        passed = rw p (passed-on T top row least (inv .passed) tag (skipped-read (Table.optional T top) least (drop at m) r answers tag n q .rises));
+        passed = passed-still T top row least (inv .passed) tag (skipped-read (Table.optional T top) least (drop at m) r answers tag n q .rises);
         rest = inv .rest
             ∙ finish-skipped T top (listClose top) refused atEnd false least (drop at m) at k o out (not-end m at on) tag n (skipped-read (Table.optional T top) least (drop at m) r answers tag n q)
             ∙ ap (λ (l : List ℕ). finish T top (listClose top) refused false (at + n) k (o + 1) out (optionalsFrom atEnd (Table.optional T top) (suc tag) l)) (drop-drop n at m)

@@ -21,7 +21,7 @@ use mir.Syntax.{w64}
 use mir.Val.{Fits}
 use Rattle.encoding.specs.Result.{Res, ok, bad, pick, atMark}
 use Rattle.encoding.specs.ResultLaws.{both-true, held-took}
-use Rattle.encoding.specs.Table.{base}
+use Rattle.encoding.specs.Table.{field, base}
 use Rattle.encoding.specs.Table
 use Rattle.encoding.specs.TableLaws.{base-below}
 use Rattle.encoding.specs.Optional.{Piece, requireds, optionalOf}
@@ -33,8 +33,9 @@ use Rattle.wire.specs.Put.{put}
 use Rattle.wire.specs.StepLaws.{rest-is}
 use Rattle.table.specs.Tags.{optionalFrom, Passed}
 use Rattle.table.specs.Tags
-use Rattle.table.specs.TagsLaws.{passed-none, passed-on}
+use Rattle.table.specs.TagsLaws.{passed-none, passed-still, passed-behind}
 use Rattle.level.specs.Fill.{fill}
+use Rattle.level.specs.TagLaws.{member-tag, member-within}
 use Rattle.level.specs.Answers.{membersOf}
 use Rattle.level.specs.AnswersLaws.{KnownRead, SkippedRead, members-read, members-refused, members-within, refused-within}
 use Rattle.level.specs.declared.Members.{Members}
@@ -55,7 +56,7 @@ use Rattle.reader.specs.LeftLaws.{left-whole, left-listed, left-refused,
 use Rattle.reader.specs.OpeningLaws.{Opened, Skipped, opening-wrong, opening-place, opening-skip, opening-known, opened-eats, opened-sized, row-below, row-base, passed-never}
 use Rattle.reader.specs.MemberLaws.{required-few, optional-two, mark-byte}
 use Rattle.reader.specs.TurnLaws.{turn-end, turn-known, turn-skipped, Early, turn-wrong, turn-place, passed-turn}
-use Rattle.reader.proofs.Endings.{Ends, ends-refused, ends-listed, ends-answer, ends-list, Small, types-below, members-below, part-on, part-length}
+use Rattle.reader.proofs.Endings.{Ends, ends-refused, ends-listed, ends-answer, ends-list, Small, types-below, field-below, part-on, part-length}
 
 -- ---- the whole walk
 
@@ -239,9 +240,9 @@ module _ {T : List ℕ} {top : ℕ} {m : List ℕ} {whole : Outcome} {stage : St
                   (sym (R .2)) (sym (fills (R .0) n (R .1)))
                   ∙ ap (λ (l : List ℕ). pick opt (finish T t close (recalling pos) true (pos + a + n) j o out′ (optionalsFrom atMark (Table.optional T t) 0 l)) (close (pos + a + n) j o out′)) (part-on m (pos + a) n (pos + b))
 
-        pub outer-in : (out′ : List ℕ)
-            → Inner T top m (amid T top m (stageOf stage) pos t z (pos + a) (pos + b) s fst (pos + a + n) 0 j o opt out′) stage pos t z (pos + a) (pos + b) s fst (pos + a + n) 0 0 j o opt out′
-        outer-in out′ =
+        pub outer-in : {row : ℕ} → row ≡ field T t 0 → (out′ : List ℕ)
+            → Inner T top m (amid T top m (stageOf stage) pos t z (pos + a) (pos + b) s fst (pos + a + n) 0 j o opt out′) stage pos t z (pos + a) (pos + b) s fst (pos + a + n) 0 row j o opt out′
+        outer-in e out′ =
             let R = members-read (Table.required T t) k part ms em n j w in
             let eats = opened-eats T top (stageOf stage) (drop pos m) t opt z a b opened in
             record {
@@ -250,11 +251,11 @@ module _ {T : List ℕ} {top : ℕ} {m : List ℕ} {whole : Outcome} {stage : St
               begun = omega arith;
               inside = at-within;
               within = known-within;
-              few = omega (arith, inv .few, owner-counts, R .2, required-few T t part (R .0) n (R .1), members-below T (inv .small) t);
+              few = omega (arith, inv .few, owner-counts, R .2, required-few T t part (R .0) n (R .1), field-below T (inv .small) t 1);
               fewer = omega (arith, inv .fewer);
               fewest = inv .fewest;
               sized = λ y. omega (arith, opened-sized T top (stageOf stage) (drop pos m) t opt z a b opened y);
-              passed = passed-none T t;
+              passed = rw e (passed-none T t);
               rest = refl;
             }
 
@@ -331,7 +332,10 @@ module _ {T : List ℕ} {top : ℕ} {m : List ℕ} {whole : Outcome} {stage : St
       pub count-fits : Fits w64 (k + 1)
       count-fits = omega (arith, inv .room, inv .few, inv .inside, inv .within)
 
-      pub inner-known : {out′ : List ℕ} → out′ ≡ put (12 * k) (rowBytes (record { member = i; place = at + a; len = n - a })) out → {row′ : ℕ} → row′ ≡ Tags.onward T t row tag
+      pub member-few : i < 131072
+      member-few = omega (arith, member-within T t least part-in i tag a n (known-told .1), field-below T (inv .small) t 0, field-below T (inv .small) t 1)
+
+      pub inner-known : {out′ : List ℕ} → out′ ≡ put (12 * k) (rowBytes (record { member = i; place = at + a; len = n - a })) out → {row′ : ℕ} → row′ ≡ Tags.behind T row i tag
           → Inner T top m whole stage pos t z from end s fst (at + n) (tag + 1) row′ (k + 1) o more out′
       unfolding amid
       inner-known {out′} w {row′} p = record {
@@ -344,7 +348,7 @@ module _ {T : List ℕ} {top : ℕ} {m : List ℕ} {whole : Outcome} {stage : St
         fewer = omega (arith, inv .fewer);
         fewest = inv .fewest;
         sized = inv .sized;
-        passed = rw p (passed-on T t row least (inv .passed) tag (known-told .1 .rises));
+        passed = rw p (passed-behind T t row least (inv .passed) tag (known-told .1 .rises) i (member-tag T t least part-in i tag a n (known-told .1)));
         rest = ahead ∙ finish-known T t close-in (recalling pos) atMark (eqb least 0) least part-in at k o out (known-told .0) i tag a n (known-told .1)
             ∙ ap₂ (λ (y : List ℕ) (l : List ℕ). finish T t close-in (recalling pos) false (at + n) (k + 1) o y (optionalsFrom atMark (Table.optional T t) (suc tag) l)) (sym w) (part-on m at n end)
             ∙ rw (go-on, add-one tag, ne-eqb (suc tag) 0 (λ y. omega arith));
@@ -370,9 +374,9 @@ module _ {T : List ℕ} {top : ℕ} {m : List ℕ} {whole : Outcome} {stage : St
       pub skipped-count : Fits w64 (o + 1)
       skipped-count = omega (arith, inv .room, inv .fewer, skipped-some, skipped-ends, inv .within)
 
-      pub inner-skipped : {row′ : ℕ} → row′ ≡ Tags.onward T t row tag → Inner T top m whole stage pos t z from end s fst (at + n) (tag + 1) row′ k (o + 1) more out
+      pub inner-skipped : Inner T top m whole stage pos t z from end s fst (at + n) (tag + 1) row k (o + 1) more out
       unfolding amid
-      inner-skipped {row′} p = record {
+      inner-skipped = record {
         small = inv .small;
         room = inv .room;
         begun = omega (arith, inv .begun);
@@ -382,7 +386,7 @@ module _ {T : List ℕ} {top : ℕ} {m : List ℕ} {whole : Outcome} {stage : St
         fewer = omega (arith, inv .fewer, skipped-some);
         fewest = inv .fewest;
         sized = inv .sized;
-        passed = rw p (passed-on T t row least (inv .passed) tag (skipped-told .1 .rises));
+        passed = passed-still T t row least (inv .passed) tag (skipped-told .1 .rises);
         rest = ahead ∙ finish-skipped T t close-in (recalling pos) atMark (eqb least 0) least part-in at k o out (skipped-told .0) tag n (skipped-told .1)
             ∙ ap (λ (l : List ℕ). finish T t close-in (recalling pos) false (at + n) k (o + 1) out (optionalsFrom atMark (Table.optional T t) (suc tag) l)) (part-on m at n end)
             ∙ rw (go-on, add-one tag, ne-eqb (suc tag) 0 (λ y. omega arith));

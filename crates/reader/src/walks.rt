@@ -149,7 +149,7 @@ pub fn slices(
                         count = k;
                         let mut at = from + n;
                         let mut least = 0;
-                        let mut row = 0;
+                        let mut row = table::type_row(table, t).a;
                         let mut more = has;
                         while more {
                             let x = next(table, forms, t, row, least, &m[at..end]);
@@ -163,13 +163,12 @@ pub fn slices(
                                     count += 1;
                                     at += l;
                                     least = tag + 1;
-                                    row = table::chain::onward(table, t, row, tag);
+                                    row = table::chain::behind(table, row, member, tag);
                                 }
                                 Turn::Skipped(tag, l) => {
                                     optionals += 1;
                                     at += l;
                                     least = tag + 1;
-                                    row = table::chain::onward(table, t, row, tag);
                                 }
                                 Turn::Wrong(c, p) => {
                                     answer = refusal(pos, c, at + p);
@@ -234,7 +233,7 @@ pub fn list(
             let mut count = k;
             let mut optionals = 0;
             let mut least = 0;
-            let mut row = 0;
+            let mut row = table::type_row(table, top).a;
             while at < m.len() {
                 let o = level::optionals::optional(table, forms, top, row, least, &m[at..]);
                 match o {
@@ -243,13 +242,12 @@ pub fn list(
                         count += 1;
                         at += l;
                         least = tag + 1;
-                        row = table::chain::onward(table, top, row, tag);
+                        row = table::chain::behind(table, row, member, tag);
                     }
                     Optional::Skipped(tag, l) => {
                         optionals += 1;
                         at += l;
                         least = tag + 1;
-                        row = table::chain::onward(table, top, row, tag);
                     }
                     Optional::Wrong(c, p) => {
                         return Walk::Stop(c, at + p);

@@ -5,8 +5,7 @@
 --   takes-.., tag-.., above-..   whether a row takes a member, and a member's tag
 --   later-..          the greater of two rows
 --   Optionals, optionals-..   the loop over a row's members that looks for a tag
---   Passing, passing-..       the loop over them that passes those up to a tag
---   onward-..         where the next look-up begins
+--   Passing, passing-..       the loop over the rows before a member that looks for a tag above its own
 use Prim.Native.Nat.{ℕ, zero, suc, _+_, _-_, _≤_, _<_}
 use mathlib.Core.Path.{_≡_, refl, sym, ap, _∙_}
 use mathlib.Core.Bool.{Bool, true, false, _&&_, not}
@@ -19,7 +18,7 @@ use Rattle.encoding.specs.Result.{pick}
 use Rattle.encoding.specs.Table.{kind, field, isRecord, mark, tag, range, takes, any, base, upward, chain, Member, memberTy, optionalOf, trees, lookup}
 use Rattle.encoding.specs.TableLaws.{chain-row}
 use Rattle.table.specs.Found.{rowFound, hasTag}
-use Rattle.table.specs.Tags.{later, ownFrom, optionalFrom, isAbove, behind, pass, onward}
+use Rattle.table.specs.Tags.{later, ownFrom, optionalFrom, isAbove, firstAbove, behind}
 use Rattle.table.specs.declared.Found.the-variants.{At, Nothing}
 use Rattle.table.proofs.Ranges.{range-more, range-none}
 
@@ -123,17 +122,10 @@ module _ (a b : ℕ) where
 abbrev pub Optionals : List ℕ → ℕ → ℕ → ℕ → ℕ → ℕ → Type 0
 Optionals T t from key end m = rowFound (lookup key (optionalFrom T t from)) ≡ rowFound (lookup key (optionalOf T (trees T) (range m (end - m))))
 
-abbrev pub Passing : List ℕ → ℕ → ℕ → ℕ → ℕ → ℕ → Type 0
-Passing T t from key end m = pass T t from key ≡ behind T key m (end - m)
-
 module _ (T : List ℕ) (t from key a b m : ℕ) (ea : a ≡ field T t 0) (eb : b ≡ field T t 1) (em : m ≡ later from a) where
   pub optionals-begin : Optionals T t from key (a + b) m
   unfolding optionalFrom ownFrom
   optionals-begin = rw (em, ea, eb)
-
-  pub passing-begin : Passing T t from key (a + b) m
-  unfolding pass
-  passing-begin = rw (em, ea, eb)
 
 module _ (T : List ℕ) (t from key end m : ℕ) (inv : Optionals T t from key end m) where
   optionals-more : m < end → rowFound (lookup key (optionalOf T (trees T) (range m (end - m))))
@@ -159,28 +151,27 @@ module _ (T : List ℕ) (t from key end m : ℕ) (inv : Optionals T t from key e
   unfolding optionalOf lookup rowFound
   optionals-end h = sym (inv ∙ rw (range-none m end h))
 
-module _ (T : List ℕ) (t from key end m : ℕ) (inv : Passing T t from key end m) where
-  passing-more : m < end → behind T key m (end - m) ≡ pick (isAbove T key m) m (behind T key (m + 1) (end - (m + 1)))
-  unfolding behind
-  passing-more h = let e : end - m ≡ suc (end - (m + 1)) = omega arith in rw (e, add-one)
+-- ---- behind a member
 
-  pub passing-here : (r : Bool) → m < end → r ≡ isAbove T key m → r ≡ true → m ≡ pass T t from key
+-- the rows left to look at decide
+abbrev pub Passing : List ℕ → ℕ → ℕ → ℕ → ℕ → Type 0
+Passing T from m key i = behind T from m key ≡ firstAbove T key (m + 1) i (m - i)
+
+pub passing-begin : (T : List ℕ) (from m key : ℕ) → Passing T from m key from
+unfolding behind
+passing-begin T from m key = refl
+
+module _ (T : List ℕ) (from m key i : ℕ) (inv : Passing T from m key i) where
+  passing-more : i < m → firstAbove T key (m + 1) i (m - i) ≡ pick (isAbove T key i) i (firstAbove T key (m + 1) (i + 1) (m - (i + 1)))
+  unfolding firstAbove
+  passing-more h = let e : m - i ≡ suc (m - (i + 1)) = omega arith in rw (e, add-one i)
+
+  pub passing-here : (r : Bool) → i < m → r ≡ isAbove T key i → r ≡ true → i ≡ behind T from m key
   passing-here r h e q = sym (inv ∙ passing-more h ∙ rw (sym e ∙ q))
 
-  pub passing-next : (r : Bool) → m < end → r ≡ isAbove T key m → r ≡ false → Passing T t from key end (m + 1)
+  pub passing-next : (r : Bool) → i < m → r ≡ isAbove T key i → r ≡ false → Passing T from m key (i + 1)
   passing-next r h e q = inv ∙ passing-more h ∙ rw (sym e ∙ q)
 
-  pub passing-end : end ≤ m → m ≡ pass T t from key
-  unfolding behind
-  passing-end h = let e : end - m ≡ 0 = omega arith in sym (inv ∙ rw e)
-
--- ---- the next look-up
-
-module _ (T : List ℕ) (t from key b : ℕ) (eb : b ≡ field T t 1) where
-  pub onward-few : b < 16 → from ≡ onward T t from key
-  unfolding onward
-  onward-few h = rw (← eb, lt-ltb b 16 h)
-
-  pub onward-many : (r : ℕ) → 16 ≤ b → r ≡ pass T t from key → r ≡ onward T t from key
-  unfolding onward
-  onward-many r h e = rw (← eb, le-ltb b 16 h) e
+  pub passing-end : m ≤ i → m + 1 ≡ behind T from m key
+  unfolding firstAbove
+  passing-end h = let e : m - i ≡ 0 = omega arith in sym (inv ∙ rw e)

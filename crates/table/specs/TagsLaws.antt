@@ -1,10 +1,14 @@
 -- A tag that is not below the least is found behind the members that were passed. Assumes nothing.
 --
---   passed-none      before the first tag
---   passed-on        behind a tag
---   passed-lookup    the member of a tag, looked up behind them
-use mathlib.Core.Path.{_≡_, refl, ap₂, _∙_}
+--   passed-none       before the first tag
+--   passed-still      behind a tag, the look-up from where it was
+--   passed-behind     behind a tag, the look-up behind its member
+--   Own, found-own    what the look-up of a tag among the optional members of rows tells of the member found
+--   optional-own      the same among those of a row
+--   passed-lookup     the member of a tag, looked up behind the passed
+use mathlib.Core.Path.{_≡_, refl, ap, ap₂, _∙_, subst}
 use mathlib.Core.Bool.{Bool, true, false}
+use mathlib.Core.Option.{some}
 use mathlib.Core.List.{List, _∷_}
 use Prim.Native.Nat.{ℕ, zero, suc, _+_, _-_, _≤_, _<_}
 use native.Mathlib.Nat.{add-zero, sub-zero}
@@ -14,7 +18,7 @@ use borrow.Author.Tests.{eqb-true, eqb-false, ltb-true, ltb-false, ne-eqb}
 use Rattle.encoding.specs.Result.{pick}
 use Rattle.encoding.specs.Types.{Ty}
 use Rattle.encoding.specs.Table.{field, mark, tag, range, trees, Member, memberTy, optionalOf, ownRows, optional, lookup}
-use Rattle.table.specs.Tags.{later, ownFrom, optionalFrom, isAbove, behind, pass, onward, Passed}
+use Rattle.table.specs.Tags.{later, ownFrom, optionalFrom, isAbove, firstAbove, behind, Passed}
 
 -- ---- the greater of two
 
@@ -27,14 +31,6 @@ module _ (a b : ℕ) where
       go true e = omega arith
       go false e = omega (arith, ltb-false a b e)
 
-  later-most : (i : ℕ) → a ≤ i → b ≤ i → later a b ≤ i
-  unfolding later
-  later-most i h k = go (ltb a b)
-    where
-      go : (t : Bool) → pick t b a ≤ i
-      go true = k
-      go false = h
-
   later-first : (i : ℕ) → b ≤ i → i < later a b → i < a
   unfolding later
   later-first i h k = go (ltb a b) k
@@ -45,42 +41,74 @@ module _ (a b : ℕ) where
 
 -- ---- what was passed
 
-behind-below : (T : List ℕ) (k n m i : ℕ) → m ≤ i → i < behind T k m n → (mark T i ≡ 0 → ⊥) → tag T i ≤ k
-unfolding behind
-behind-below T k zero m i h l o = absurd (omega arith)
-behind-below T k (suc n) m i h l o = go (isAbove T k m) refl (eqb m i) refl l (λ s l. behind-below T k n (suc m) i s l o)
+above-below : (T : List ℕ) (k end n m i : ℕ) → m ≤ i → i < firstAbove T k end m n → (mark T i ≡ 0 → ⊥) → (m + n ≤ i → i < end → tag T i ≤ k) → tag T i ≤ k
+unfolding firstAbove
+above-below T k end zero m i h l o last = last (omega arith) l
+above-below T k end (suc n) m i h l o last =
+    go (isAbove T k m) refl (eqb m i) refl l (λ s l. above-below T k end n (suc m) i s l o (λ a. last (omega arith)))
   where
     here : m ≡ i → isAbove T k m ≡ false → tag T i ≤ k
     here e f = ltb-false k (tag T i) (rw (e, ne-eqb (mark T i) 0 o) at f)
 
-    go : (b : Bool) → isAbove T k m ≡ b → (c : Bool) → eqb m i ≡ c → i < pick b m (behind T k (suc m) n) → (suc m ≤ i → i < behind T k (suc m) n → tag T i ≤ k) → tag T i ≤ k
+    go : (b : Bool) → isAbove T k m ≡ b → (c : Bool) → eqb m i ≡ c → i < pick b m (firstAbove T k end (suc m) n) → (suc m ≤ i → i < firstAbove T k end (suc m) n → tag T i ≤ k) → tag T i ≤ k
     go true f c e l again = absurd (omega arith)
     go false f true e l again = here (eqb-true m i e) f
     go false f false e l again = let d = eqb-false m i e in again (omega arith) l
 
 module _ (T : List ℕ) (t : ℕ) where
-  pub passed-none : Passed T t 0 0
+  pub passed-none : Passed T t (field T t 0) 0
   passed-none m a l o = absurd (omega arith)
 
-  module _ (from least : ℕ) (P : Passed T t from least) where
-    passed-all : (k : ℕ) → least ≤ k → Passed T t (pass T t from k) (k + 1)
-    unfolding pass
-    passed-all k h m a l o = go (ltb m from) refl
-      where
-        go : (b : Bool) → ltb m from ≡ b → tag T m < k + 1
-        go true e = omega (arith, P m a (ltb-true m from e) o)
-        go false e =
-            omega (arith, behind-below T k (field T t 0 + field T t 1 - later from (field T t 0)) (later from (field T t 0)) m (later-most from (field T t 0) m (ltb-false m from e) a) l o)
+  module _ (from least : ℕ) (P : Passed T t from least) (k : ℕ) (h : least ≤ k) where
+    pub passed-still : Passed T t from (k + 1)
+    passed-still m a l o = omega (arith, P m a l o)
 
-    pub passed-on : (k : ℕ) → least ≤ k → Passed T t (onward T t from k) (k + 1)
-    unfolding onward
-    passed-on k h = go (ltb (field T t 1) 16)
+    pub passed-behind : (m : ℕ) → tag T m ≡ k → Passed T t (behind T from m k) (k + 1)
+    unfolding behind
+    passed-behind m e i a l o = go (ltb i from) refl
       where
-        go : (b : Bool) → Passed T t (pick b from (pass T t from k)) (k + 1)
-        go true = λ m a l o. omega (arith, P m a l o)
-        go false = passed-all k h
+        last : m ≤ i → i < m + 1 → tag T i ≤ k
+        last p q = let z : i ≡ m = omega arith in omega (arith, ap (tag T) z)
+
+        go : (b : Bool) → ltb i from ≡ b → tag T i < k + 1
+        go true f = omega (arith, P i a (ltb-true i from f) o)
+        go false f = omega (arith, above-below T k (m + 1) (m - from) from i (ltb-false i from f) l o (λ p. last (omega arith)))
 
 -- ---- the look-up
+
+-- the optional member of a tag is one of the rows, has the tag, and is of its row's type
+pub record Own (T : List ℕ) (l : List Ty) (k end : ℕ) (x : Member) : Type 0 where
+  pub within : x .row < end
+  pub tag-is : tag T (x .row) ≡ k
+  pub type-is : x .ty ≡ memberTy T l (x .row)
+
+pub found-own : (T : List ℕ) (l : List Ty) (k n m : ℕ) (x : Member) → lookup k (optionalOf T l (range m n)) ≡ some x → Own T l k (m + n) x
+unfolding optionalOf lookup range
+found-own T l k zero m x h = let z : _≡_ {A = ℕ} 0 1 = cc in absurd (omega arith)
+found-own T l k (suc n) m x h =
+    go (eqb (mark T m) 0) h λ e.
+    let A = found-own T l k n (suc m) x e in
+    record { within = omega (arith, A .within); tag-is = A .tag-is; type-is = A .type-is }
+  where
+    here : Member
+    here = record { row = m; key = tag T m; ty = memberTy T l m }
+
+    rest : List Member
+    rest = optionalOf T l (range (suc m) n)
+
+    by : (b : Bool) → eqb k (tag T m) ≡ b → pick b (some here) (lookup k rest) ≡ some x → (lookup k rest ≡ some x → Own T l k (m + suc n) x) → Own T l k (m + suc n) x
+    by true e h again =
+        let z : here ≡ x = cc in
+        subst (Own T l k (m + suc n)) z (record { within = omega arith; tag-is = omega (arith, eqb-true k (tag T m) e); type-is = refl })
+    by false e h again = again h
+
+    go : (a : Bool) → lookup k (pick a rest (here ∷ rest)) ≡ some x → (lookup k rest ≡ some x → Own T l k (m + suc n) x) → Own T l k (m + suc n) x
+    go true h again = again h
+    go false h again = by (eqb k (tag T m)) refl h again
+
+pub optional-own : (T : List ℕ) (t k : ℕ) (x : Member) → lookup k (optional T t) ≡ some x → Own T (trees T) k (field T t 0 + field T t 1) x
+unfolding optional ownRows
+optional-own T t k x h = found-own T (trees T) k (field T t 1) (field T t 0) x h
 
 -- rows whose tags are others
 rows-past : (T : List ℕ) (l : List Ty) (k d m n : ℕ) → ((i : ℕ) → m ≤ i → i < m + d → (mark T i ≡ 0 → ⊥) → tag T i < k)

@@ -1,11 +1,11 @@
 // A record's bases and the members of a row.
 use crate::Found;
 ghost use mathlib.Core.Path.{_≡_};
-ghost use Prim.Native.Nat.{_≤_};
+ghost use Prim.Native.Nat.{_≤_, _<_};
 ghost use lib.Dec.{eqb};
 ghost use Rattle.encoding.specs.Table.{any, takes, lookup, base, chain};
 ghost use Rattle.table.specs.Found.{rowFound, hasTag};
-ghost use Rattle.table.specs.Tags.{later, optionalFrom, isAbove, pass, onward};
+ghost use Rattle.table.specs.Tags.{later, optionalFrom, isAbove, behind};
 
 // The base row + 1, or 0; a base that is not smaller is none.
 pub fn base(table: &[u8], t: usize) -> usize
@@ -113,28 +113,17 @@ fn is_above(table: &[u8], m: usize, tag: usize) -> bool
     tag < row.tag
 }
 
-// The first member row of row t, from a row on, that is optional and has a tag above a tag; or the row behind them.
-fn pass(table: &[u8], t: usize, from: usize, tag: usize) -> usize
-    ensures { λ r. ⌜ r ≡ pass (now (table .entry)) t from tag ⌝ }
+// Where the look-up of a greater tag begins, behind member row m that was found for a tag from a row on: at the first row passed that is optional and has a tag above it; else behind m.
+pub fn behind(table: &[u8], from: usize, m: usize, tag: usize) -> usize
+    requires { ⌜ m < 131072 ⌝ }
+    ensures { λ r. ⌜ r ≡ behind (now (table .entry)) from m tag ⌝ }
 {
-    let row = crate::type_row(table, t);
-    let end = row.a + row.b;
-    let mut m = later(from, row.a);
-    while m < end {
-        if is_above(table, m, tag) {
-            return m;
+    let mut i = from;
+    while i < m {
+        if is_above(table, i, tag) {
+            return i;
         }
-        m += 1;
+        i += 1;
     }
-    m
-}
-
-// Where the look-up of a greater tag begins: behind the members that were passed. Where there are few, it begins where it did.
-pub fn onward(table: &[u8], t: usize, from: usize, tag: usize) -> usize
-    ensures { λ r. ⌜ r ≡ onward (now (table .entry)) t from tag ⌝ }
-{
-    if crate::field(table, t, 1) < 16 {
-        return from;
-    }
-    pass(table, t, from, tag)
+    m + 1
 }

@@ -9,7 +9,7 @@ use Rattle.wire.specs.PutLaws.{put-length}
 use Rattle.reader.specs.Stages.{stageOf}
 use Rattle.reader.specs.Left.{left, amid}
 use Rattle.reader.proofs.Endings.{ends-same}
-use Rattle.reader.proofs.Walking.{ends-says, ends-gives, Outer, Inner, outer-begin, outer-wrong, wrong-fits, skip-some, skip-within, skip-fits, skip-count, outer-skip, known-order, known-within, from-fits, end-fits, asks-place, asks-count, known-refused, refused-fits, at-fits, outer-same, outer-in, end-within, end-mark-fits, inner-end, known-two, known-ends, known-starts, place-fits, next-fits, tag-fits, count-fits, inner-known, skipped-some, skipped-ends, skipped-fits, skipped-tag-fits, skipped-count, inner-skipped, stop-fits, inner-wrong, size-place, inner-over, inner-done, inner-out, outer-join}
+use Rattle.reader.proofs.Walking.{ends-says, ends-gives, Outer, Inner, outer-begin, outer-wrong, wrong-fits, skip-some, skip-within, skip-fits, skip-count, outer-skip, known-order, known-within, from-fits, end-fits, asks-place, asks-count, known-refused, refused-fits, at-fits, outer-same, outer-in, end-within, end-mark-fits, inner-end, known-two, known-ends, known-starts, place-fits, next-fits, tag-fits, count-fits, member-few, inner-known, skipped-some, skipped-ends, skipped-fits, skipped-tag-fits, skipped-count, inner-skipped, stop-fits, inner-wrong, size-place, inner-over, inner-done, inner-out, outer-join}
 use Rattle.reader.proofs.walks.slices.Statement.{statement}
 use Rattle.reader.proofs.walks.slices.Tie as tie
 
@@ -55,11 +55,12 @@ slices-spec =
     (λ c κs. (asks-place (c .before .before .before .before .before .before .before .slices .inv .1) (c .before .before .before .before .before .opening .ensures) (c .before .before .before .o2 .given .1), asks-count (c .before .before .before .before .before .before .before .slices .inv .1) (c .before .before .before .before .before .opening .ensures) (c .before .before .before .o2 .given .1)))  -- required-requires
     (λ c. search needs)  -- enum-known-members
     (λ c. search (needs, at-fits))  -- add-at
-    (λ c. (refl, outer-in (c .before .before .before .before .before .before .before .before .before .before .before .before .before .slices .inv .1) (c .before .before .before .before .before .before .before .before .before .before .before .opening .ensures) (c .before .before .before .before .before .before .before .before .before .o2 .given .1) (c .before .before .before .before .before .required .ensures .0) (c .before .members .given .1) _))  -- loop-holds
+    (λ c κs. search needs)  -- type-row-requires
+    (λ c. (refl, outer-in (c .before .before .before .before .before .before .before .before .before .before .before .before .before .before .slices .inv .1) (c .before .before .before .before .before .before .before .before .before .before .before .before .opening .ensures) (c .before .before .before .before .before .before .before .before .before .before .o2 .given .1) (c .before .before .before .before .before .before .required .ensures .0) (c .before .before .members .given .1) (c .type-row .ensures .a-is) _))  -- loop-holds
     (λ c. omega arith)  -- sub-next
     (λ c. search needs)  -- part-next-start
     (λ c. c .before .loop .inv .1 .within)  -- part-next-end
-    (λ c κs. search needs)  -- next-requires
+    (λ c κs. c .before .before .before .before .before .before .before .before .before .before .before .before .before .before .before .before .before .before .before .before .before .pre .1)  -- next-requires
     (λ c. search needs)  -- enum-told
     (λ c. end-mark-fits (c .before .before .before .before .before .loop .inv .1) (c .before .before .before .before .loop-test .taken) (c .before .before .next .ensures) (c .enum-told .given .1))  -- add-at-2
     (λ c. omega (arith, end-within (c .before .before .before .before .before .loop .inv .1) (c .before .before .before .before .loop-test .taken) (c .before .before .next .ensures) (c .enum-told .given .1), c .before .before .before .before .before .loop .inv .1 .within))  -- loop-less
@@ -71,38 +72,37 @@ slices-spec =
     (λ c. count-fits (c .before .before .before .before .before .before .before .before .before .before .loop .inv .1) (c .before .before .before .before .before .before .before .before .before .loop-test .taken) (c .before .before .before .before .before .before .before .next .ensures) (c .before .before .before .before .before .x .given .1))  -- add-count
     (λ c. next-fits (c .before .before .before .before .before .before .before .before .before .before .loop .inv .1) (c .before .before .before .before .before .before .before .before .before .loop-test .taken) (c .before .before .before .before .before .before .before .next .ensures) (c .before .before .before .before .before .x .given .1))  -- add-at-3
     (λ c. tag-fits (c .before .before .before .before .before .before .before .before .before .before .loop .inv .1) (c .before .before .before .before .before .before .before .before .before .loop-test .taken) (c .before .before .before .before .before .before .before .next .ensures) (c .before .before .before .before .before .x .given .1))  -- add-least
-    (λ c κs. search needs)  -- onward-requires
+    (λ c κs. member-few (c .before .before .before .before .before .before .before .before .before .before .loop .inv .1) (c .before .before .before .before .before .before .before .before .before .loop-test .taken) (c .before .before .before .before .before .before .before .next .ensures) (c .before .before .before .before .before .x .given .1))  -- behind-requires
     (λ c. omega (arith, known-two (c .before .before .before .before .before .before .before .before .before .before .before .loop .inv .1) (c .before .before .before .before .before .before .before .before .before .before .loop-test .taken) (c .before .before .before .before .before .before .before .before .next .ensures) (c .before .before .before .before .before .before .x .given .1), known-ends (c .before .before .before .before .before .before .before .before .before .before .before .loop .inv .1) (c .before .before .before .before .before .before .before .before .before .before .loop-test .taken) (c .before .before .before .before .before .before .before .before .next .ensures) (c .before .before .before .before .before .before .x .given .1), c .before .before .before .before .before .before .before .before .before .before .before .loop .inv .1 .within))  -- loop-less-2
-    (λ c. (ap length (c .before .before .before .put-row .ensures) ∙ put-length _ _ _ ∙ c .before .before .before .before .before .before .before .before .before .before .before .loop .inv .0, inner-known (c .before .before .before .before .before .before .before .before .before .before .before .loop .inv .1) (c .before .before .before .before .before .before .before .before .before .before .loop-test .taken) (c .before .before .before .before .before .before .before .before .next .ensures) (c .before .before .before .before .before .before .x .given .1) (c .before .before .before .put-row .ensures) (c .onward .ensures)))  -- loop-again-2
+    (λ c. (ap length (c .before .before .before .put-row .ensures) ∙ put-length _ _ _ ∙ c .before .before .before .before .before .before .before .before .before .before .before .loop .inv .0, inner-known (c .before .before .before .before .before .before .before .before .before .before .before .loop .inv .1) (c .before .before .before .before .before .before .before .before .before .before .loop-test .taken) (c .before .before .before .before .before .before .before .before .next .ensures) (c .before .before .before .before .before .before .x .given .1) (c .before .before .before .put-row .ensures) (c .behind .ensures)))  -- loop-again-2
     (λ c. search needs)  -- enum-known-x-2
     (λ c. skipped-count (c .before .before .before .before .before .before .loop .inv .1) (c .before .before .before .before .before .loop-test .taken) (c .before .before .before .next .ensures) (c .before .x2 .given .1))  -- add-optionals
     (λ c. skipped-fits (c .before .before .before .before .before .before .loop .inv .1) (c .before .before .before .before .before .loop-test .taken) (c .before .before .before .next .ensures) (c .before .x2 .given .1))  -- add-at-4
     (λ c. skipped-tag-fits (c .before .before .before .before .before .before .loop .inv .1) (c .before .before .before .before .before .loop-test .taken) (c .before .before .before .next .ensures) (c .before .x2 .given .1))  -- add-least-2
-    (λ c κs. search needs)  -- onward-requires-2
-    (λ c. omega (arith, skipped-some (c .before .before .before .before .before .before .before .loop .inv .1) (c .before .before .before .before .before .before .loop-test .taken) (c .before .before .before .before .next .ensures) (c .before .before .x2 .given .1), skipped-ends (c .before .before .before .before .before .before .before .loop .inv .1) (c .before .before .before .before .before .before .loop-test .taken) (c .before .before .before .before .next .ensures) (c .before .before .x2 .given .1), c .before .before .before .before .before .before .before .loop .inv .1 .within))  -- loop-less-3
-    (λ c. (c .before .before .before .before .before .before .before .loop .inv .0, inner-skipped (c .before .before .before .before .before .before .before .loop .inv .1) (c .before .before .before .before .before .before .loop-test .taken) (c .before .before .before .before .next .ensures) (c .before .before .x2 .given .1) (c .onward2 .ensures)))  -- loop-again-3
+    (λ c. omega (arith, skipped-some (c .before .before .before .before .before .before .loop .inv .1) (c .before .before .before .before .before .loop-test .taken) (c .before .before .before .next .ensures) (c .before .x2 .given .1), skipped-ends (c .before .before .before .before .before .before .loop .inv .1) (c .before .before .before .before .before .loop-test .taken) (c .before .before .before .next .ensures) (c .before .x2 .given .1), c .before .before .before .before .before .before .loop .inv .1 .within))  -- loop-less-3
+    (λ c. (c .before .before .before .before .before .before .loop .inv .0, inner-skipped (c .before .before .before .before .before .before .loop .inv .1) (c .before .before .before .before .before .loop-test .taken) (c .before .before .before .next .ensures) (c .before .x2 .given .1)))  -- loop-again-3
     (λ c. search needs)  -- enum-known-x-3
     (λ c. stop-fits (c .before .before .before .before .before .before .loop .inv .1) (c .before .before .before .before .before .loop-test .taken) (c .before .before .before .next .ensures) (c .before .x3 .given .1))  -- add-refusal
     (λ c κs. search needs)  -- refusal-requires
     (λ c κs. search needs)  -- left-over-requires
-    (λ c. size-place (c .before .before .before .loop .inv .1) (c .before .before .loop-test .left) (c .before .left-over .ensures) (c .if1 .taken))  -- sub-t65
+    (λ c. size-place (c .before .before .before .loop .inv .1) (c .before .before .loop-test .left) (c .before .left-over .ensures) (c .if1 .taken))  -- sub-t67
     (λ c κs. search needs)  -- first-of-requires
     (λ c κs. search needs)  -- base-requires
     (λ c κs. search needs)  -- format-number-requires
     (λ c. omega arith)  -- slices-less-2
-    (λ c. ((c .before .before .before .before .before .before .loop .inv .0 ∙ c .before .before .before .before .before .before .before .before .before .before .before .before .required .ensures .1 .0 ∙ c .before .before .before .before .before .before .before .before .before .before .before .before .before .before .before .before .before .before .before .before .slices .inv .0), outer-join (outer-same (c .before .before .before .before .before .before .before .before .before .before .before .before .before .before .before .before .before .before .before .before .slices .inv .1) (c .before .before .before .before .before .before .before .before .before .before .before .before .before .before .before .before .before .before .opening .ensures) (c .before .before .before .before .before .before .before .before .before .before .before .before .before .before .before .before .o2 .given .1) (c .before .before .before .before .before .before .before .before .before .before .before .before .required .ensures .0) (c .before .before .before .before .before .before .before .before .members .given .1) (c .before .before .before .before .before .before .before .before .before .before .before .before .required .ensures .1 .1)) (inner-out (c .before .before .before .before .before .before .loop .inv .1) (c .before .before .before .before .before .loop-test .left) (c .before .before .before .before .left-over .ensures) (c .before .before .before .if1 .left) (c .before .before .first-of .ensures) (c .before .base .ensures .0) (c .if2 .left))))  -- slices-again-2
+    (λ c. ((c .before .before .before .before .before .before .loop .inv .0 ∙ c .before .before .before .before .before .before .before .before .before .before .before .before .before .required .ensures .1 .0 ∙ c .before .before .before .before .before .before .before .before .before .before .before .before .before .before .before .before .before .before .before .before .before .slices .inv .0), outer-join (outer-same (c .before .before .before .before .before .before .before .before .before .before .before .before .before .before .before .before .before .before .before .before .before .slices .inv .1) (c .before .before .before .before .before .before .before .before .before .before .before .before .before .before .before .before .before .before .before .opening .ensures) (c .before .before .before .before .before .before .before .before .before .before .before .before .before .before .before .before .before .o2 .given .1) (c .before .before .before .before .before .before .before .before .before .before .before .before .before .required .ensures .0) (c .before .before .before .before .before .before .before .before .before .members .given .1) (c .before .before .before .before .before .before .before .before .before .before .before .before .before .required .ensures .1 .1)) (inner-out (c .before .before .before .before .before .before .loop .inv .1) (c .before .before .before .before .before .loop-test .left) (c .before .before .before .before .left-over .ensures) (c .before .before .before .if1 .left) (c .before .before .first-of .ensures) (c .before .base .ensures .0) (c .if2 .left))))  -- slices-again-2
     (λ c. search needs)  -- enum-known-members-2
     (λ c. search (needs, refused-fits))  -- add-refusal-2
     (λ c κs. search needs)  -- refusal-requires-2
     (λ c. search needs)  -- enum-known-o-3
     (λ c. search (needs, wrong-fits))  -- add-refusal-3
     (λ c κs. search needs)  -- refusal-requires-3
-    (λ c. (c .before .before .before .before .before .before .before .loop .inv .0 ∙ c .before .before .before .before .before .before .before .before .before .before .before .before .before .required .ensures .1 .0 ∙ c .before .before .before .before .before .before .before .before .before .before .before .before .before .before .before .before .before .before .before .before .before .slices .inv .0))  -- same-length
-    (λ c. let E = ends-same (outer-same (c .before .before .before .before .before .before .before .before .before .before .before .before .before .before .before .before .before .before .before .before .before .slices .inv .1) (c .before .before .before .before .before .before .before .before .before .before .before .before .before .before .before .before .before .before .before .opening .ensures) (c .before .before .before .before .before .before .before .before .before .before .before .before .before .before .before .before .before .o2 .given .1) (c .before .before .before .before .before .before .before .before .before .before .before .before .before .required .ensures .0) (c .before .before .before .before .before .before .before .before .before .members .given .1) (c .before .before .before .before .before .before .before .before .before .before .before .before .before .required .ensures .1 .1)) (inner-wrong (c .before .before .before .before .before .before .before .loop .inv .1) (c .before .before .before .before .before .before .loop-test .taken) (c .before .before .before .before .next .ensures) (c .before .before .x3 .given .1) (c .refusal .ensures)) in (ends-says _ _ _ _ _ _ E, ((c .before .before .before .before .before .before .before .loop .inv .0 ∙ c .before .before .before .before .before .before .before .before .before .before .before .before .before .required .ensures .1 .0 ∙ c .before .before .before .before .before .before .before .before .before .before .before .before .before .before .before .before .before .before .before .before .before .slices .inv .0), ends-gives _ _ _ _ _ _ E)))  -- returns
-    (λ c. (c .before .before .before .loop .inv .0 ∙ c .before .before .before .before .before .before .before .before .before .required .ensures .1 .0 ∙ c .before .before .before .before .before .before .before .before .before .before .before .before .before .before .before .before .before .slices .inv .0))  -- same-length-2
-    (λ c. let E = ends-same (outer-same (c .before .before .before .before .before .before .before .before .before .before .before .before .before .before .before .before .before .slices .inv .1) (c .before .before .before .before .before .before .before .before .before .before .before .before .before .before .before .opening .ensures) (c .before .before .before .before .before .before .before .before .before .before .before .before .before .o2 .given .1) (c .before .before .before .before .before .before .before .before .before .required .ensures .0) (c .before .before .before .before .before .members .given .1) (c .before .before .before .before .before .before .before .before .before .required .ensures .1 .1)) (inner-over (c .before .before .before .loop .inv .1) (c .before .before .loop-test .left) (c .before .left-over .ensures) (c .if1 .taken)) in (ends-says _ _ _ _ _ _ E, ((c .before .before .before .loop .inv .0 ∙ c .before .before .before .before .before .before .before .before .before .required .ensures .1 .0 ∙ c .before .before .before .before .before .before .before .before .before .before .before .before .before .before .before .before .before .slices .inv .0), ends-gives _ _ _ _ _ _ E)))  -- returns-2
-    (λ c. (c .before .before .before .before .before .before .before .loop .inv .0 ∙ c .before .before .before .before .before .before .before .before .before .before .before .before .before .required .ensures .1 .0 ∙ c .before .before .before .before .before .before .before .before .before .before .before .before .before .before .before .before .before .before .before .before .before .slices .inv .0))  -- same-length-3
-    (λ c. let E = ends-same (outer-same (c .before .before .before .before .before .before .before .before .before .before .before .before .before .before .before .before .before .before .before .before .before .slices .inv .1) (c .before .before .before .before .before .before .before .before .before .before .before .before .before .before .before .before .before .before .before .opening .ensures) (c .before .before .before .before .before .before .before .before .before .before .before .before .before .before .before .before .before .o2 .given .1) (c .before .before .before .before .before .before .before .before .before .before .before .before .before .required .ensures .0) (c .before .before .before .before .before .before .before .before .before .members .given .1) (c .before .before .before .before .before .before .before .before .before .before .before .before .before .required .ensures .1 .1)) (inner-done (c .before .before .before .before .before .before .before .loop .inv .1) (c .before .before .before .before .before .before .loop-test .left) (c .before .before .before .before .before .left-over .ensures) (c .before .before .before .before .if1 .left) (c .before .before .before .first-of .ensures) (c .before .before .base .ensures .0) (c .before .if2 .taken) (c .format-number .ensures)) in (ends-says _ _ _ _ _ _ E, ((c .before .before .before .before .before .before .before .loop .inv .0 ∙ c .before .before .before .before .before .before .before .before .before .before .before .before .before .required .ensures .1 .0 ∙ c .before .before .before .before .before .before .before .before .before .before .before .before .before .before .before .before .before .before .before .before .before .slices .inv .0), ends-gives _ _ _ _ _ _ E)))  -- returns-3
+    (λ c. (c .before .before .before .before .before .before .before .loop .inv .0 ∙ c .before .before .before .before .before .before .before .before .before .before .before .before .before .before .required .ensures .1 .0 ∙ c .before .before .before .before .before .before .before .before .before .before .before .before .before .before .before .before .before .before .before .before .before .before .slices .inv .0))  -- same-length
+    (λ c. let E = ends-same (outer-same (c .before .before .before .before .before .before .before .before .before .before .before .before .before .before .before .before .before .before .before .before .before .before .slices .inv .1) (c .before .before .before .before .before .before .before .before .before .before .before .before .before .before .before .before .before .before .before .before .opening .ensures) (c .before .before .before .before .before .before .before .before .before .before .before .before .before .before .before .before .before .before .o2 .given .1) (c .before .before .before .before .before .before .before .before .before .before .before .before .before .before .required .ensures .0) (c .before .before .before .before .before .before .before .before .before .before .members .given .1) (c .before .before .before .before .before .before .before .before .before .before .before .before .before .before .required .ensures .1 .1)) (inner-wrong (c .before .before .before .before .before .before .before .loop .inv .1) (c .before .before .before .before .before .before .loop-test .taken) (c .before .before .before .before .next .ensures) (c .before .before .x3 .given .1) (c .refusal .ensures)) in (ends-says _ _ _ _ _ _ E, ((c .before .before .before .before .before .before .before .loop .inv .0 ∙ c .before .before .before .before .before .before .before .before .before .before .before .before .before .before .required .ensures .1 .0 ∙ c .before .before .before .before .before .before .before .before .before .before .before .before .before .before .before .before .before .before .before .before .before .before .slices .inv .0), ends-gives _ _ _ _ _ _ E)))  -- returns
+    (λ c. (c .before .before .before .loop .inv .0 ∙ c .before .before .before .before .before .before .before .before .before .before .required .ensures .1 .0 ∙ c .before .before .before .before .before .before .before .before .before .before .before .before .before .before .before .before .before .before .slices .inv .0))  -- same-length-2
+    (λ c. let E = ends-same (outer-same (c .before .before .before .before .before .before .before .before .before .before .before .before .before .before .before .before .before .before .slices .inv .1) (c .before .before .before .before .before .before .before .before .before .before .before .before .before .before .before .before .opening .ensures) (c .before .before .before .before .before .before .before .before .before .before .before .before .before .before .o2 .given .1) (c .before .before .before .before .before .before .before .before .before .before .required .ensures .0) (c .before .before .before .before .before .before .members .given .1) (c .before .before .before .before .before .before .before .before .before .before .required .ensures .1 .1)) (inner-over (c .before .before .before .loop .inv .1) (c .before .before .loop-test .left) (c .before .left-over .ensures) (c .if1 .taken)) in (ends-says _ _ _ _ _ _ E, ((c .before .before .before .loop .inv .0 ∙ c .before .before .before .before .before .before .before .before .before .before .required .ensures .1 .0 ∙ c .before .before .before .before .before .before .before .before .before .before .before .before .before .before .before .before .before .before .slices .inv .0), ends-gives _ _ _ _ _ _ E)))  -- returns-2
+    (λ c. (c .before .before .before .before .before .before .before .loop .inv .0 ∙ c .before .before .before .before .before .before .before .before .before .before .before .before .before .before .required .ensures .1 .0 ∙ c .before .before .before .before .before .before .before .before .before .before .before .before .before .before .before .before .before .before .before .before .before .before .slices .inv .0))  -- same-length-3
+    (λ c. let E = ends-same (outer-same (c .before .before .before .before .before .before .before .before .before .before .before .before .before .before .before .before .before .before .before .before .before .before .slices .inv .1) (c .before .before .before .before .before .before .before .before .before .before .before .before .before .before .before .before .before .before .before .before .opening .ensures) (c .before .before .before .before .before .before .before .before .before .before .before .before .before .before .before .before .before .before .o2 .given .1) (c .before .before .before .before .before .before .before .before .before .before .before .before .before .before .required .ensures .0) (c .before .before .before .before .before .before .before .before .before .before .members .given .1) (c .before .before .before .before .before .before .before .before .before .before .before .before .before .before .required .ensures .1 .1)) (inner-done (c .before .before .before .before .before .before .before .loop .inv .1) (c .before .before .before .before .before .before .loop-test .left) (c .before .before .before .before .before .left-over .ensures) (c .before .before .before .before .if1 .left) (c .before .before .before .first-of .ensures) (c .before .before .base .ensures .0) (c .before .if2 .taken) (c .format-number .ensures)) in (ends-says _ _ _ _ _ _ E, ((c .before .before .before .before .before .before .before .loop .inv .0 ∙ c .before .before .before .before .before .before .before .before .before .before .before .before .before .before .required .ensures .1 .0 ∙ c .before .before .before .before .before .before .before .before .before .before .before .before .before .before .before .before .before .before .before .before .before .before .slices .inv .0), ends-gives _ _ _ _ _ _ E)))  -- returns-3
     (λ c. (c .before .before .before .before .before .before .required .ensures .1 .0 ∙ c .before .before .before .before .before .before .before .before .before .before .before .before .before .before .slices .inv .0))  -- same-length-4
     (λ c. let E = known-refused (c .before .before .before .before .before .before .before .before .before .before .before .before .before .before .slices .inv .1) (c .before .before .before .before .before .before .before .before .before .before .before .before .opening .ensures) (c .before .before .before .before .before .before .before .before .before .before .o2 .given .1) (c .before .before .before .before .before .before .required .ensures .0) (c .before .before .members2 .given .1) (c .refusal2 .ensures) _ in (ends-says _ _ _ _ _ _ E, ((c .before .before .before .before .before .before .required .ensures .1 .0 ∙ c .before .before .before .before .before .before .before .before .before .before .before .before .before .before .slices .inv .0), ends-gives _ _ _ _ _ _ E)))  -- returns-4
     (λ c. (c .before .before .before .before .before .before .slices .inv .0))  -- same-length-5
