@@ -22,14 +22,14 @@ use Rattle.encoding.specs.Number.{number, byte, size}
 use Rattle.encoding.specs.NumberLaws.{held-size}
 use Rattle.encoding.specs.Types.{bits, Form, own, counted, sized, bitsOf, formOf}
 use Rattle.encoding.specs.TypesLaws.{bits-there}
-use Rattle.encoding.specs.Table.{at, Member, lookup}
+use Rattle.encoding.specs.Table.{at, members, Member, lookup}
 use Rattle.encoding.specs.Optional.{Header, firstForm, headerTail, wrongType, headerForm, header}
 use Rattle.wire.specs.declared.Sized.{Sized}
 use Rattle.wire.specs.declared.Sized.the-variants.{Is as Reads, Isnt as Unread}
 use Rattle.wire.specs.Steps.{sizedOf}
-use Rattle.table.specs.declared.Found.{Found}
-use Rattle.table.specs.declared.Found.the-variants.{At, Nothing}
-use Rattle.table.specs.Found.{rowFound}
+use Rattle.table.specs.declared.FoundMember.{FoundMember}
+use Rattle.table.specs.declared.FoundMember.the-variants.{At, Nothing}
+use Rattle.table.specs.Found.{memberFound}
 use Rattle.table.specs.Forms.{formsOf}
 use Rattle.table.specs.Tags.{optionalFrom}
 use Rattle.wire.specs.StepLaws.{rest-is, sized-is, sized-isnt}
@@ -37,8 +37,8 @@ use Rattle.level.specs.declared.Front.{Front}
 use Rattle.level.specs.declared.Front.the-variants.{Is, Isnt}
 use Rattle.level.specs.declared.Head.the-variants.{Known, Unknown, Wrong}
 use Rattle.level.specs.Forms.{formNamed, formIn}
-use Rattle.level.specs.Answers.{front, frontOf, early, typeRow, headFor, headOf}
-use Rattle.level.proofs.Lookups.{Met, met, unmet, met-form}
+use Rattle.level.specs.Answers.{front, frontOf, early, typeOf, typeRow, headFor, headOf}
+use Rattle.level.proofs.Lookups.{typed, Met, met, unmet, met-form}
 
 -- ---- what stands at the head
 
@@ -196,7 +196,7 @@ module _ (T : List ℕ) (t from least : ℕ) (s : List ℕ) (f : Front) (e : f �
             let g = early-same (optionalFrom T t from) least s long tag k n F c ec in
             sym (ap (headOf T (optionalFrom T t from)) (header-wrong (optionalFrom T t from) least s long tag k n F c z (form-early (optionalFrom T t from) least (F .head) c g z)))
 
-    module _ (z : c ≡ 0) (found : Found) (ef : found ≡ rowFound (lookup tag (optionalFrom T t from))) where
+    module _ (z : c ≡ 0) (found : FoundMember) (ef : found ≡ memberFound T (lookup tag (optionalFrom T t from))) where
       pub head-unknown : found ≡ Nothing → Unknown tag k n ≡ headOf T (optionalFrom T t from) (header (optionalFrom T t from) least s)
       unfolding headOf headFor wrongType
       head-unknown qf = go (fronted (front s) long tag k n (sym q ∙ e))
@@ -208,30 +208,33 @@ module _ (T : List ℕ) (t from least : ℕ) (s : List ℕ) (f : Front) (e : f �
               let fine : headerForm (optionalFrom T t from) least (F .head) ≡ 0 = form-late (optionalFrom T t from) least (F .head) c g z ∙ rw lost in
               sym (ap (headOf T (optionalFrom T t from)) (header-fine (optionalFrom T t from) least s long tag k n F fine) ∙ rw (lost, F .tag-is, F .bits-is))
 
-      module _ (row : ℕ) (qf : found ≡ At row) (ty : ℕ) (et : ty ≡ typeRow T row) (forms : List ℕ) (ea : forms ≡ formsOf T)
+      module _ (row of : ℕ) (qf : found ≡ At row of) (all : ℕ) (en : all ≡ members T) (ty : ℕ) (et : ty ≡ typeOf all row of) (forms : List ℕ) (ea : forms ≡ formsOf T)
           (g : ℕ) (eg : g ≡ formIn forms ty) (b : ℕ) (eb : b ≡ bits (bitsOf (formNamed g))) where
+        row-is : Met T t from tag row of → ty ≡ typeRow T row
+        row-is M = typed T row all of ty en (M .of-is) et
+
         -- the judgement of the type
-        type-form : (F : Fronted (front s) long tag k n) (M : Met T t from tag row)
+        type-form : (F : Fronted (front s) long tag k n) (M : Met T t from tag row of)
             → headerForm (optionalFrom T t from) least (F .head) ≡ pick (not (eqb k b)) 12 0
         unfolding wrongType
         type-form F M =
             let there : lookup (F .head .tag) (optionalFrom T t from) ≡ some (M .member) = ap (λ (x : ℕ). lookup x (optionalFrom T t from)) (F .tag-is) ∙ M .there in
-            let same : b ≡ bits (bitsOf (formOf (M .member .ty))) = eb ∙ ap (λ (x : Form). bits (bitsOf x)) (met-form T forms t from tag row ty g M ea et eg) in
+            let same : b ≡ bits (bitsOf (formOf (M .member .ty))) = eb ∙ ap (λ (x : Form). bits (bitsOf x)) (met-form T forms t from tag row of ty g M ea (row-is M) eg) in
             form-late (optionalFrom T t from) least (F .head) c (early-same (optionalFrom T t from) least s long tag k n F c ec) z ∙ rw (there, F .bits-is, ← same)
 
         pub head-known : k ≡ b → Known row ty tag n ≡ headOf T (optionalFrom T t from) (header (optionalFrom T t from) least s)
         unfolding headOf headFor
-        head-known y = go (fronted (front s) long tag k n (sym q ∙ e)) (met T t from tag row (sym qf ∙ ef))
+        head-known y = go (fronted (front s) long tag k n (sym q ∙ e)) (met T t from tag row of (sym qf ∙ ef))
           where
-            go : Fronted (front s) long tag k n → Met T t from tag row → Known row ty tag n ≡ headOf T (optionalFrom T t from) (header (optionalFrom T t from) least s)
+            go : Fronted (front s) long tag k n → Met T t from tag row of → Known row ty tag n ≡ headOf T (optionalFrom T t from) (header (optionalFrom T t from) least s)
             go F M =
                 let there : lookup (F .head .tag) (optionalFrom T t from) ≡ some (M .member) = ap (λ (x : ℕ). lookup x (optionalFrom T t from)) (F .tag-is) ∙ M .there in
                 let fine : headerForm (optionalFrom T t from) least (F .head) ≡ 0 = type-form F M ∙ rw (eq-eqb k b y) in
-                sym (ap (headOf T (optionalFrom T t from)) (header-fine (optionalFrom T t from) least s long tag k n F fine) ∙ rw (there, F .tag-is, M .is, ← et))
+                sym (ap (headOf T (optionalFrom T t from)) (header-fine (optionalFrom T t from) least s long tag k n F fine) ∙ rw (there, F .tag-is, M .is, ← row-is M))
 
         pub head-other : (k ≡ b → ⊥) → Wrong 12 0 ≡ headOf T (optionalFrom T t from) (header (optionalFrom T t from) least s)
         unfolding headOf
-        head-other y = go (fronted (front s) long tag k n (sym q ∙ e)) (met T t from tag row (sym qf ∙ ef))
+        head-other y = go (fronted (front s) long tag k n (sym q ∙ e)) (met T t from tag row of (sym qf ∙ ef))
           where
-            go : Fronted (front s) long tag k n → Met T t from tag row → Wrong 12 0 ≡ headOf T (optionalFrom T t from) (header (optionalFrom T t from) least s)
+            go : Fronted (front s) long tag k n → Met T t from tag row of → Wrong 12 0 ≡ headOf T (optionalFrom T t from) (header (optionalFrom T t from) least s)
             go F M = sym (ap (headOf T (optionalFrom T t from)) (header-wrong (optionalFrom T t from) least s long tag k n F 12 (λ i. omega arith) (type-form F M ∙ rw (ne-eqb k b y))))

@@ -5,7 +5,7 @@
 --   type-here, type-past    the row of a member's type, where there is such a member and where there is none
 --   row-type, typed         the tree of the row of a member's type, and the row as the code finds it
 --   optional-of             an optional's type is that of its row
---   Met, met                what the code's look-up of a tag tells: the member, of that row and its type
+--   Met, met                what the code's look-up of a tag tells: the member, of that row, and the row of its type
 --   unmet                   no member has the tag
 --   met-form                the member's form, as the array of forms has it
 use mathlib.Core.Path.{_≡_, refl, sym, ap, _∙_}
@@ -21,8 +21,8 @@ use Rattle.encoding.specs.Result.{pick}
 use Rattle.encoding.specs.Types.{formOf}
 use Rattle.encoding.specs.TableLaws.{ty-past}
 use Rattle.encoding.specs.Table.{members, range, memberType, memberTy, trees, tyOf, Member, lookup}
-use Rattle.table.specs.declared.Found.the-variants.{At, Nothing}
-use Rattle.table.specs.Found.{rowFound}
+use Rattle.table.specs.declared.FoundMember.the-variants.{At, Nothing}
+use Rattle.table.specs.Found.{memberFound}
 use Rattle.table.specs.Forms.{formNumber, formAt, formsOf}
 use Rattle.table.specs.Tags.{ownFrom, optionalFrom}
 use Rattle.table.specs.TagsLaws.{found-own}
@@ -83,33 +83,34 @@ pub optional-of : (T : List ℕ) (t from k : ℕ) (m : Member) → lookup k (opt
 unfolding optionalFrom ownFrom
 optional-of T t from k m h = found-own T (trees T) k _ _ m h .type-is
 
-pub record Met (T : List ℕ) (t from k row : ℕ) : Type 0 where
+pub record Met (T : List ℕ) (t from k row of : ℕ) : Type 0 where
   pub member : Member
   pub there : lookup k (optionalFrom T t from) ≡ some member
   pub is : member .row ≡ row
+  pub of-is : of ≡ memberType T row
   pub type : member .ty ≡ memberTy T (trees T) row
 
-pub met : (T : List ℕ) (t from k row : ℕ) → At row ≡ rowFound (lookup k (optionalFrom T t from)) → Met T t from k row
-unfolding rowFound
-met T t from k row h = go (lookup k (optionalFrom T t from)) refl h
+pub met : (T : List ℕ) (t from k row of : ℕ) → At row of ≡ memberFound T (lookup k (optionalFrom T t from)) → Met T t from k row of
+unfolding memberFound
+met T t from k row of h = go (lookup k (optionalFrom T t from)) refl h
   where
-    go : (o : Option Member) → lookup k (optionalFrom T t from) ≡ o → At row ≡ rowFound o → Met T t from k row
+    go : (o : Option Member) → lookup k (optionalFrom T t from) ≡ o → At row of ≡ memberFound T o → Met T t from k row of
     go none e h = let z : _≡_ {A = ℕ} 0 1 = cc in absurd (omega arith)
     go (some m) e h =
         let q : m .row ≡ row = cc in
-        record { member = m; there = e; is = q; type = optional-of T t from k m e ∙ ap (memberTy T (trees T)) q }
+        record { member = m; there = e; is = q; of-is = cc; type = optional-of T t from k m e ∙ ap (memberTy T (trees T)) q }
 
-pub unmet : (T : List ℕ) (t from k : ℕ) → Nothing ≡ rowFound (lookup k (optionalFrom T t from)) → lookup k (optionalFrom T t from) ≡ none
-unfolding rowFound
+pub unmet : (T : List ℕ) (t from k : ℕ) → Nothing ≡ memberFound T (lookup k (optionalFrom T t from)) → lookup k (optionalFrom T t from) ≡ none
+unfolding memberFound
 unmet T t from k h = go (lookup k (optionalFrom T t from)) refl h
   where
-    go : (o : Option Member) → lookup k (optionalFrom T t from) ≡ o → Nothing ≡ rowFound o → lookup k (optionalFrom T t from) ≡ none
+    go : (o : Option Member) → lookup k (optionalFrom T t from) ≡ o → Nothing ≡ memberFound T o → lookup k (optionalFrom T t from) ≡ none
     go none e h = e
     go (some m) e h = let z : _≡_ {A = ℕ} 0 1 = cc in absurd (omega arith)
 
 pub row-form : (T forms : List ℕ) (ty g : ℕ) → forms ≡ formsOf T → g ≡ formIn forms ty → formNamed g ≡ formOf (tyOf T ty)
 row-form T forms ty g ef eg = ap formNamed (eg ∙ ap (λ (l : List ℕ). formIn l ty) ef ∙ form-row T ty) ∙ named-number (formOf (tyOf T ty))
 
-pub met-form : (T forms : List ℕ) (t from k row ty g : ℕ) (M : Met T t from k row) → forms ≡ formsOf T → ty ≡ typeRow T row → g ≡ formIn forms ty
+pub met-form : (T forms : List ℕ) (t from k row of ty g : ℕ) (M : Met T t from k row of) → forms ≡ formsOf T → ty ≡ typeRow T row → g ≡ formIn forms ty
     → formNamed g ≡ formOf (M .member .ty)
-met-form T forms t from k row ty g M ef et eg = row-form T forms ty g ef eg ∙ ap formOf (row-type T row ty et ∙ sym (M .type))
+met-form T forms t from k row of ty g M ef et eg = row-form T forms ty g ef eg ∙ ap formOf (row-type T row ty et ∙ sym (M .type))

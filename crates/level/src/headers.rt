@@ -10,7 +10,7 @@ ghost use Rattle.level.specs.Forms.{formNamed, formIn};
 ghost use Rattle.level.specs.Answers.{front, frontOf, early, headOf};
 use crate::Front;
 use crate::Head;
-use table::Found;
+use table::FoundMember;
 use wire::Sized;
 
 // The first byte and, behind five bits 30, the tag as a size.
@@ -103,16 +103,15 @@ pub fn header(
             }
             let found = table::chain::tag_member(table, t, from, tag);
             match found {
-                Found::At(m) => {
-                    let row = table::member_row(table, m);
-                    let ty = crate::type_of(table::members(table), m, row.of);
+                FoundMember::At(m, of) => {
+                    let ty = crate::type_of(table::members(table), m, of);
                     if k == form_bits(form_at(forms, ty)) {
                         Head::Known(m, ty, tag, n)
                     } else {
                         Head::Wrong(12, 0)
                     }
                 }
-                Found::Nothing => Head::Unknown(tag, k, n),
+                FoundMember::Nothing => Head::Unknown(tag, k, n),
             }
         }
         Front::Isnt(c, p) => Head::Wrong(c, p),

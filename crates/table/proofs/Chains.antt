@@ -2,24 +2,27 @@
 --
 --   base-is ..        the base of a row
 --   top-.., owner-..  the loop up a chain that looks for a row, or for the owner of a member
---   takes-.., tag-.., above-..   whether a row takes a member, and a member's tag
+--   takes-.., above-..   whether a row takes a member, and whether a member's tag is above one
 --   later-..          the greater of two rows
 --   Optionals, optionals-..   the loop over a row's members that looks for a tag
 --   Passing, passing-..       the loop over the rows before a member that looks for a tag above its own
 use Prim.Native.Nat.{ℕ, zero, suc, _+_, _-_, _≤_, _<_}
 use mathlib.Core.Path.{_≡_, refl, sym, ap, _∙_}
-use mathlib.Core.Bool.{Bool, true, false, _&&_, not}
+use mathlib.Core.Bool.{Bool, true, false}
 use mathlib.Core.List.{List, _∷_}
 use native.Mathlib.Numerals.{add-one, sub-one}
 use native.Mathlib.Omega.{arith}
 use lib.Dec.{eqb, ltb}
 use borrow.Author.Tests.{le-leb, lt-leb, lt-ltb, le-ltb, eq-eqb, ne-eqb}
 use Rattle.encoding.specs.Result.{pick}
-use Rattle.encoding.specs.Table.{kind, field, isRecord, mark, tag, range, takes, any, base, upward, chain, Member, memberTy, optionalOf, trees, lookup}
+use Rattle.encoding.specs.Table.{kind, field, isRecord, memberType, mark, tag, range, takes, any, base, upward, chain, Member, memberTy, optionalOf, trees, lookup}
 use Rattle.encoding.specs.TableLaws.{chain-row}
-use Rattle.table.specs.Found.{rowFound, hasTag}
+use Rattle.table.specs.Found.{memberFound}
+use Rattle.table.specs.Rows.{IsMemberRow}
 use Rattle.table.specs.Tags.{later, ownFrom, optionalFrom, isAbove, firstAbove, behind}
-use Rattle.table.specs.declared.Found.the-variants.{At, Nothing}
+use Rattle.table.specs.declared.MemberRow.{MemberRow}
+use Rattle.table.specs.declared.FoundMember.{FoundMember}
+use Rattle.table.specs.declared.FoundMember.the-variants.{At, Nothing}
 use Rattle.table.proofs.Ranges.{range-more, range-none}
 
 -- ---- bases
@@ -95,12 +98,6 @@ module _ (T : List ℕ) (t m a : ℕ) (ea : a ≡ field T t 0) where
   takes-is b eb h = let l : field T t 0 ≤ m = omega arith in rw (le-leb _ _ l, ea, eb)
 
 module _ (T : List ℕ) (m k : ℕ) (ek : k ≡ mark T m) where
-  pub tag-none : (key : ℕ) → k ≡ 0 → false ≡ hasTag T key m
-  tag-none key z = rw (eq-eqb (mark T m) 0 (sym ek ∙ z))
-
-  pub tag-has : (key g : ℕ) → (k ≡ 0 → ⊥) → g ≡ tag T m → eqb key g ≡ hasTag T key m
-  tag-has key g z e = rw (ne-eqb (mark T m) 0 (λ q. z (ek ∙ q)), e)
-
   pub above-none : (key : ℕ) → k ≡ 0 → false ≡ isAbove T key m
   above-none key z = rw (eq-eqb (mark T m) 0 (sym ek ∙ z))
 
@@ -120,7 +117,7 @@ module _ (a b : ℕ) where
 
 -- the rows left to look at decide
 abbrev pub Optionals : List ℕ → ℕ → ℕ → ℕ → ℕ → ℕ → Type 0
-Optionals T t from key end m = rowFound (lookup key (optionalFrom T t from)) ≡ rowFound (lookup key (optionalOf T (trees T) (range m (end - m))))
+Optionals T t from key end m = memberFound T (lookup key (optionalFrom T t from)) ≡ memberFound T (lookup key (optionalOf T (trees T) (range m (end - m))))
 
 module _ (T : List ℕ) (t from key a b m : ℕ) (ea : a ≡ field T t 0) (eb : b ≡ field T t 1) (em : m ≡ later from a) where
   pub optionals-begin : Optionals T t from key (a + b) m
@@ -128,28 +125,38 @@ module _ (T : List ℕ) (t from key a b m : ℕ) (ea : a ≡ field T t 0) (eb : 
   optionals-begin = rw (em, ea, eb)
 
 module _ (T : List ℕ) (t from key end m : ℕ) (inv : Optionals T t from key end m) where
-  optionals-more : m < end → rowFound (lookup key (optionalOf T (trees T) (range m (end - m))))
-      ≡ pick (hasTag T key m) (At m) (rowFound (lookup key (optionalOf T (trees T) (range (m + 1) (end - (m + 1))))))
-  unfolding optionalOf lookup rowFound
-  optionals-more h = rw (range-more m end h) (go (eqb (mark T m) 0) (eqb key (tag T m)) refl)
-    where
-      rest : List Member
-      rest = optionalOf T (trees T) (range (m + 1) (end - (m + 1)))
-
-      go : (a b : Bool) → eqb key (tag T m) ≡ b → rowFound (lookup key (pick a rest (record { row = m; key = tag T m; ty = memberTy T (trees T) m } ∷ rest))) ≡ pick (not a && b) (At m) (rowFound (lookup key rest))
-      go true b e = refl
-      go false true e = rw e
-      go false false e = rw e
-
-  pub optionals-here : (r : Bool) → m < end → r ≡ hasTag T key m → r ≡ true → At m ≡ rowFound (lookup key (optionalFrom T t from))
-  optionals-here r h e q = sym (inv ∙ optionals-more h ∙ rw (sym e ∙ q))
-
-  pub optionals-next : (r : Bool) → m < end → r ≡ hasTag T key m → r ≡ false → Optionals T t from key end (m + 1)
-  optionals-next r h e q = inv ∙ optionals-more h ∙ rw (sym e ∙ q)
-
-  pub optionals-end : end ≤ m → Nothing ≡ rowFound (lookup key (optionalFrom T t from))
-  unfolding optionalOf lookup rowFound
+  pub optionals-end : end ≤ m → Nothing ≡ memberFound T (lookup key (optionalFrom T t from))
+  unfolding optionalOf lookup memberFound
   optionals-end h = sym (inv ∙ rw (range-none m end h))
+
+  module _ (h : m < end) (r : MemberRow) (is : IsMemberRow T m r) where
+    rest : FoundMember
+    rest = memberFound T (lookup key (optionalOf T (trees T) (range (m + 1) (end - (m + 1)))))
+
+    optionals-more : memberFound T (lookup key (optionalFrom T t from)) ≡ pick (eqb (r .mark) 0) rest (pick (eqb key (r .tag)) (At m (r .of)) rest)
+    unfolding optionalOf lookup memberFound rest
+    optionals-more = inv ∙ rw (range-more m end h, is .mark-is, is .tag-is, is .of-is) (go (eqb (mark T m) 0) (eqb key (tag T m)) refl)
+      where
+        ahead : List Member
+        ahead = optionalOf T (trees T) (range (m + 1) (end - (m + 1)))
+
+        go : (a b : Bool) → eqb key (tag T m) ≡ b → memberFound T (lookup key (pick a ahead (record { row = m; key = tag T m; ty = memberTy T (trees T) m } ∷ ahead)))
+            ≡ pick a (memberFound T (lookup key ahead)) (pick b (At m (memberType T m)) (memberFound T (lookup key ahead)))
+        go true b e = refl
+        go false true e = rw e
+        go false false e = rw e
+
+    pub optionals-required : r .mark ≡ 0 → Optionals T t from key end (m + 1)
+    unfolding rest
+    optionals-required z = optionals-more ∙ rw (eq-eqb (r .mark) 0 z)
+
+    module _ (o : r .mark ≡ 0 → ⊥) where
+      pub optionals-here : key ≡ r .tag → At m (r .of) ≡ memberFound T (lookup key (optionalFrom T t from))
+      optionals-here e = sym (optionals-more ∙ rw (ne-eqb (r .mark) 0 o, eq-eqb key (r .tag) e))
+
+      pub optionals-other : (key ≡ r .tag → ⊥) → Optionals T t from key end (m + 1)
+      unfolding rest
+      optionals-other e = optionals-more ∙ rw (ne-eqb (r .mark) 0 o, ne-eqb key (r .tag) e)
 
 -- ---- behind a member
 

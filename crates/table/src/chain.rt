@@ -1,10 +1,10 @@
 // A record's bases and the members of a row.
-use crate::Found;
+use crate::FoundMember;
 ghost use mathlib.Core.Path.{_≡_};
 ghost use Prim.Native.Nat.{_≤_, _<_};
 ghost use lib.Dec.{eqb};
 ghost use Rattle.encoding.specs.Table.{any, takes, lookup, base, chain};
-ghost use Rattle.table.specs.Found.{rowFound, hasTag};
+ghost use Rattle.table.specs.Found.{memberFound};
 ghost use Rattle.table.specs.Tags.{later, optionalFrom, isAbove, behind};
 
 // The base row + 1, or 0; a base that is not smaller is none.
@@ -65,17 +65,6 @@ pub fn of_chain(table: &[u8], t: usize, m: usize) -> bool
     }
 }
 
-// Member row m is optional and has this tag.
-fn has_tag(table: &[u8], m: usize, tag: usize) -> bool
-    ensures { λ r. ⌜ r ≡ hasTag (now (table .entry)) tag m ⌝ }
-{
-    let row = crate::member_row(table, m);
-    if row.mark == 0 {
-        return false;
-    }
-    tag == row.tag
-}
-
 // The greater of two row numbers.
 fn later(a: usize, b: usize) -> usize
     ensures { λ r. ⌜ r ≡ later a b ⌝ }
@@ -86,20 +75,23 @@ fn later(a: usize, b: usize) -> usize
     a
 }
 
-// The optional member of row t that has a tag, looked up from a row on.
-pub fn tag_member(table: &[u8], t: usize, from: usize, tag: usize) -> Found
-    ensures { λ r. ⌜ r ≡ rowFound (lookup tag (optionalFrom (now (table .entry)) t from)) ⌝ }
+// The optional member of row t that has a tag, looked up from a row on, and the row of its type.
+pub fn tag_member(table: &[u8], t: usize, from: usize, tag: usize) -> FoundMember
+    ensures { λ r. ⌜ r ≡ memberFound (now (table .entry)) (lookup tag (optionalFrom (now (table .entry)) t from)) ⌝ }
 {
     let row = crate::type_row(table, t);
     let end = row.a + row.b;
     let mut m = later(from, row.a);
     while m < end {
-        if has_tag(table, m, tag) {
-            return Found::At(m);
+        let member = crate::member_row(table, m);
+        if member.mark != 0 {
+            if tag == member.tag {
+                return FoundMember::At(m, member.of);
+            }
         }
         m += 1;
     }
-    Found::Nothing
+    FoundMember::Nothing
 }
 
 // Member row m is optional and its tag is above a tag.

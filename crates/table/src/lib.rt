@@ -18,6 +18,12 @@ pub enum Found {
     Nothing,
 }
 
+// A member row and the row number of its type, if there is such a member.
+pub enum FoundMember {
+    At(usize, usize),
+    Nothing,
+}
+
 // No rule is broken; or the first that is, as its class and its place.
 pub enum Verdict {
     Fine,

@@ -1,6 +1,5 @@
 -- The judgements in their order; the member of a known tag says its type by its form. Assumes nothing.
 use borrow.Author.Needs.{needs}
-use Rattle.level.proofs.Lookups.{typed}
 use Rattle.level.proofs.Heads.{head-none, head-early, head-unknown, head-known, head-other}
 use Rattle.level.proofs.headers.header.Statement.{statement}
 use Rattle.level.proofs.headers.header.Tie as tie
@@ -15,14 +14,13 @@ header-spec =
     (λ c. search head-early)  -- returns
     (λ c κs. search needs)  -- tag-member-requires
     (λ c. search needs)  -- enum-known-found
-    (λ c κs. search needs)  -- member-row-requires
     (λ c κs. search needs)  -- members-requires
     (λ c κs. search needs)  -- type-of-requires
     (λ c κs. search needs)  -- form-at-requires
     (λ c κs. search needs)  -- form-bits-requires
     (λ c. search needs)  -- enum-told
     (λ c. search needs)  -- enum-known-f-2
-    (λ c. search (head-known, typed))  -- returns-2
-    (λ c. search (head-other, typed))  -- returns-3
+    (λ c. search head-known)  -- returns-2
+    (λ c. search head-other)  -- returns-3
     (λ c. search head-unknown)  -- returns-4
     (λ c. search head-none))  -- returns-5

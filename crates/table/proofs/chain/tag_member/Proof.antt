@@ -1,8 +1,9 @@
 -- The loop's invariant: the members left to look at decide. The measure is their number. Assumes nothing.
 use borrow.Author.Needs.{needs}
 use Prim.Native.Nat.{_-_}
+use mathlib.Core.Logic.{⊎-elim}
 use native.Mathlib.Omega.{arith}
-use Rattle.table.proofs.Chains.{Optionals, optionals-begin, optionals-here, optionals-next, optionals-end}
+use Rattle.table.proofs.Chains.{Optionals, optionals-begin, optionals-here, optionals-required, optionals-other, optionals-end}
 use Rattle.table.proofs.chain.tag_member.Statement.{statement}
 use Rattle.table.proofs.chain.tag_member.Tie as tie
 
@@ -22,9 +23,9 @@ tag-member-spec =
     (λ c. search needs)  -- add-end
     (λ c κs. search needs)  -- later-requires
     (λ c. search optionals-begin)  -- loop-holds
-    (λ c κs. search needs)  -- has-tag-requires
+    (λ c κs. search needs)  -- member-row-requires
     (λ c. search optionals-here)  -- returns
     (λ c. omega arith)  -- add-m
     (λ c. omega arith)  -- loop-less
-    (λ c. search optionals-next)  -- loop-again
+    (λ c. ⊎-elim (λ w. search optionals-other) (λ w. search optionals-required) (c .if1 .came))  -- loop-again
     (λ c. search optionals-end))  -- returns-2
