@@ -1,20 +1,25 @@
--- Names as parts of the table, and their comparison byte by byte. Assumes nothing.
+-- Names as parts of the table, and their comparison. Assumes nothing.
 --
---   Same, same-..            the loop that compares two strings
---   name-here ..             where a name begins, and how many bytes it has within the table
---   name-found ..            the loop that looks for the record of a name
-use Prim.Native.Nat.{ℕ, suc, _+_, _-_, _*_, _≤_, _<_}
+--   Same, same-.., long-stop   the loops that compare two strings, eight bytes at a time and then one
+--   name-here ..               where a name begins, and how many bytes it has within the table
+--   named-part                 the part of the table that is compared is the name
+--   record-named ..            a row is a record of a name
+--   Naming, naming-..          the loop that looks for the record of a name
+use Prim.Native.Nat.{ℕ, zero, suc, _+_, _-_, _*_, _≤_, _<_, min}
 use mathlib.Core.Path.{_≡_, refl, sym, ap, _∙_}
 use mathlib.Core.Bool.{Bool, true, false, _&&_}
-use mathlib.Core.List.{List, [], _∷_}
+use mathlib.Core.List.{List}
+use native.Mathlib.Nat.{add-zero}
 use native.Mathlib.Numerals.{add-one}
 use native.Mathlib.Omega.{arith}
 use lib.ListN.{length, take, drop, getD, drop-of-length-le}
 use lib.Seq.{drop-cons}
 use lib.Dec.{eqb, leb}
-use borrow.Author.Tests.{leb-true, leb-false, eq-eqb, ne-eqb}
+use borrow.Author.Tests.{leb-true, leb-false, eq-eqb}
 use Rattle.encoding.specs.Result.{pick, sameBytes}
-use Rattle.encoding.specs.Table.{types, members, typesAt, rowAt, membersAt, memberAt, namesAt, kind, field, isRecord, nameOf, range, search as find, named}
+use Rattle.encoding.specs.ResultLaws.{sameBytes-ok}
+use Rattle.encoding.specs.Table.{at, types, members, typesAt, rowAt, membersAt, memberAt, namesAt, kind, field, isRecord, nameOf, range, search as find, named}
+use Rattle.wire.specs.At.{at-more}
 use Rattle.table.specs.Names.{nameStart, isNamed}
 use Rattle.table.specs.NamesLaws.{name-part, length-name}
 use Rattle.table.specs.Found.{foundOf}
@@ -23,16 +28,22 @@ use Rattle.table.proofs.Ranges.{find-here, find-next, find-none}
 
 -- ---- comparison
 
-pub same-lengths : (a b : List ℕ) → (length a ≡ length b → ⊥) → false ≡ sameBytes a b
-unfolding sameBytes
-same-lengths [] [] h = absurd (h refl)
-same-lengths [] (y ∷ b) h = refl
-same-lengths (x ∷ a) [] h = refl
-same-lengths (x ∷ a) (y ∷ b) h = go (eqb x y) (same-lengths a b (λ e. h (ap suc e)))
+differ : (a b : List ℕ) → (a ≡ b → ⊥) → false ≡ sameBytes a b
+differ a b h = go (sameBytes a b) refl
   where
-    go : (t : Bool) → false ≡ sameBytes a b → false ≡ t && sameBytes a b
-    go true e = e
+    go : (t : Bool) → sameBytes a b ≡ t → false ≡ t
+    go true e = absurd (h (sameBytes-ok a b e))
     go false e = refl
+
+module _ (a b : List ℕ) where
+  pub same-lengths : (length a ≡ length b → ⊥) → false ≡ sameBytes a b
+  same-lengths h = differ a b (λ e. h (ap length e))
+
+  pub same-stop : (i : ℕ) → (getD a i 0 ≡ getD b i 0 → ⊥) → false ≡ sameBytes a b
+  same-stop i h = differ a b (λ e. h (ap (λ (l : List ℕ). getD l i 0) e))
+
+  pub long-stop : (i x y : ℕ) → x ≡ at a 8 i → y ≡ at b 8 i → (x ≡ y → ⊥) → false ≡ sameBytes a b
+  long-stop i x y ex ey h = differ a b (λ e. h (ex ∙ ap (λ (l : List ℕ). at l 8 i) e ∙ sym ey))
 
 -- what is left to compare decides
 abbrev pub Same : List ℕ → List ℕ → ℕ → Type 0
@@ -46,12 +57,24 @@ module _ (a b : List ℕ) (i : ℕ) (inv : Same a b i) where
   pub same-turn : i < length a → getD a i 0 ≡ getD b i 0 → Same a b (i + 1)
   same-turn h e = (omega arith, inv .1, inv .2 ∙ same-more h ∙ rw (eq-eqb _ _ e))
 
-  pub same-stop : i < length a → (getD a i 0 ≡ getD b i 0 → ⊥) → false ≡ sameBytes a b
-  same-stop h e = sym (inv .2 ∙ same-more h ∙ rw (ne-eqb _ _ e))
-
   pub same-end : length a ≤ i → true ≡ sameBytes a b
   unfolding sameBytes
   same-end h = sym (inv .2 ∙ rw (drop-of-length-le a h, drop-of-length-le b {i = i} (omega (arith, inv .1))))
+
+-- bytes are the same where their numbers are
+module _ (a b : List ℕ) (sa : (j : ℕ) → getD a j 0 < 256) (sb : (j : ℕ) → getD b j 0 < 256) where
+  same-number : (k i : ℕ) → Same a b i → i + k ≤ length a → at a k i ≡ at b k i → Same a b (i + k)
+  same-number zero i inv h e = rw (add-zero i) inv
+  same-number (suc k) i inv h e =
+      let x = at-more a k i in
+      let y = at-more b k i in
+      let p : getD a i 0 ≡ getD b i 0 = omega (arith, sa i, sb i) in
+      let q : at a k (suc i) ≡ at b k (suc i) = omega (arith, sa i, sb i) in
+      let z : i + suc k ≡ suc i + k = omega arith in
+      rw z (same-number k (suc i) (rw add-one at (same-turn a b i inv (omega arith) p)) (omega arith) q)
+
+  pub same-long : (i : ℕ) → Same a b i → 8 ≤ length a - i → (x y : ℕ) → x ≡ at a 8 i → y ≡ at b 8 i → x ≡ y → Same a b (i + 8)
+  same-long i inv h x y ex ey e = same-number 8 i inv (omega arith) (sym ex ∙ e ∙ ey)
 
 -- ---- the part of the table that a name is
 
@@ -64,29 +87,26 @@ module _ (T : List ℕ) (t : ℕ) where
     name-cut h = omega (arith, length-name T t)
 
   module _ (n m f : ℕ) (en : n ≡ types T) (em : m ≡ members T) (ef : f ≡ field T t 3) where
-    pub name-here : 12 + 12 * n + 8 * m + f ≤ length T → 12 + 12 * n + 8 * m + f ≡ nameStart T t
+    name-least : (a : ℕ) → a ≡ min (12 + 12 * n + 8 * m + f) (length T) → a ≡ nameStart T t
     unfolding nameStart namesAt memberAt membersAt rowAt typesAt
-    name-here h = go (leb (12 + 12 * types T + 8 * members T + field T t 3) (length T)) refl
+    name-least a h = go (leb (12 + 12 * types T + 8 * members T + field T t 3) (length T)) refl
       where
-        go : (b : Bool) → leb (12 + 12 * types T + 8 * members T + field T t 3) (length T) ≡ b
-            → 12 + 12 * n + 8 * m + f ≡ pick b (12 + 12 * types T + 8 * members T + field T t 3) (length T)
-        go true e = omega arith
+        go : (b : Bool) → leb (12 + 12 * types T + 8 * members T + field T t 3) (length T) ≡ b → a ≡ pick b (12 + 12 * types T + 8 * members T + field T t 3) (length T)
+        go true e = omega (arith, leb-true)
         go false e = omega (arith, leb-false)
 
-    pub name-past : length T < 12 + 12 * n + 8 * m + f → length T ≡ nameStart T t
-    unfolding nameStart namesAt memberAt membersAt rowAt typesAt
-    name-past h = go (leb (12 + 12 * types T + 8 * members T + field T t 3) (length T)) refl
-      where
-        go : (b : Bool) → leb (12 + 12 * types T + 8 * members T + field T t 3) (length T) ≡ b
-            → length T ≡ pick b (12 + 12 * types T + 8 * members T + field T t 3) (length T)
-        go true e = omega (arith, leb-true)
-        go false e = refl
+    pub name-here : 12 + 12 * n + 8 * m + f ≤ length T → 12 + 12 * n + 8 * m + f ≡ nameStart T t
+    name-here h = name-least _ (omega arith)
 
-  pub named-part : (nm : List ℕ) (a n : ℕ) (r : Bool) → a ≡ nameStart T t → n ≡ length (nameOf T t)
-      → r ≡ sameBytes nm (take (a + n - a) (drop a T)) → r ≡ sameBytes nm (nameOf T t)
-  named-part nm a n r s e h =
-      let z : a + n - a ≡ length (nameOf T t) = omega arith in
-      h ∙ rw (z, s, name-part T t)
+    pub name-past : length T < 12 + 12 * n + 8 * m + f → length T ≡ nameStart T t
+    name-past h = name-least _ (omega arith)
+
+    pub named-part : (nm : List ℕ) (a k l : ℕ) (r : Bool) → a ≡ min (12 + 12 * n + 8 * m + f) (length T) → k ≡ field T t 4 → l ≡ min k (length T - a)
+        → r ≡ sameBytes nm (take (a + l - a) (drop a T)) → r ≡ sameBytes nm (nameOf T t)
+    named-part nm a k l r s ek e h =
+        let b : a ≡ nameStart T t = name-least a s in
+        let z : a + l - a ≡ length (nameOf T t) = omega (arith, length-name T t) in
+        h ∙ rw (z, b, name-part T t)
 
 -- ---- the search for a name
 

@@ -31,15 +31,22 @@ pub fn name_length(table: &[u8], t: usize) -> usize
     table.len() - a
 }
 
-// Two strings are the same bytes.
+// Two strings are the same bytes, compared eight at a time.
 pub fn same(a: &[u8], b: &[u8]) -> bool
     ensures { λ r. ⌜ r ≡ sameBytes (now (a .entry)) (now (b .entry)) ⌝ }
 {
     if a.len() != b.len() {
         return false;
     }
+    let n = a.len();
     let mut i = 0;
-    while i < a.len() {
+    while 8 <= n - i {
+        if wire::long_in(a, i) != wire::long_in(b, i) {
+            return false;
+        }
+        i += 8;
+    }
+    while i < n {
         if a[i] != b[i] {
             return false;
         }
@@ -52,8 +59,10 @@ pub fn same(a: &[u8], b: &[u8]) -> bool
 pub fn is_named(table: &[u8], t: usize, name: &[u8]) -> bool
     ensures { λ r. ⌜ r ≡ sameBytes (now (name .entry)) (nameOf (now (table .entry)) t) ⌝ }
 {
-    let a = name_start(table, t);
-    let e = a + name_length(table, t);
+    let row = crate::type_row(table, t);
+    let start = 12 + 12 * crate::types(table) + 8 * crate::members(table) + row.d;
+    let a = wire::least(start, table.len());
+    let e = a + wire::least(row.e, table.len() - a);
     same(name, &table[a..e])
 }
 

@@ -1,6 +1,7 @@
 -- Numbers by their bytes or their halves, and the cases of sizes, strings and declared lengths by the bytes at the head. Assumes nothing.
 --
---   short-is, int-is      two bytes, and two shorts, all inside; long-is: two ints of the part that begins at the place
+--   short-is, int-is      two bytes, and two shorts, all inside; long-whole: two ints
+--   long-is               two ints of the part that begins at the place
 --   short-cut, int-cut    a number that the end cuts off
 --   size-..               the cases of `size`
 --   declared-..           the cases of `declared`
@@ -35,6 +36,9 @@ module _ (s : List ℕ) (i a b : ℕ) where
 
   pub int-is : a ≡ at s 2 i → b ≡ at s 2 (i + 2) → a + 65536 * b ≡ at s 4 i
   int-is e f = omega (arith, at-split s 2 2 i)
+
+  pub long-whole : a ≡ at s 4 i → b ≡ at s 4 (i + 4) → a + 4294967296 * b ≡ at s 8 i
+  long-whole e f = omega (arith, at-split s 4 4 i)
 
 -- past the end
 module _ (s : List ℕ) (i a : ℕ) (r : Bool) where

@@ -66,6 +66,14 @@ fn int_in(s: &[u8], i: usize) -> usize
     short_in(s, i) + 65536 * short_in(s, i + 2)
 }
 
+// The long at a place, all eight bytes inside.
+pub fn long_in(s: &[u8], i: usize) -> usize
+    requires { ⌜ i + 8 ≤ length (now s) ⌝ }
+    ensures { λ r. ⌜ r ≡ number-at (now (s .entry)) 8 i ⌝ }
+{
+    int_in(s, i) + 4294967296 * int_in(s, i + 4)
+}
+
 // The byte at a place, 0 past the end.
 pub fn byte_at(s: &[u8], i: usize) -> usize
     ensures { λ r. ⌜ (r ≡ number-at (now (s .entry)) 1 i) × (r < 256) ⌝ }
