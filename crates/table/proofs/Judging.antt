@@ -14,7 +14,7 @@
 --   Tags, tags-..              the loop over the tags before; alike-above, alike-below only of a tag below a bound
 --   required-.., optional-.., member-..   the rules of a member row
 --   Owner, owner-..            the member rows of one owner; Owners, owners-.. of all owners
---   check-..                   the passes one after another; check-rows, check-inside the rows lie inside
+--   check-..                   the passes one after another; check-rows, check-all-rows the type rows lie inside, all rows do
 use Prim.Native.Nat.{ℕ, zero, suc, _+_, _-_, _*_, _^_, _≤_, _<_, max}
 use mathlib.Core.Path.{_≡_, refl, sym, ap, ap₂, _∙_}
 use mathlib.Core.Bool.{Bool, true, false, _&&_, _||_, not}
@@ -35,8 +35,8 @@ use Rattle.encoding.specs.Table.{at, types, members, names, typesAt, rowAt, mem
 use Rattle.wire.specs.At.{at-split}
 use Rattle.table.specs.Names.{nameStart, isNamed}
 use Rattle.table.specs.NamesLaws.{name-part}
-use Rattle.table.specs.Checks.{verdictOf, isSetFrom, noBaseOf, enumRules, structRules, seqRules, dictRules, recordRules, listRules, kindRules, rowRules, share, isBasic, typePass, memberPass, isOptionalOf, isTagBefore, isTagAlike, requiredRules, optionalRules, memberRulesBy, memberRulesOf, ownerPass, ownersPass, MembersInside, OwnersInside}
-use Rattle.table.specs.ChecksLaws.{row-rules, or-assoc, table-length, owners-pass, owners-inside}
+use Rattle.table.specs.Checks.{verdictOf, isSetFrom, noBaseOf, enumRules, structRules, seqRules, dictRules, recordRules, listRules, kindRules, rowRules, share, isBasic, typePass, memberPass, isOptionalOf, isTagBefore, isTagAlike, requiredRules, optionalRules, memberRulesBy, memberRulesOf, ownerPass, ownersPass, MembersThere, OwnersThere}
+use Rattle.table.specs.ChecksLaws.{row-rules, or-assoc, table-length, owners-pass, owners-there}
 use Rattle.table.specs.Rows.{typeRowOf, memberRowOf, IsTypeRow, IsMemberAt, IsMemberRow}
 use Rattle.table.specs.declared.TypeRow.{TypeRow}
 use Rattle.table.specs.declared.MemberRow.{MemberRow}
@@ -696,28 +696,29 @@ module _ (T : List ℕ) (o : ℕ) (own : TypeRow) (r : MemberRow) (s : Bool) whe
 
 -- over the members of one owner; the tags before m are below `above`
 pub record Owner (T : List ℕ) (o m left above : ℕ) : Type 0 where
-  pub few : m + left < 131072
-  pub inside : (i : ℕ) → m ≤ i → i < m + left → memberAt T i + 8 ≤ length T
   pub below : (i : ℕ) → field T o 0 ≤ i → i < m → tag T i < above
   pub rest : verdictOf (ownerPass T o) ≡ verdictOf (pass (memberAt T) (memberRulesOf T o) (range m left))
 
-pub owner-begin : (T : List ℕ) (o left : ℕ) (own : TypeRow) → MembersInside T o → IsTypeRow T o own → left ≡ share own → left ≤ own .b → Owner T o (own .a) left 0
-unfolding ownerPass
-owner-begin T o left own there eo el hl = record {
-  few = omega (arith, eo .a-small, eo .b-small);
-  inside = λ i l h. there .inside i (omega (arith, eo .a-is)) (omega (arith, eo .a-is, el, ap share (whole-type T o own eo)));
-  below = λ i l h. absurd (omega (arith, eo .a-is));
-  rest = rw (eo .a-is, el, whole-type T o own eo);
-}
+-- none taken; some that are not there; the loop begins
+module _ (T : List ℕ) (o left : ℕ) (own : TypeRow) (eo : IsTypeRow T o own) (el : left ≡ share own) where
+  left-is : left ≡ share (typeRowOf T o)
+  left-is = el ∙ ap share (whole-type T o own eo)
+
+  pub owner-none : left ≡ 0 → Fine ≡ verdictOf (ownerPass T o)
+  unfolding ownerPass verdictOf pass range
+  owner-none z = rw (← left-is, z)
+
+  pub owner-short : (left ≡ 0 → ⊥) → (k : ℕ) → k ≡ members T → k < own .a + left → MembersThere T o → Broken 35 0 ≡ verdictOf (ownerPass T o)
+  owner-short z k ek h all = absurd (omega (arith, all .there (omega (arith, left-is)), left-is, eo .a-is))
+
+  pub owner-begin : Owner T o (own .a) left 0
+  unfolding ownerPass
+  owner-begin = record { below = λ i l h. absurd (omega (arith, eo .a-is)); rest = rw (eo .a-is, left-is) }
 
 module _ (T : List ℕ) (o m left above : ℕ) (inv : Owner T o m left above) where
   pub owner-end : left ≤ 0 → Fine ≡ verdictOf (ownerPass T o)
   unfolding verdictOf pass
   owner-end h = sym (inv .rest ∙ rw (range-empty m left h))
-
-  pub owner-place : 0 < left → (n : ℕ) → n ≡ types T → 12 + 12 * n + 8 * m + 8 ≤ length T
-  unfolding memberAt membersAt rowAt typesAt
-  owner-place h n e = omega (arith, inv .inside m (omega arith) (omega arith))
 
   -- a tag that is not below `above` is not among them
   tag-new : (g : ℕ) → above ≤ g → isTagBefore T (field T o 0) m g ≡ false
@@ -757,8 +758,6 @@ module _ (T : List ℕ) (o m left above : ℕ) (inv : Owner T o m left above) wh
 
     pub owner-next : c ≡ 0 → (a : ℕ) → a ≡ max above (r .tag + 1) → Owner T o (m + 1) (left - 1) a
     owner-next z a ea = record {
-      few = omega (arith, inv .few);
-      inside = λ i l k. inv .inside i (omega arith) (omega arith);
       below = λ i l k. ⊎-elim (λ q. omega (arith, er .tag-is, ap (tag T) q)) (λ q. omega (arith, inv .below i l q)) (eq-or-lt-of-le {n = i} {m = m} (omega arith));
       rest = inv .rest ∙ rw (range-left m left h) (ap verdictOf (pass-next (memberAt T) (memberRulesOf T o) m c (range (m + 1) (left - 1)) owner-row z));
     }
@@ -766,27 +765,27 @@ module _ (T : List ℕ) (o m left above : ℕ) (inv : Owner T o m left above) wh
 -- over the owners
 pub record Owners (T : List ℕ) (n o : ℕ) : Type 0 where
   pub within : o ≤ n
-  pub rest : verdictOf (ownersPass T (range 0 (types T))) ≡ verdictOf (ownersPass T (range o (n - o)))
+  pub rest : OwnersThere T → verdictOf (ownersPass T (range 0 (types T))) ≡ verdictOf (ownersPass T (range o (n - o)))
 
 pub owners-begin : (T : List ℕ) (n : ℕ) → n ≡ types T → Owners T n 0
-owners-begin T n e = let z : n - 0 ≡ types T = omega arith in record { within = omega arith; rest = rw z }
+owners-begin T n e = let z : n - 0 ≡ types T = omega arith in record { within = omega arith; rest = λ there. rw z }
 
 module _ (T : List ℕ) (n o : ℕ) (inv : Owners T n o) where
-  pub owners-end : n ≤ o → Fine ≡ verdictOf (ownersPass T (range 0 (types T)))
+  pub owners-end : n ≤ o → OwnersThere T → Fine ≡ verdictOf (ownersPass T (range 0 (types T)))
   unfolding verdictOf ownersPass
-  owners-end h = sym (inv .rest ∙ rw (range-none o n h))
+  owners-end h there = sym (inv .rest there ∙ rw (range-none o n h))
 
-  pub owners-members : o < n → n ≡ types T → OwnersInside T → MembersInside T o
-  owners-members h e there = there .owners o (omega arith)
+  module _ (h : o < n) (en : n ≡ types T) (v : Verdict) (e : MembersThere T o → v ≡ verdictOf (ownerPass T o)) where
+    owner-says : OwnersThere T → verdictOf (ownerPass T o) ≡ v
+    owner-says there = sym (e (there .owners o (omega arith)))
 
-  module _ (h : o < n) (v : Verdict) (e : v ≡ verdictOf (ownerPass T o)) where
-    pub owners-fault : (c p : ℕ) → v ≡ Broken c p → Broken c p ≡ verdictOf (ownersPass T (range 0 (types T)))
+    pub owners-fault : (c p : ℕ) → v ≡ Broken c p → OwnersThere T → Broken c p ≡ verdictOf (ownersPass T (range 0 (types T)))
     unfolding ownersPass
-    owners-fault c p q = sym (inv .rest ∙ rw (range-more o n h) (or-broken (ownerPass T o) _ c p (sym e ∙ q)))
+    owners-fault c p q there = sym (inv .rest there ∙ rw (range-more o n h) (or-broken (ownerPass T o) _ c p (owner-says there ∙ q)))
 
     pub owners-next : v ≡ Fine → Owners T n (o + 1)
     unfolding ownersPass
-    owners-next q = record { within = omega arith; rest = inv .rest ∙ rw (range-more o n h) (or-verdict (ownerPass T o) _ (sym e ∙ q)) }
+    owners-next q = record { within = omega arith; rest = λ there. inv .rest there ∙ rw (range-more o n h) (or-verdict (ownerPass T o) _ (owner-says there ∙ q)) }
 
 -- ---- header, type rows and member sum, member rows
 
@@ -803,9 +802,12 @@ module _ (T : List ℕ) (h : ℕ) (eh : faultAt 0 h ≡ headerRules T) where
       go zero z = absurd (z refl)
       go (suc c) z = refl
 
-  pub check-rows : h ≡ 0 → 12 + 12 * types T ≤ length T
+  pub check-all-rows : h ≡ 0 → 12 + 12 * types T + 8 * members T ≤ length T
   unfolding faultAt
-  check-rows z = omega (arith, table-length T (sym eh ∙ rw z))
+  check-all-rows z = omega (arith, table-length T (sym eh ∙ rw z))
+
+  pub check-rows : h ≡ 0 → 12 + 12 * types T ≤ length T
+  check-rows z = omega (arith, check-all-rows z)
 
   module _ (head : h ≡ 0) (v : Verdict) (ev : v ≡ verdictOf (orElse (typePass T) (sumRules T))) where
     past-header : verdictOf (faults T) ≡ verdictOf (orElse (orElse (typePass T) (sumRules T)) (orElse (memberPass T) fine))
@@ -815,15 +817,11 @@ module _ (T : List ℕ) (h : ℕ) (eh : faultAt 0 h ≡ headerRules T) where
     pub check-types : (c p : ℕ) → v ≡ Broken c p → Broken c p ≡ verdictOf (faults T)
     check-types c p q = sym (past-header ∙ or-broken (orElse (typePass T) (sumRules T)) _ c p (sym ev ∙ q))
 
-    pub check-inside : v ≡ Fine → OwnersInside T
-    unfolding faultAt
-    check-inside q = owners-inside T (sym eh ∙ rw head) (is-fine (orElse (typePass T) (sumRules T)) (sym ev ∙ q))
-
-    pub check-members : v ≡ Fine → (w : Verdict) → w ≡ verdictOf (ownersPass T (range 0 (types T))) → w ≡ verdictOf (faults T)
+    pub check-members : v ≡ Fine → (w : Verdict) → (OwnersThere T → w ≡ verdictOf (ownersPass T (range 0 (types T)))) → w ≡ verdictOf (faults T)
     unfolding orElse verdictOf
     check-members q w e =
         let f = is-fine (orElse (typePass T) (sumRules T)) (sym ev ∙ q) in
-        e ∙ ap verdictOf (owners-pass T f) ∙ sym (past-header ∙ or-verdict (orElse (typePass T) (sumRules T)) _ (sym ev ∙ q) ∙ last (memberPass T))
+        e (owners-there T f) ∙ ap verdictOf (owners-pass T f) ∙ sym (past-header ∙ or-verdict (orElse (typePass T) (sumRules T)) _ (sym ev ∙ q) ∙ last (memberPass T))
       where
         last : (f : Fault) → verdictOf (orElse f fine) ≡ verdictOf f
         last fine = refl

@@ -14,11 +14,11 @@
 --   requiredRules, optionalRules   the rules of a member row with mark 0, or with another mark, by its owner's fields and its own; b: its tag is alike
 --   memberRulesBy             the rules of a member row by these; memberRulesOf of member row m of owner o
 --   ownerPass, ownersPass     the member rows of one owner; of several in turn
---   MembersInside, OwnersInside    the member rows of one owner lie inside the table; those of all do
+--   MembersThere, OwnersThere      the member rows that a row takes are all there; those of each row are
 use Prim.Native.Nat.{ℕ, zero, suc, _+_, _-_, _*_, _≤_, _<_}
 use mathlib.Core.Bool.{Bool, false, _&&_, _||_, not}
 use mathlib.Core.List.{List, [], _∷_}
-use lib.ListN.{length, drop}
+use lib.ListN.{drop}
 use lib.Dec.{eqb, leb, ltb}
 use Rattle.encoding.specs.Result.{pick}
 use Rattle.encoding.specs.Table.{at, types, members, names, rowAt, memberAt, kind, field, mark, tag, isRecord, owns, range, any, great, used, noPart, alike, typeRules, memberRules, Fault, fine, fault, orElse, pass}
@@ -129,10 +129,10 @@ unfoldable pub ownersPass : List ℕ → List ℕ → Fault
 ownersPass T [] = fine
 ownersPass T (o ∷ os) = orElse (ownerPass T o) (ownersPass T os)
 
--- ---- member rows that lie inside
+-- ---- member rows that are there
 
-pub record MembersInside (T : List ℕ) (o : ℕ) : Type 0 where
-  pub inside : (m : ℕ) → field T o 0 ≤ m → m < field T o 0 + share (typeRowOf T o) → memberAt T m + 8 ≤ length T
+pub record MembersThere (T : List ℕ) (o : ℕ) : Type 0 where
+  pub there : 0 < share (typeRowOf T o) → field T o 0 + share (typeRowOf T o) ≤ members T
 
-pub record OwnersInside (T : List ℕ) : Type 0 where
-  pub owners : (o : ℕ) → o < types T → MembersInside T o
+pub record OwnersThere (T : List ℕ) : Type 0 where
+  pub owners : (o : ℕ) → o < types T → MembersThere T o

@@ -4,7 +4,7 @@
 --   owners-pass    where the type rows and the sum are fine, the member rows owner by owner are the member rows in order
 --   or-assoc       the first fault of three passes
 --   table-length   where the header is fine, the table is as long as it says
---   owners-inside  where the header, the type rows and the sum are fine, the member rows of each owner lie inside
+--   owners-there   where the type rows and the sum are fine, the member rows of each owner are all there
 use Prim.Native.Nat.{ℕ, zero, suc, _+_, _-_, _*_, _≤_, _<_}
 use mathlib.Core.Path.{_≡_, refl, sym, ap, ap₂, _∙_}
 use mathlib.Core.Bool.{Bool, true, false, _&&_, not}
@@ -19,7 +19,7 @@ use Rattle.encoding.specs.Result.{pick, firstOf}
 use Rattle.encoding.specs.Number.{negative}
 use Rattle.encoding.specs.Table.{types, members, names, typesAt, rowAt, membersAt, memberAt, namesAt, kind, field, mark, tag, owns, range, any, used, noBase, taken, takes, ownerOf, tagAlike, typeRules, memberRules, headerTests, headerRules, sumRules, faultAt, Fault, fine, fault, orElse, pass}
 use Rattle.table.specs.Rows.{typeRowOf}
-use Rattle.table.specs.Checks.{isSetFrom, noBaseOf, enumRules, structRules, seqRules, dictRules, recordRules, listRules, kindRules, rowRules, share, typePass, memberPass, isTagBefore, requiredRules, optionalRules, memberRulesBy, memberRulesOf, ownerPass, ownersPass, OwnersInside}
+use Rattle.table.specs.Checks.{isSetFrom, noBaseOf, enumRules, structRules, seqRules, dictRules, recordRules, listRules, kindRules, rowRules, share, typePass, memberPass, isTagBefore, requiredRules, optionalRules, memberRulesBy, memberRulesOf, ownerPass, ownersPass, OwnersThere}
 
 -- ---- a type row by its kind
 
@@ -245,14 +245,13 @@ owners-pass T e =
     let s = sum-fine T (f .1) in
     owners-from T (turns T (f .0)) (types T) 0 (omega arith) ∙ ap (λ (z : ℕ). pass (memberAt T) (memberRules T) (range 0 z)) (omega arith)
 
-pub owners-inside : (T : List ℕ) → headerRules T ≡ fine → orElse (typePass T) (sumRules T) ≡ fine → OwnersInside T
-unfolding share memberAt membersAt rowAt typesAt Turns
-owners-inside T e f = record { owners = λ o h. record { inside = λ m low high. go o h m (owns (kind T o)) refl low high } }
+pub owners-there : (T : List ℕ) → orElse (typePass T) (sumRules T) ≡ fine → OwnersThere T
+unfolding share Turns
+owners-there T f = record { owners = λ o h. record { there = go o h (owns (kind T o)) refl } }
   where
     p : (typePass T ≡ fine) × (sumRules T ≡ fine)
     p = or-fine (typePass T) (sumRules T) f
 
-    go : (o : ℕ) → o < types T → (m : ℕ) (b : Bool) → owns (kind T o) ≡ b → field T o 0 ≤ m → m < field T o 0 + pick b (field T o 1) 0 → memberAt T m + 8 ≤ length T
-    go o h m true q low high =
-        omega (arith, turns T (p .0) o h q, share-own T o q, taken-more T o, taken-least T (suc o) (types T) h, sum-fine T (p .1), table-length T e)
-    go o h m false q low high = absurd (omega arith)
+    go : (o : ℕ) → o < types T → (b : Bool) → owns (kind T o) ≡ b → 0 < pick b (field T o 1) 0 → field T o 0 + pick b (field T o 1) 0 ≤ members T
+    go o h true q s = omega (arith, turns T (p .0) o h q, share-own T o q, taken-more T o, taken-least T (suc o) (types T) h, sum-fine T (p .1))
+    go o h false q s = absurd (omega arith)

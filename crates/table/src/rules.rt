@@ -7,9 +7,9 @@ ghost use mathlib.Core.List.{[], _∷_};
 ghost use Prim.Native.Nat.{_+_, _*_, _≤_, _<_, max};
 ghost use lib.ListN.{length, take};
 ghost use Rattle.encoding.specs.Result.{firstOf, sameBytes};
-ghost use Rattle.encoding.specs.Table.{any, range, types, headerRules, sumRules, orElse, used, noPart, alike, faultAt, faults};
+ghost use Rattle.encoding.specs.Table.{any, range, types, members, headerRules, sumRules, orElse, used, noPart, alike, faultAt, faults};
 ghost use Rattle.table.specs.Names.{isNamed};
-ghost use Rattle.table.specs.Checks.{verdictOf, isSetFrom, noBaseOf, enumRules, structRules, seqRules, dictRules, recordRules, listRules, kindRules, rowRules, share, isBasic, typePass, isOptionalOf, isTagBefore, isTagAlike, requiredRules, optionalRules, memberRulesBy, ownerPass, ownersPass, MembersInside, OwnersInside};
+ghost use Rattle.table.specs.Checks.{verdictOf, isSetFrom, noBaseOf, enumRules, structRules, seqRules, dictRules, recordRules, listRules, kindRules, rowRules, share, isBasic, typePass, isOptionalOf, isTagBefore, isTagAlike, requiredRules, optionalRules, memberRulesBy, ownerPass, ownersPass, MembersThere, OwnersThere};
 
 // The mark FGT and version 1 stand in front: four bytes as an int, then a 0.
 fn is_marked(table: &[u8]) -> bool
@@ -454,15 +454,21 @@ fn raised(above: usize, tag: usize) -> usize
     if above <= tag { tag + 1 } else { above }
 }
 
-// The member rows of owner o; the tags before m are below `above`.
+// The member rows of owner o, where they are all there; the tags before m are below `above`. Behind the member sum they are.
 fn owner(table: &[u8], o: usize) -> Verdict
     requires { ⌜ 24 + 12 * o ≤ length (now table) ⌝ }
-    requires { ⌜ MembersInside (now table) o ⌝ }
-    ensures { λ r. ⌜ r ≡ verdictOf (ownerPass (now (table .entry)) o) ⌝ }
+    requires { ⌜ 12 + 12 * types (now table) + 8 * members (now table) ≤ length (now table) ⌝ }
+    ensures { λ r. ⌜ (MembersThere (now (table .entry)) o → r ≡ verdictOf (ownerPass (now (table .entry)) o)) ⌝ }
 {
     let start = 12 + 12 * crate::types(table);
     let own = crate::type_row_in(table, o);
     let mut left = share(own);
+    if left == 0 {
+        return Verdict::Fine;
+    }
+    if crate::members(table) < own.a + left {
+        return Verdict::Broken(35, 0);
+    }
     let mut m = own.a;
     let mut above = 0;
     while left > 0 {
@@ -478,11 +484,10 @@ fn owner(table: &[u8], o: usize) -> Verdict
     Verdict::Fine
 }
 
-// The pass over the member rows, owner by owner.
+// The pass over the member rows, owner by owner, where those of each are all there.
 fn member_rows(table: &[u8]) -> Verdict
-    requires { ⌜ 12 + 12 * types (now table) ≤ length (now table) ⌝ }
-    requires { ⌜ OwnersInside (now table) ⌝ }
-    ensures { λ r. ⌜ r ≡ verdictOf (ownersPass (now (table .entry)) (range 0 (types (now (table .entry))))) ⌝ }
+    requires { ⌜ 12 + 12 * types (now table) + 8 * members (now table) ≤ length (now table) ⌝ }
+    ensures { λ r. ⌜ (OwnersThere (now (table .entry)) → r ≡ verdictOf (ownersPass (now (table .entry)) (range 0 (types (now (table .entry)))))) ⌝ }
 {
     let n = crate::types(table);
     let mut o = 0;

@@ -1,6 +1,6 @@
--- The passes in turn; once the type rows and the sum are fine, the member rows owner by owner are the member rows in order. Assumes nothing.
+-- The passes in turn; once the type rows and the sum are fine, each owner's member rows are there, and owner by owner they are the member rows in order. Assumes nothing.
 use borrow.Author.Needs.{needs}
-use Rattle.table.proofs.Judging.{check-header, check-rows, check-types, check-inside, check-members}
+use Rattle.table.proofs.Judging.{check-header, check-rows, check-all-rows, check-types, check-members}
 use Rattle.table.proofs.rules.check.Statement.{statement}
 use Rattle.table.proofs.rules.check.Tie as tie
 
@@ -14,5 +14,5 @@ check-spec =
     (λ c. search needs)  -- enum-known-v
     (λ c. search check-types)  -- returns-2
     (λ c. search needs)  -- enum-told
-    (λ c κs. search (check-rows, check-inside))  -- member-rows-requires
+    (λ c κs. search check-all-rows)  -- member-rows-requires
     (λ c. search check-members))  -- returns-3

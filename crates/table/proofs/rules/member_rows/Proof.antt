@@ -1,8 +1,8 @@
--- The loop's invariant: the owners left decide. The measure is their number. Assumes nothing.
+-- The loop's invariant: where the member rows of each owner are there, the owners left decide. The measure is their number. Assumes nothing.
 use Prim.Native.Nat.{_-_}
 use borrow.Author.Needs.{needs}
 use native.Mathlib.Omega.{arith}
-use Rattle.table.proofs.Judging.{Owners, owners-begin, owners-members, owners-fault, owners-next, owners-end}
+use Rattle.table.proofs.Judging.{Owners, owners-begin, owners-fault, owners-next, owners-end}
 use Rattle.table.proofs.rules.member_rows.Statement.{statement}
 use Rattle.table.proofs.rules.member_rows.Tie as tie
 
@@ -20,7 +20,7 @@ member-rows-spec =
     μ-loop
     (λ c κs. search needs)  -- types-requires
     (λ c. search owners-begin)  -- loop-holds
-    (λ c κs. search (needs, owners-members))  -- owner-requires
+    (λ c κs. search needs)  -- owner-requires
     (λ c. search needs)  -- enum-told
     (λ c. search needs)  -- enum-known-v
     (λ c. search owners-fault)  -- returns
