@@ -41,9 +41,9 @@ pub fn walk(table: &[u8], top: usize, message: &[u8], out: &mut [u8]) -> Walk
     if 65536 < n {
         return Walk::Stop(3, 0);
     }
-    let mut forms = [0u8; 256];
-    table::forms::fill(table, &mut forms);
-    reader::body(table, &forms, top, message, out)
+    let mut shapes = [0u8; 256];
+    table::shapes::fill(table, &mut shapes);
+    reader::body(table, &shapes, top, message, out)
 }
 
 // The low 32 bits.

@@ -71,9 +71,9 @@ pub fn outcome(
             if n != 0 {
                 return Outcome::Stopped(n, 0);
             }
-            let mut forms = [0u8; 256];
-            table::forms::fill(table, &mut forms);
-            writer::write_rows(table, &forms, top, format, count, rows, buffer, out)
+            let mut shapes = [0u8; 256];
+            table::shapes::fill(table, &mut shapes);
+            writer::write_rows(table, &shapes, top, format, count, rows, buffer, out)
         }
     }
 }

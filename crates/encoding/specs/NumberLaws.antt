@@ -17,7 +17,7 @@ use lib.Dec.{ltb}
 use borrow.Author.Tests.{leb-false, ltb-true, ltb-false, lt-leb, lt-ltb, le-ltb}
 use mathlib.Core.Option.{Option}
 use Rattle.encoding.specs.Result.{Parser, ok, pick, _>>=_, pure, chunk, item, must, firstOf}
-use Rattle.encoding.specs.ResultLaws.{Closed, by-pick, framed, held, pick-most, firstOf-most, firstOf-none, Bound, bind-ok, bind-step, bind-take, bind-written, pure-ok, chunk-ok, chunk-written, item-ok, item-step, must-ok, must-step, firstOf-ok, Framed, Held, Ends, ends-chunk, ends-item, ends-bind, Eats, eats-chunk, eats-first, eats-item, eats-must, eats-mapc, Starved, starved-chunk, starved-bind, starved-item, starved-must}
+use Rattle.encoding.specs.ResultLaws.{Closed, by-pick, held, pick-most, firstOf-most, firstOf-none, Bound, bind-ok, bind-step, bind-take, bind-written, pure-ok, chunk-ok, chunk-written, item-ok, item-step, must-ok, must-step, firstOf-ok, Held, Ends, ends-chunk, ends-item, ends-bind, Eats, eats-chunk, eats-first, eats-item, eats-must, eats-mapc, Starved, starved-chunk}
 use Rattle.encoding.specs.Number.{val, leBytes, negative, number, byte, boolForm, bool, sizeForm, sizeTail, size, sizeBytes, lengthForm, declared, Content, string, stringBytes}
 
 -- ---- bytes
@@ -126,9 +126,6 @@ module _ {P : (A : Type 0) → Parser A → Type 0} {Stops : (List ℕ → Optio
   unfolding string Content
   closed-string = C .by-must _ (C .by-item _ (C .by-bind size _ closed-size (λ n. C .by-chunk n (λ b. b)))) Content (λ b. omega arith)
 
-pub framed-size : Framed size
-framed-size = closed-size framed
-
 pub held-byte : Held byte
 held-byte = closed-byte held
 
@@ -204,10 +201,6 @@ pub eats-size : Eats size
 unfolding size
 eats-size = eats-item _ (eats-first byte sizeTail eats-byte)
 
-pub starved-size : Starved size
-unfolding size
-starved-size = starved-item _ (starved-bind byte sizeTail starved-byte)
-
 pub size-written : (n : ℕ) (r : List ℕ) → n < 2 ^ 31 → size (sizeBytes n ++ r) ≡ ok n (length (sizeBytes n))
 unfolding size sizeBytes sizeTail pure
 size-written n r h = go (ltb n 255) refl
@@ -244,14 +237,6 @@ size-canonical xs b {n} {k} h =
     let C = byte-canonical xs (B .first) in
     let D = tail-canonical (B .fst) (drop (B .n) xs) (byte-below xs b (B .first)) (bytes-drop (B .n) xs b) (B .next) in
     (bind-take byte sizeTail xs B ∙ ap (λ (l : List ℕ). l ++ take (B .m) (drop (B .n) xs)) (C .0) ∙ D .0, D .1)
-
-pub bytes-sizeBytes : (n : ℕ) → Bytes (sizeBytes n)
-unfolding sizeBytes
-bytes-sizeBytes n = go (ltb n 255) refl
-  where
-    go : (t : Bool) → ltb n 255 ≡ t → Bytes (pick t (n ∷ []) (255 ∷ leBytes 4 n))
-    go true e = (omega (arith, ltb-true n 255 e), tt)
-    go false e = (omega arith, bytes-leBytes 4 n)
 
 -- ---- declared lengths
 
@@ -310,10 +295,6 @@ declared-canonical least own xs b o {d} {n} h = go (bind-ok (must (lengthForm le
 pub eats-string : Eats string
 unfolding string
 eats-string = eats-must Content _ (eats-item _ (eats-first size _ eats-size))
-
-pub starved-string : Starved string
-unfolding string
-starved-string = starved-must Content _ (starved-item _ (starved-bind size _ starved-size))
 
 pub string-written : (b r : List ℕ) → Content b ≡ 0 → length b < 2 ^ 31 → string (stringBytes b ++ r) ≡ ok b (length (stringBytes b))
 unfolding string stringBytes

@@ -68,10 +68,6 @@ unfolding firstOf
 firstOf-ok n true l h = absurd (omega arith)
 firstOf-ok n false l h = (refl, h)
 
-pub firstOf-step : (n : ℕ) (b : Bool) (l : List (ℕ × Bool)) → b ≡ false → firstOf ((n, b) ∷ l) ≡ firstOf l
-unfolding firstOf
-firstOf-step n b l e = rw e
-
 -- a refusal where a test is true passes where it is false
 pub pick-ok : (b : Bool) (n : ℕ) → _≡_ {A = ℕ} (pick b (suc n) 0) 0 → b ≡ false
 pick-ok true n h = absurd (omega arith)
@@ -303,10 +299,6 @@ pub framed-fail : {A : Type 0} (c : ℕ) → Framed (fail {A = A} c)
 unfolding fail
 framed-fail c xs a n h = absurd (ok≢bad h refl)
 
-pub framed-pick : {A : Type 0} (b : Bool) (p q : Parser A) → Framed p → Framed q → Framed (pick b p q)
-framed-pick true p q P Q = P
-framed-pick false p q P Q = Q
-
 pub framed-chunk : {A : Type 0} (k : ℕ) (f : List ℕ → A) → Framed (chunk k f)
 framed-chunk k f xs a n h =
     let e = chunk-ok k f xs h in
@@ -314,10 +306,6 @@ framed-chunk k f xs a n h =
       fits = e .0;
       again = λ w. chunk-written k f (take k xs) w (length-take-le k xs (e .0));
     }
-
-pub framed-skip : (k : ℕ) → Framed (skip k)
-unfolding skip
-framed-skip k = framed-chunk k (λ _. tt)
 
 module _ {A : Type 0} (p : Parser A) (P : Framed p) where
   pub framed-item : Framed (item p)
@@ -617,10 +605,6 @@ pub starved-chunk : {A : Type 0} (k : ℕ) (f : List ℕ → A) → Starved (chu
 unfolding chunk
 starved-chunk k f = rw (lt-leb (suc k) 0 (omega arith))
 
-pub starved-item : {A : Type 0} (p : Parser A) → Starved p → Starved (item p)
-unfolding item atFirst
-starved-item p P = rw (item, P)
-
 pub starved-must : {A : Type 0} (f : A → ℕ) (p : Parser A) → Starved p → Starved (must f p)
 unfolding must judged
 starved-must f p P = rw (must, P)
@@ -628,10 +612,6 @@ starved-must f p P = rw (must, P)
 pub starved-recall : {A : Type 0} (p : Parser A) → Starved p → Starved (recall 14 p)
 unfolding recall recalled
 starved-recall p P = rw (recall, P)
-
-pub starved-mapc : {A B : Type 0} (f : A → ℕ → B) (p : Parser A) → Starved p → Starved (mapc f p)
-unfolding mapc made
-starved-mapc f p P = rw (mapc, P)
 
 pub starved-bind : {A B : Type 0} (p : Parser A) (f : A → Parser B) → Starved p → Starved (p >>= f)
 starved-bind p f P = bind-bad p f [] P

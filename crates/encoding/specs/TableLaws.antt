@@ -5,14 +5,13 @@
 --   ty-row, ty-past                the tree of a row that has one is made from the trees below it; any other row is broken
 --   below-ty, below-none           among the trees below row t stand those of the rows below t and no other
 --   row-enum .. row-dict           the tree of a row of that kind, made from the trees below it
---   ty-seq, ty-dict                the same where the parts are rows below
 --   row-bool .. row-double         the rows without parts; row-other, row-broken a row of kind 13 and above
---   member-below, member-none      the type of a member row among the trees below row t; member-whole among all trees
+--   member-whole                   the type of a member row among all trees
 --   member-in, member-past         a member row that is there; one that is not
 --   members-more, members-none     the members' types one after another
 --   base-below, chain-row          a base is a smaller row; a row's chain is the row, then its base's chain
 use Prim.Native.Nat.{ℕ, zero, suc, _+_, _-_, _*_, _≤_, _<_}
-use mathlib.Core.Path.{_≡_, refl, sym, ap, ap₂, _∙_}
+use mathlib.Core.Path.{_≡_, refl, sym, ap, _∙_}
 use mathlib.Core.Bool.{Bool, true, false, _&&_}
 use mathlib.Core.Logic.{⊎-elim}
 use mathlib.Core.List.{List, [], _∷_}
@@ -70,12 +69,6 @@ module _ (T : List ℕ) (m : ℕ) where
   unfolding memberTy
   member-in l h = rw (lt-ltb _ _ h)
 
-  pub member-below : (t : ℕ) → t ≤ typeRows T → m < members T → memberType T m < t → memberTy T (tys T t) m ≡ tyOf T (memberType T m)
-  member-below t h k l = member-in (tys T t) k ∙ below-ty T t (memberType T m) h l
-
-  pub member-none : (t : ℕ) → m < members T → t ≤ memberType T m → memberTy T (tys T t) m ≡ broken
-  member-none t k l = member-in (tys T t) k ∙ below-none T t (memberType T m) l
-
   -- among all trees
   pub member-whole : m < members T → memberTy T (trees T) m ≡ tyOf T (memberType T m)
   unfolding tyOf
@@ -124,12 +117,6 @@ module _ (T : List ℕ) (t : ℕ) (h : t < typeRows T) where
   pub row-dict : kind T t ≡ 11 → tyOf T t ≡ dict (getD (tys T t) (field T t 0) broken) (getD (tys T t) (field T t 1) broken)
   unfolding rowTy
   row-dict k = ty-row T t h ∙ rw k
-
-  pub ty-seq : kind T t ≡ 10 → field T t 0 < t → tyOf T t ≡ seq (tyOf T (field T t 0))
-  ty-seq k l = row-seq k ∙ ap seq (below-ty T t (field T t 0) (omega arith) l)
-
-  pub ty-dict : kind T t ≡ 11 → field T t 0 < t → field T t 1 < t → tyOf T t ≡ dict (tyOf T (field T t 0)) (tyOf T (field T t 1))
-  ty-dict k l m = row-dict k ∙ ap₂ dict (below-ty T t (field T t 0) (omega arith) l) (below-ty T t (field T t 1) (omega arith) m)
 
   pub row-proxy : kind T t ≡ 12 → tyOf T t ≡ proxy
   unfolding rowTy

@@ -2,7 +2,7 @@
 --
 --   closed-value                 of a value of any type, what each way of joining readers keeps; closed-values of values one after another
 --   framed-value, held-value     the frame; bytes taken and places of refusals
---   held-text .. held-proxy      of the parts of a proxy
+--   held-text .. held-reference  of the parts of a proxy
 --   eats-value                   a value that is not fixed-size takes at least one byte
 --   exact-ok, exact-step         what it is to be exactly one value of a type
 --   value-more, value-part       a value among more bytes; a value in just its bytes
@@ -90,9 +90,6 @@ held-endpoint = closed-endpoint held
 
 pub held-reference : Held reference
 held-reference = closed-reference held
-
-pub held-proxy : Held Proxy.proxy
-held-proxy = closed-proxy held
 
 -- ---- a value that is not fixed-size takes a byte
 

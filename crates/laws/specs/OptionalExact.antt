@@ -241,11 +241,6 @@ told-level : {ms : List Member} {least : ℕ} {p : Piece} {s : ℕ} → Told ms 
 told-level (known K) ps L = (K, L)
 told-level (unknown K) ps L = (K, L)
 
-told-optional : {ms : List Member} {least : ℕ} {p : Piece} {s : ℕ} → Told ms least p s → isOptional p ≡ true
-unfolding isOptional
-told-optional (known K) = refl
-told-optional (unknown K) = refl
-
 -- no type's form is Class
 form-type : (t : Ty) → eqb (bits (bitsOf (formOf t))) 7 ≡ false
 form-type t = go (formOf t) (formOf-sound t)

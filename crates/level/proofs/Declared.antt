@@ -13,7 +13,7 @@ use Prim.Native.Nat.{ℕ, zero, suc, _+_, _-_, _≤_, _<_}
 use native.Mathlib.Omega.{arith}
 use lib.ListN.{length, take, drop, length-drop, List·getD-eq-default}
 use lib.Seq.{length-take-le}
-use borrow.Author.Tests.{le-leb, lt-leb, lt-ltb, le-ltb, ne-eqb}
+use borrow.Author.Tests.{le-leb, lt-leb, le-ltb, ne-eqb}
 use Rattle.encoding.specs.Result.{Res, ok, bad, Parser, shift, after, _>>=_, fail, chunk, atFirst, item, made, bytes}
 use Rattle.encoding.specs.ResultLaws.{Held, held-took}
 use Rattle.encoding.specs.Number.{declared}
@@ -31,7 +31,7 @@ use Rattle.wire.specs.Steps.{stepOf, sizedOf}
 use Rattle.wire.specs.StepLaws.{step-took, step-fault, sized-is, sized-isnt}
 use Rattle.level.specs.declared.Part.{Part}
 use Rattle.level.specs.declared.Part.the-variants.{Is, Isnt}
-use Rattle.level.specs.Forms.{formNamed}
+use Rattle.level.specs.Forms.{formNamed, runWidth}
 use Rattle.level.specs.Answers.{partOf, wholePart}
 
 -- ---- bytes of a number
@@ -135,10 +135,31 @@ pub whole-none : (p : Part) (c q : ℕ) → p ≡ Isnt c q → Isnt c q ≡ whol
 unfolding wholePart
 whole-none p c q h = rw h
 
+pub width-at : (n f : ℕ) → f ≡ n → runWidth n ≡ runWidth f
+width-at n f e = ap runWidth (sym e)
+
+pub width-past : (f : ℕ) → (f ≡ 0 → ⊥) → (f ≡ 1 → ⊥) → (f ≡ 2 → ⊥) → 8 ≡ runWidth f
+unfolding runWidth
+width-past zero a b c = absurd (a refl)
+width-past (suc zero) a b c = absurd (b refl)
+width-past (suc (suc zero)) a b c = absurd (c refl)
+width-past (suc (suc (suc f))) a b c = refl
+
 module _ (s : List ℕ) (f : ℕ) (r : Part) where
-  pub part-bare : f < 8 → r ≡ partOf (extent (bitsAt f) s) → r ≡ partOf (part (formNamed f) s)
+  pub part-run : f < 4 → (k : ℕ) → k ≡ runWidth f → r ≡ partOf (run k s) → r ≡ partOf (part (formNamed f) s)
+  unfolding part formNamed extent runWidth
+  part-run h k e q = go f h e
+    where
+      go : (f : ℕ) → f < 4 → k ≡ runWidth f → r ≡ partOf (part (formNamed f) s)
+      go zero h e = rw e at q
+      go (suc zero) h e = rw e at q
+      go (suc (suc zero)) h e = rw e at q
+      go (suc (suc (suc zero))) h e = rw e at q
+      go (suc (suc (suc (suc f)))) h e = absurd (omega arith)
+
+  pub part-size : f ≡ 4 → r ≡ partOf (extent size s) → r ≡ partOf (part (formNamed f) s)
   unfolding part formNamed
-  part-bare h e = rw (lt-ltb f 8 h) e
+  part-size h e = rw h e
 
   pub part-own : f ≡ 8 → (w : Part) → w ≡ partOf (extent vsize s) → r ≡ wholePart w → r ≡ partOf (part (formNamed f) s)
   unfolding part formNamed
@@ -148,6 +169,6 @@ module _ (s : List ℕ) (f : ℕ) (r : Part) where
   unfolding part formNamed
   part-counted h e = rw h e
 
-  pub part-sized : 8 ≤ f → (f ≡ 8 → ⊥) → (f ≡ 9 → ⊥) → r ≡ partOf (extent fsize s) → r ≡ partOf (part (formNamed f) s)
+  pub part-sized : 4 ≤ f → (f ≡ 4 → ⊥) → (f ≡ 8 → ⊥) → (f ≡ 9 → ⊥) → r ≡ partOf (extent fsize s) → r ≡ partOf (part (formNamed f) s)
   unfolding part formNamed
-  part-sized h a b e = rw (le-ltb f 8 h, ne-eqb f 8 a, ne-eqb f 9 b) e
+  part-sized h z a b e = rw (le-ltb f 5 (omega (arith, z)), ne-eqb f 8 a, ne-eqb f 9 b) e

@@ -13,14 +13,14 @@ use Prim.Native.Nat.{ℕ, _+_, _-_, _/_, _%_, _≤_, _<_}
 use native.Mathlib.Omega.{arith}
 use lib.ListN.{length, take, drop, length-drop}
 use lib.Dec.{eqb, ltb}
-use borrow.Author.Tests.{eqb-false, le-leb, lt-leb, lt-ltb, le-ltb, eq-eqb, ne-eqb}
+use borrow.Author.Tests.{le-leb, lt-leb, lt-ltb, le-ltb, eq-eqb, ne-eqb}
 use mir.Syntax.{w64}
 use mir.Val.{Fits}
 use Rattle.encoding.specs.Result.{Res, ok, bad, pick, shift, after, _>>=_, pure, chunk, judged, must, made, mapc, firstOf}
 use Rattle.encoding.specs.ResultLaws.{held-took, held-refused}
 use Rattle.encoding.specs.Number.{number, byte, size}
 use Rattle.encoding.specs.NumberLaws.{held-size}
-use Rattle.encoding.specs.Types.{bits, Form, own, counted, sized, bitsOf, formOf}
+use Rattle.encoding.specs.Types.{bits, Form, bitsOf, formOf}
 use Rattle.encoding.specs.TypesLaws.{bits-there}
 use Rattle.encoding.specs.Table.{at, members, Member, lookup}
 use Rattle.encoding.specs.Optional.{Header, firstForm, headerTail, wrongType, headerForm, header}
@@ -30,13 +30,13 @@ use Rattle.wire.specs.Steps.{sizedOf}
 use Rattle.table.specs.declared.FoundMember.{FoundMember}
 use Rattle.table.specs.declared.FoundMember.the-variants.{At, Nothing}
 use Rattle.table.specs.Found.{memberFound}
-use Rattle.table.specs.Forms.{formsOf}
+use Rattle.table.specs.Shapes.{shapesOf, formIn}
 use Rattle.table.specs.Tags.{optionalFrom}
 use Rattle.wire.specs.StepLaws.{rest-is, sized-is, sized-isnt}
 use Rattle.level.specs.declared.Front.{Front}
 use Rattle.level.specs.declared.Front.the-variants.{Is, Isnt}
 use Rattle.level.specs.declared.Head.the-variants.{Known, Unknown, Wrong}
-use Rattle.level.specs.Forms.{formNamed, formIn}
+use Rattle.level.specs.Forms.{formNamed}
 use Rattle.level.specs.Answers.{front, frontOf, early, typeOf, typeRow, headFor, headOf}
 use Rattle.level.proofs.Lookups.{typed, Met, met, unmet, met-form}
 
@@ -114,22 +114,22 @@ module _ (least : ℕ) (long : Bool) (tag k : ℕ) (u : Bool) (e : u ≡ long &&
       early-fine q = rw (sym e ∙ n, le-ltb tag least h, ne-eqb k 7 q)
 
 module _ (f : ℕ) where
-  pub bits-bare : f < 8 → f ≡ bits (bitsOf (formNamed f))
+  pub bits-bare : f < 5 → f ≡ bits (bitsOf (formNamed f))
   unfolding formNamed
-  bits-bare h = rw (lt-ltb f 8 h) (sym (bits-there f h))
+  bits-bare h = rw (lt-ltb f 5 h) (sym (bits-there f (omega arith)))
 
-  pub bits-counted : 8 ≤ f → f < 10 → 5 ≡ bits (bitsOf (formNamed f))
-  unfolding formNamed
-  bits-counted h l = rw (le-ltb f 8 h) (go (eqb f 8) (eqb f 9) refl refl)
-    where
-      go : (a b : Bool) → eqb f 8 ≡ a → eqb f 9 ≡ b → 5 ≡ bits (bitsOf (pick a own (pick b counted sized)))
-      go true b p q = refl
-      go false true p q = refl
-      go false false p q = absurd (omega (arith, eqb-false f 8 p, eqb-false f 9 q))
+  module _ (h : 5 ≤ f) where
+    pub bits-own : f ≡ 8 → 5 ≡ bits (bitsOf (formNamed f))
+    unfolding formNamed
+    bits-own e = rw e
 
-  pub bits-sized : 10 ≤ f → 6 ≡ bits (bitsOf (formNamed f))
-  unfolding formNamed
-  bits-sized h = rw (le-ltb f 8 (omega arith), ne-eqb f 8 (λ e. omega arith), ne-eqb f 9 (λ e. omega arith))
+    pub bits-counted : f ≡ 9 → 5 ≡ bits (bitsOf (formNamed f))
+    unfolding formNamed
+    bits-counted e = rw e
+
+    pub bits-sized : (f ≡ 8 → ⊥) → (f ≡ 9 → ⊥) → 6 ≡ bits (bitsOf (formNamed f))
+    unfolding formNamed
+    bits-sized a b = rw (le-ltb f 5 h, ne-eqb f 8 a, ne-eqb f 9 b)
 
 -- ---- the header
 
@@ -208,8 +208,8 @@ module _ (T : List ℕ) (t from least : ℕ) (s : List ℕ) (f : Front) (e : f �
               let fine : headerForm (optionalFrom T t from) least (F .head) ≡ 0 = form-late (optionalFrom T t from) least (F .head) c g z ∙ rw lost in
               sym (ap (headOf T (optionalFrom T t from)) (header-fine (optionalFrom T t from) least s long tag k n F fine) ∙ rw (lost, F .tag-is, F .bits-is))
 
-      module _ (row of : ℕ) (qf : found ≡ At row of) (all : ℕ) (en : all ≡ members T) (ty : ℕ) (et : ty ≡ typeOf all row of) (forms : List ℕ) (ea : forms ≡ formsOf T)
-          (g : ℕ) (eg : g ≡ formIn forms ty) (b : ℕ) (eb : b ≡ bits (bitsOf (formNamed g))) where
+      module _ (row of : ℕ) (qf : found ≡ At row of) (all : ℕ) (en : all ≡ members T) (ty : ℕ) (et : ty ≡ typeOf all row of) (shapes : List ℕ) (ea : shapes ≡ shapesOf T)
+          (g : ℕ) (eg : g ≡ formIn shapes ty) (b : ℕ) (eb : b ≡ bits (bitsOf (formNamed g))) where
         row-is : Met T t from tag row of → ty ≡ typeRow T row
         row-is M = typed T row all of ty en (M .of-is) et
 
@@ -219,7 +219,7 @@ module _ (T : List ℕ) (t from least : ℕ) (s : List ℕ) (f : Front) (e : f �
         unfolding wrongType
         type-form F M =
             let there : lookup (F .head .tag) (optionalFrom T t from) ≡ some (M .member) = ap (λ (x : ℕ). lookup x (optionalFrom T t from)) (F .tag-is) ∙ M .there in
-            let same : b ≡ bits (bitsOf (formOf (M .member .ty))) = eb ∙ ap (λ (x : Form). bits (bitsOf x)) (met-form T forms t from tag row of ty g M ea (row-is M) eg) in
+            let same : b ≡ bits (bitsOf (formOf (M .member .ty))) = eb ∙ ap (λ (x : Form). bits (bitsOf x)) (met-form T shapes t from tag row of ty g M ea (row-is M) eg) in
             form-late (optionalFrom T t from) least (F .head) c (early-same (optionalFrom T t from) least s long tag k n F c ec) z ∙ rw (there, F .bits-is, ← same)
 
         pub head-known : k ≡ b → Known row ty tag n ≡ headOf T (optionalFrom T t from) (header (optionalFrom T t from) least s)

@@ -1,60 +1,33 @@
 -- The member that a look-up found: its row, its type and its form. Assumes nothing.
 --
---   form-here, form-past    the number of a row's form, in the array and past its end
 --   row-form                the form of a row's type, by its number in the array
 --   type-here, type-past    the row of a member's type, where there is such a member and where there is none
 --   row-type, typed         the tree of the row of a member's type, and the row as the code finds it
 --   optional-of             an optional's type is that of its row
 --   Met, met                what the code's look-up of a tag tells: the member, of that row, and the row of its type
 --   unmet                   no member has the tag
---   met-form                the member's form, as the array of forms has it
+--   met-form                the member's form, as the array of shapes has it
 use mathlib.Core.Path.{_≡_, refl, sym, ap, _∙_}
 use mathlib.Core.Bool.{Bool, true, false}
 use mathlib.Core.Option.{Option, none, some}
-use mathlib.Core.List.{List, map}
-use Prim.Native.Nat.{ℕ, zero, suc, _+_, _≤_, _<_}
+use mathlib.Core.List.{List}
+use Prim.Native.Nat.{ℕ, _≤_, _<_}
 use native.Mathlib.Omega.{arith}
-use lib.ListN.{getD}
 use lib.Dec.{ltb}
 use borrow.Author.Tests.{ltb-true, ltb-false, lt-ltb, le-ltb}
 use Rattle.encoding.specs.Result.{pick}
 use Rattle.encoding.specs.Types.{formOf}
-use Rattle.encoding.specs.TableLaws.{ty-past}
-use Rattle.encoding.specs.Table.{members, range, memberType, memberTy, trees, tyOf, Member, lookup}
+use Rattle.encoding.specs.Table.{members, memberType, memberTy, trees, tyOf, Member, lookup}
 use Rattle.table.specs.declared.FoundMember.the-variants.{At, Nothing}
 use Rattle.table.specs.Found.{memberFound}
-use Rattle.table.specs.Forms.{formNumber, formAt, formsOf}
+use Rattle.table.specs.Shapes.{shapesOf, formIn}
+use Rattle.table.specs.ShapesLaws.{form-row}
 use Rattle.table.specs.Tags.{ownFrom, optionalFrom}
 use Rattle.table.specs.TagsLaws.{found-own}
-use Rattle.table.proofs.Places.{rows-below, member-row, no-member}
-use Rattle.level.specs.Forms.{formNamed, formIn}
-use Rattle.level.specs.FormsLaws.{named-number}
+use Rattle.table.proofs.Places.{member-row, no-member}
+use Rattle.level.specs.Forms.{formNamed}
+use Rattle.level.specs.FormsLaws.{named-form}
 use Rattle.level.specs.Answers.{typeOf, typeRow}
-
--- ---- forms
-
-module _ (forms : List ℕ) (t : ℕ) where
-  pub form-here : (r : ℕ) → t < 256 → r ≡ getD forms t 0 → r ≡ formIn forms t
-  unfolding formIn
-  form-here r h e = rw (lt-ltb t 256 h) e
-
-  pub form-past : 256 ≤ t → 10 ≡ formIn forms t
-  unfolding formIn
-  form-past h = rw (le-ltb t 256 h)
-
-range-at : (f : ℕ → ℕ) (n j i : ℕ) → i < n → getD (map f (range j n)) i 0 ≡ f (j + i)
-unfolding range
-range-at f zero j i h = absurd (omega arith)
-range-at f (suc n) j zero h = ap f (omega arith)
-range-at f (suc n) j (suc i) h = range-at f n (suc j) i (omega arith) ∙ ap f (omega arith)
-
-form-row : (T : List ℕ) (t : ℕ) → formIn (formsOf T) t ≡ formNumber (formOf (tyOf T t))
-unfolding formIn formsOf formAt formOf formNumber
-form-row T t = go (ltb t 256) refl
-  where
-    go : (b : Bool) → ltb t 256 ≡ b → pick b (getD (map (formAt T) (range 0 256)) t 0) 10 ≡ formNumber (formOf (tyOf T t))
-    go true e = range-at (formAt T) 256 0 t (ltb-true t 256 e) ∙ ap (formAt T) (omega arith)
-    go false e = rw (ty-past T t (omega (arith, rows-below T, ltb-false t 256 e)))
 
 -- ---- members
 
@@ -108,9 +81,9 @@ unmet T t from k h = go (lookup k (optionalFrom T t from)) refl h
     go none e h = e
     go (some m) e h = let z : _≡_ {A = ℕ} 0 1 = cc in absurd (omega arith)
 
-pub row-form : (T forms : List ℕ) (ty g : ℕ) → forms ≡ formsOf T → g ≡ formIn forms ty → formNamed g ≡ formOf (tyOf T ty)
-row-form T forms ty g ef eg = ap formNamed (eg ∙ ap (λ (l : List ℕ). formIn l ty) ef ∙ form-row T ty) ∙ named-number (formOf (tyOf T ty))
+pub row-form : (T shapes : List ℕ) (ty g : ℕ) → shapes ≡ shapesOf T → g ≡ formIn shapes ty → formNamed g ≡ formOf (tyOf T ty)
+row-form T shapes ty g ef eg = ap formNamed (eg ∙ form-row T ty shapes ef) ∙ named-form (tyOf T ty)
 
-pub met-form : (T forms : List ℕ) (t from k row of ty g : ℕ) (M : Met T t from k row of) → forms ≡ formsOf T → ty ≡ typeRow T row → g ≡ formIn forms ty
+pub met-form : (T shapes : List ℕ) (t from k row of ty g : ℕ) (M : Met T t from k row of) → shapes ≡ shapesOf T → ty ≡ typeRow T row → g ≡ formIn shapes ty
     → formNamed g ≡ formOf (M .member .ty)
-met-form T forms t from k row of ty g M ef et eg = row-form T forms ty g ef eg ∙ ap formOf (row-type T row ty et ∙ sym (M .type))
+met-form T shapes t from k row of ty g M ef et eg = row-form T shapes ty g ef eg ∙ ap formOf (row-type T row ty et ∙ sym (M .type))

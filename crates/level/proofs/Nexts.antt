@@ -20,7 +20,7 @@ use Rattle.encoding.specs.Value.{value}
 use Rattle.encoding.specs.Table.{tyOf, Member, lookup}
 use Rattle.encoding.specs.Optional.{optional, skipped, Header, header, extent, part, content, optionalOf}
 use Rattle.encoding.specs.OptionalLaws.{held-header, held-extent}
-use Rattle.table.specs.Forms.{formsOf}
+use Rattle.table.specs.Shapes.{shapesOf, formIn}
 use Rattle.table.specs.Tags.{optionalFrom}
 use Rattle.wire.specs.StepLaws.{rest-is}
 use Rattle.level.specs.declared.Head.{Head}
@@ -28,7 +28,7 @@ use Rattle.level.specs.declared.Head.the-variants.{Known as Knows, Unkno
 use Rattle.level.specs.declared.Part.{Part}
 use Rattle.level.specs.declared.Part.the-variants.{Is, Isnt}
 use Rattle.level.specs.declared.Optional.the-variants.{Known, Skipped, Wrong}
-use Rattle.level.specs.Forms.{formNamed, formIn}
+use Rattle.level.specs.Forms.{formNamed}
 use Rattle.level.specs.Answers.{typeRow, headFor, headOf, partOf, rowOr, pieceAnswer, optionalAnswer}
 use Rattle.level.proofs.Told.{part-is, part-isnt}
 use Rattle.level.proofs.Lookups.{row-form, row-type, optional-of}
@@ -103,12 +103,12 @@ module _ (T : List ℕ) (t from least : ℕ) (s : List ℕ) (h : Head) (e : h �
 
   -- ---- a known value
 
-  module _ (row ty tag n : ℕ) (q : h ≡ Knows row ty tag n) (forms : List ℕ) (ef : forms ≡ formsOf T)
-      (f : ℕ) (eg : f ≡ formIn forms ty) (p : Part) (ep : p ≡ partOf (inside (part (formNamed f)) (bytes (value (tyOf T ty))) (take (length s - n) (drop n s)))) where
+  module _ (row ty tag n : ℕ) (q : h ≡ Knows row ty tag n) (shapes : List ℕ) (ef : shapes ≡ shapesOf T)
+      (f : ℕ) (eg : f ≡ formIn shapes ty) (p : Part) (ep : p ≡ partOf (inside (part (formNamed f)) (bytes (value (tyOf T ty))) (take (length s - n) (drop n s)))) where
     -- the part, as the definition has it
     known-part : (K : HeadKnown T t from least s row ty tag n) → p ≡ partOf (inside (part (formOf (K .member .ty))) (bytes (value (K .member .ty))) (drop n s))
     known-part K =
-        let g : formNamed f ≡ formOf (K .member .ty) = row-form T forms ty f ef eg ∙ ap formOf (K .type) in
+        let g : formNamed f ≡ formOf (K .member .ty) = row-form T shapes ty f ef eg ∙ ap formOf (K .type) in
         ep ∙ ap₂ (λ (a : Form) (b : Ty). partOf (inside (part a) (bytes (value b)) (take (length s - n) (drop n s)))) g (K .type)
         ∙ ap (λ (l : List ℕ). partOf (inside (part (formOf (K .member .ty))) (bytes (value (K .member .ty))) l)) (rest-is s n)
 

@@ -3,11 +3,12 @@
 --   part-start, part-end    the bytes that are delivered lie in those at hand
 --   used-none               the declared bytes are refused
 --   used-all, used-less     the value takes all of them, or fewer
+--   used-wide               it may be any bytes, and there are as many as its type has
 --   used-bad, used-place    it is refused, and where
 --   used-within, used-placed, used-sum    bytes taken and places of the whole
-use mathlib.Core.Path.{_≡_, sym, ap, _∙_}
+use mathlib.Core.Path.{_≡_, refl, sym, ap, _∙_}
 use mathlib.Core.List.{List}
-use Prim.Native.Nat.{ℕ, _+_, _-_, _≤_}
+use Prim.Native.Nat.{ℕ, _+_, _-_, _≤_, _<_}
 use native.Mathlib.Omega.{arith}
 use mir.Syntax.{w64}
 use mir.Val.{Fits}
@@ -19,8 +20,11 @@ use Rattle.encoding.specs.ResultLaws.{inside-ok, bytes-ok, held-took, held-refu
 use Rattle.encoding.specs.Types.{Ty, Form}
 use Rattle.encoding.specs.Value.{value}
 use Rattle.encoding.specs.ValueLaws.{held-value}
+use Rattle.encoding.specs.Table.{tyOf}
 use Rattle.encoding.specs.Optional.{part}
 use Rattle.encoding.specs.OptionalLaws.{held-part, ends-part}
+use Rattle.table.specs.Shapes.{shapesOf, widthIn}
+use Rattle.value.proofs.CycleLaws.{row-wide}
 use Rattle.wire.specs.declared.Step.{Step}
 use Rattle.wire.specs.declared.Step.the-variants.{Took, Fault}
 use Rattle.wire.specs.Steps.{stepOf}
@@ -111,6 +115,13 @@ module _ (f : Form) (s : List ℕ) (p : Part) (ep : p ≡ partOf (part f s)) whe
         where
           go : Delivered f s a e → Fits w64 (a + k)
           go D = omega (arith, D .size, D .start, D .end, held-refused (value ty) (held-value ty) (D .bytes) (step-fault (value ty (D .bytes)) c k (sym q ∙ answer D)))
+
+-- a value that may be any bytes, as many as there are
+pub used-wide : (f : Form) (s : List ℕ) (p : Part) → p ≡ partOf (part f s) → (a e : ℕ) → p ≡ Is a e → (T shapes : List ℕ) → shapes ≡ shapesOf T → (t w : ℕ) → w ≡ widthIn shapes t
+    → 0 < w → w ≡ e - a → Is a e ≡ partOf (inside (part f) (bytes (value (tyOf T t))) s)
+used-wide f s p ep a e h T shapes ef t w ew l q =
+    used-all f s p ep a e h (tyOf T t) (Took w)
+    (row-wide T shapes ef t (take (e - a) (drop a s)) w ew l (omega (arith, ap length (delivered f s p ep a e h .there), delivered f s p ep a e h .size))) w refl q
 
 -- ---- the whole
 

@@ -4,7 +4,7 @@
 --   KnownRead, SkippedRead                  an optional was read to a known piece, to a skipped one, and the least tag next is one above its own
 --   known-read, skipped-read, wrong-read    what each answer tells: that; or the refusal
 --   known-rows, skipped-rows                what the piece adds to the rows
---   known-some, -within, -start, -tag       at least one byte, all of them there, the value ends them, the tag is below 2 ^ 31
+--   known-within, -start, -tag              all bytes are there, the value ends them, the tag is below 2 ^ 31
 --   skipped-some, -within, -tag             the same of a skipped one; wrong-within a refusal's place is there
 --   members-read, members-refused           the pieces of the required members; or the refusal
 --   members-within, refused-within          what they take, and where they are refused, is there
@@ -173,10 +173,7 @@ module _ (ms : List Member) (least : ℕ) (s : List ℕ) (r : Optional) (e : r �
       go (ok x l) f h = told x l (either ms least s x l f) h
       go (bad d y) f h = f ∙ cc
 
-  -- a known optional takes at least one byte, all of them there, and its value ends them
-  pub known-some : (m k a n : ℕ) → r ≡ Known m k a n → 1 ≤ n
-  known-some m k a n q = eats-optional ms least s _ n (known-read m k a n q .read)
-
+  -- the bytes of a known optional are all there, and its value ends them
   pub known-within : (m k a n : ℕ) → r ≡ Known m k a n → n ≤ length s
   known-within m k a n q = held-took (optionalOf ms least) (held-optional ms least) s (known-read m k a n q .read)
 

@@ -2,7 +2,7 @@
 ghost use mathlib.Core.Path.{_≡_};
 ghost use Rattle.encoding.specs.Types.{size, vsize, fsize, bitsAt};
 ghost use Rattle.encoding.specs.Optional.{run, extent, part};
-ghost use Rattle.level.specs.Forms.{formNamed};
+ghost use Rattle.level.specs.Forms.{formNamed, runWidth};
 ghost use Rattle.level.specs.Answers.{partOf, wholePart};
 use crate::Part;
 use wire::Sized;
@@ -83,12 +83,27 @@ fn whole(p: Part) -> Part
     }
 }
 
+// How many bytes a value of the form of number f has, where that is F1, F2, F4 or F8.
+fn run_width(f: usize) -> usize
+    ensures { λ r. ⌜ r ≡ runWidth f ⌝ }
+{
+    match f {
+        0 => 1,
+        1 => 2,
+        2 => 4,
+        _ => 8,
+    }
+}
+
 // The bytes in which a value of the form of number f stands.
 pub fn part(s: &[u8], f: usize) -> Part
     ensures { λ r. ⌜ r ≡ partOf (part (formNamed f) (now (s .entry))) ⌝ }
 {
-    if f < 8 {
-        return extent(s, f);
+    if f < 4 {
+        return bare(s, run_width(f));
+    }
+    if f == 4 {
+        return sized(s);
     }
     if f == 8 {
         return whole(counted(s));

@@ -4,9 +4,9 @@ ghost use mathlib.Core.Bool.{_&&_};
 ghost use lib.Dec.{ltb};
 ghost use Rattle.encoding.specs.Types.{bits, bitsOf};
 ghost use Rattle.encoding.specs.Optional.{header};
-ghost use Rattle.table.specs.Forms.{formsOf};
+ghost use Rattle.table.specs.Shapes.{shapesOf};
 ghost use Rattle.table.specs.Tags.{optionalFrom};
-ghost use Rattle.level.specs.Forms.{formNamed, formIn};
+ghost use Rattle.level.specs.Forms.{formNamed};
 ghost use Rattle.level.specs.Answers.{front, frontOf, early, headOf};
 use crate::Front;
 use crate::Head;
@@ -59,24 +59,17 @@ fn early(least: usize, long: bool, tag: usize, k: usize) -> usize
     0
 }
 
-// The number of the form of row t's type.
-pub fn form_at(forms: &[u8; 256], t: usize) -> usize
-    ensures { λ r. ⌜ r ≡ formIn (now (forms .entry)) t ⌝ }
-{
-    if t < 256 {
-        return wire::wide(forms[t]);
-    }
-    10
-}
-
 // The type bits of a form.
 fn form_bits(f: usize) -> usize
     ensures { λ r. ⌜ r ≡ bits (bitsOf (formNamed f)) ⌝ }
 {
-    if f < 8 {
+    if f < 5 {
         return f;
     }
-    if f < 10 {
+    if f == 8 {
+        return 5;
+    }
+    if f == 9 {
         return 5;
     }
     6
@@ -85,13 +78,13 @@ fn form_bits(f: usize) -> usize
 // A header, judged: 12 for form and order, 13, 12 for a known tag of another type. The tag is looked up from member row `from` on.
 pub fn header(
     table: &[u8],
-    forms: &[u8; 256],
+    shapes: &[u8; 256],
     t: usize,
     from: usize,
     least: usize,
     s: &[u8],
 ) -> Head
-    requires { ⌜ now forms ≡ formsOf (now table) ⌝ }
+    requires { ⌜ now shapes ≡ shapesOf (now table) ⌝ }
     ensures { λ r. ⌜ r ≡ headOf (now (table .entry)) (optionalFrom (now (table .entry)) t from) (header (optionalFrom (now (table .entry)) t from) least (now (s .entry))) ⌝ }
 {
     let f = front(s);
@@ -105,7 +98,7 @@ pub fn header(
             match found {
                 FoundMember::At(m, of) => {
                     let ty = crate::type_of(table::members(table), m, of);
-                    if k == form_bits(form_at(forms, ty)) {
+                    if k == form_bits(table::shapes::form(shapes, ty)) {
                         Head::Known(m, ty, tag, n)
                     } else {
                         Head::Wrong(12, 0)

@@ -9,10 +9,13 @@ ghost use mathlib.Core.List.{List};
 ghost use Prim.Native.Nat.{ℕ, _+_, _*_, _^_, _<_};
 ghost use lib.ListN.{length};
 ghost use Rattle.encoding.specs.Result.{ok};
-ghost use Rattle.encoding.specs.Table.{required};
+ghost use Rattle.encoding.specs.Table.{tyOf, required};
+ghost use Rattle.encoding.specs.Value.{value};
 ghost use Rattle.encoding.specs.Optional.{Piece, requireds};
 ghost use Rattle.encoding.specs.Message.{rowBytes, pieceRows};
 ghost use Rattle.wire.specs.Put.{put};
+ghost use Rattle.wire.specs.Steps.{stepOf};
+ghost use Rattle.table.specs.Shapes.{shapesOf};
 ghost use Rattle.level.specs.Fill.{fill};
 ghost use Rattle.level.specs.Answers.{membersOf, typeOf};
 use wire::Step;
@@ -76,15 +79,34 @@ pub fn put_row(out: &mut [u8], k: usize, member: usize, place: usize, len: usize
     }
 }
 
+// A value of type row t; one that may be any bytes, and a string, is taken without a call.
+fn member_value(table: &[u8], shapes: &[u8; 256], t: usize, s: &[u8]) -> Step
+    requires { ⌜ now shapes ≡ shapesOf (now table) ⌝ }
+    ensures { λ r. ⌜ r ≡ stepOf (value (tyOf (now (table .entry)) t) (now (s .entry))) ⌝ }
+{
+    let w = table::shapes::width(shapes, t);
+    if 0 < w {
+        if w <= s.len() {
+            return Step::Took(w);
+        }
+    }
+    if table::shapes::is_text(shapes, t) {
+        return wire::read_string(s);
+    }
+    value::read_value(table, shapes, t, s)
+}
+
 // The required members of owner t, as declared: a row for each from row `count` on, its place counted from `at`.
 pub fn required(
     table: &[u8],
+    shapes: &[u8; 256],
     t: usize,
     s: &[u8],
     at: usize,
     count: usize,
     out: &mut [u8],
 ) -> Members
+    requires { ⌜ now shapes ≡ shapesOf (now table) ⌝ }
     requires { ⌜ (at + length (now s) < 2 ^ 63) × (count < 2 ^ 63) ⌝ }
     ensures { λ r. ⌜ r ≡ membersOf count (requireds (required (now (table .entry)) t) (now (s .entry))) ⌝ }
     ensures { λ _. ⌜ length (now (out .exit)) ≡ length (now (out .entry)) ⌝ }
@@ -103,7 +125,7 @@ pub fn required(
             left -= 1;
             continue;
         }
-        let step = value::read_value(table, type_of(all, m, row.of), &s[pos..]);
+        let step = member_value(table, shapes, type_of(all, m, row.of), &s[pos..]);
         match step {
             Step::Took(n) => {
                 put_row(out, k, m, at + pos, n);

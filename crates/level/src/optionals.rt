@@ -4,7 +4,7 @@ ghost use Rattle.encoding.specs.Result.{bytes, inside};
 ghost use Rattle.encoding.specs.Value.{value};
 ghost use Rattle.encoding.specs.Table.{tyOf};
 ghost use Rattle.encoding.specs.Optional.{part, optionalOf};
-ghost use Rattle.table.specs.Forms.{formsOf};
+ghost use Rattle.table.specs.Shapes.{shapesOf};
 ghost use Rattle.table.specs.Tags.{optionalFrom};
 ghost use Rattle.level.specs.Forms.{formNamed};
 ghost use Rattle.level.specs.Answers.{partOf, optionalAnswer};
@@ -13,14 +13,21 @@ use crate::Optional;
 use crate::Part;
 use wire::Step;
 
-// A value of type row t in the part of the form of number f: it uses up just the declared bytes.
-fn used_up(table: &[u8], t: usize, s: &[u8], f: usize) -> Part
+// A value of type row t in the part of the form of number f: it uses up just the declared bytes. Bytes that may be any are as many as the type has.
+fn used_up(table: &[u8], shapes: &[u8; 256], t: usize, s: &[u8], f: usize) -> Part
+    requires { ⌜ now shapes ≡ shapesOf (now table) ⌝ }
     ensures { λ r. ⌜ r ≡ partOf (inside (part (formNamed f)) (bytes (value (tyOf (now (table .entry)) t))) (now (s .entry))) ⌝ }
 {
     let p = crate::extents::part(s, f);
     match p {
         Part::Is(a, e) => {
-            let step = value::read_value(table, t, &s[a..e]);
+            let w = table::shapes::width(shapes, t);
+            if 0 < w {
+                if w == e - a {
+                    return Part::Is(a, e);
+                }
+            }
+            let step = value::read_value(table, shapes, t, &s[a..e]);
             match step {
                 Step::Took(n) => {
                     if n == e - a {
@@ -39,19 +46,20 @@ fn used_up(table: &[u8], t: usize, s: &[u8], f: usize) -> Part
 // The next optional of owner t, its tag at least `least` and looked up from member row `from` on: a known value in its declared bytes, or a skipped one.
 pub fn optional(
     table: &[u8],
-    forms: &[u8; 256],
+    shapes: &[u8; 256],
     t: usize,
     from: usize,
     least: usize,
     s: &[u8],
 ) -> Optional
-    requires { ⌜ now forms ≡ formsOf (now table) ⌝ }
+    requires { ⌜ now shapes ≡ shapesOf (now table) ⌝ }
     ensures { λ r. ⌜ r ≡ optionalAnswer (optionalFrom (now (table .entry)) t from) (optionalOf (optionalFrom (now (table .entry)) t from) least (now (s .entry))) ⌝ }
 {
-    let h = crate::headers::header(table, forms, t, from, least, s);
+    let h = crate::headers::header(table, shapes, t, from, least, s);
     match h {
         Head::Known(m, ty, tag, n) => {
-            let p = used_up(table, ty, &s[n..], crate::headers::form_at(forms, ty));
+            let f = table::shapes::form(shapes, ty);
+            let p = used_up(table, shapes, ty, &s[n..], f);
             match p {
                 Part::Is(a, e) => Optional::Known(m, tag, n + a, n + e),
                 Part::Isnt(c, q) => Optional::Wrong(c, n + q),

@@ -10,7 +10,7 @@ ghost use Rattle.encoding.specs.Result.{ok, must};
 ghost use Rattle.encoding.specs.Number.{byte};
 ghost use Rattle.encoding.specs.Message.{Read, markerForm, body, rows};
 ghost use Rattle.wire.specs.Steps.{stepOf};
-ghost use Rattle.table.specs.Forms.{formsOf};
+ghost use Rattle.table.specs.Shapes.{shapesOf};
 ghost use Rattle.level.specs.Fill.{fill};
 ghost use Rattle.reader.specs.Walks.{capsule, markerOf, endedWalk, bodyWalk};
 use wire::Step;
@@ -116,8 +116,8 @@ fn ended(w: Walk, len: usize) -> Walk
 }
 
 // A message under a table and a top, no table rule judged, with a row for each known member.
-pub fn body(table: &[u8], forms: &[u8; 256], top: usize, m: &[u8], out: &mut [u8]) -> Walk
-    requires { ⌜ now forms ≡ formsOf (now table) ⌝ }
+pub fn body(table: &[u8], shapes: &[u8; 256], top: usize, m: &[u8], out: &mut [u8]) -> Walk
+    requires { ⌜ now shapes ≡ shapesOf (now table) ⌝ }
     ensures { λ r. ⌜ r ≡ bodyWalk (now (table .entry)) top (body (now (table .entry)) top (now (m .entry))) ⌝ }
     ensures { λ _. ⌜ length (now (out .exit)) ≡ length (now (out .entry)) ⌝ }
     ensures { λ _. ⌜ ((r : Read) (n : ℕ) → body (now (table .entry)) top (now (m .entry)) ≡ ok r n → now (out .exit) ≡ fill 0 (rows (now (table .entry)) top (r .format) (r .pieces)) (now (out .entry))) ⌝ }
@@ -127,11 +127,11 @@ pub fn body(table: &[u8], forms: &[u8; 256], top: usize, m: &[u8], out: &mut [u8
         Step::Took(n) => {
             let k = table::kind(table, top);
             if k == 15 {
-                return ended(walks::list(table, forms, top, m, 6, out), m.len());
+                return ended(walks::list(table, shapes, top, m, 6, out), m.len());
             }
             let mark = marker_of(k, &m[6..]);
             match mark {
-                Step::Took(l) => ended(walks::slices(table, forms, top, m, 6 + l, out), m.len()),
+                Step::Took(l) => ended(walks::slices(table, shapes, top, m, 6 + l, out), m.len()),
                 Step::Fault(c, p) => Walk::Stop(c, 6 + p),
             }
         }

@@ -9,7 +9,7 @@ ghost use Rattle.encoding.specs.Result.{ok, pick};
 ghost use Rattle.encoding.specs.Optional.{Piece};
 ghost use Rattle.encoding.specs.Message.{parameters, pieceRows};
 ghost use Rattle.encoding.specs.Slice.{sliced as in-slices, compact, formatNumber, Chain, slices};
-ghost use Rattle.table.specs.Forms.{formsOf};
+ghost use Rattle.table.specs.Shapes.{shapesOf};
 ghost use Rattle.table.specs.Tags.{optionalFrom};
 ghost use Rattle.level.specs.Fill.{fill};
 ghost use Rattle.reader.specs.Stages.{stageOf};
@@ -54,8 +54,8 @@ fn opening(table: &[u8], top: usize, stage: Stage, s: &[u8]) -> Opening
 }
 
 // What stands next among the optionals of owner t, a tag looked up from member row `row` on: the end marker, 14 where none came before, or an optional.
-fn next(table: &[u8], forms: &[u8; 256], t: usize, row: usize, least: usize, s: &[u8]) -> Turn
-    requires { ⌜ now forms ≡ formsOf (now table) ⌝ }
+fn next(table: &[u8], shapes: &[u8; 256], t: usize, row: usize, least: usize, s: &[u8]) -> Turn
+    requires { ⌜ now shapes ≡ shapesOf (now table) ⌝ }
     ensures { λ r. ⌜ r ≡ turnOf (optionalFrom (now (table .entry)) t row) least (now (s .entry)) ⌝ }
 {
     if wire::byte_at(s, 0) == 255 {
@@ -64,7 +64,7 @@ fn next(table: &[u8], forms: &[u8; 256], t: usize, row: usize, least: usize, s: 
         }
         return Turn::End;
     }
-    let o = level::optionals::optional(table, forms, t, row, least, s);
+    let o = level::optionals::optional(table, shapes, t, row, least, s);
     match o {
         Optional::Known(m, tag, a, n) => Turn::Known(m, tag, a, n),
         Optional::Skipped(tag, n) => Turn::Skipped(tag, n),
@@ -113,14 +113,14 @@ fn format_number(sliced: bool) -> usize
 // The slices of a record from a place on, with a row for each known member.
 pub fn slices(
     table: &[u8],
-    forms: &[u8; 256],
+    shapes: &[u8; 256],
     top: usize,
     m: &[u8],
     start: usize,
     out: &mut [u8],
 ) -> Walk
     requires { ⌜ start ≤ length (now m) ⌝ }
-    requires { ⌜ now forms ≡ formsOf (now table) ⌝ }
+    requires { ⌜ now shapes ≡ shapesOf (now table) ⌝ }
     ensures { λ r. ⌜ r ≡ sliceWalk (now (table .entry)) start (slices (now (table .entry)) top (drop start (now (m .entry)))) ⌝ }
     ensures { λ _. ⌜ length (now (out .exit)) ≡ length (now (out .entry)) ⌝ }
     ensures { λ _. ⌜ ((c : Chain) (n : ℕ) → slices (now (table .entry)) top (drop start (now (m .entry))) ≡ ok c n → now (out .exit) ≡ fill 0 (chainRows (now (table .entry)) start c) (now (out .entry))) ⌝ }
@@ -143,7 +143,7 @@ pub fn slices(
             Opening::Known(t, has, sliced, a, e) => {
                 let from = pos + a;
                 let end = pos + e;
-                let members = level::required(table, t, &m[from..end], from, count, out);
+                let members = level::required(table, shapes, t, &m[from..end], from, count, out);
                 match members {
                     Members::Read(n, k) => {
                         count = k;
@@ -152,7 +152,7 @@ pub fn slices(
                         let mut row = table::type_row(table, t).a;
                         let mut more = has;
                         while more {
-                            let x = next(table, forms, t, row, least, &m[at..end]);
+                            let x = next(table, shapes, t, row, least, &m[at..end]);
                             match x {
                                 Turn::End => {
                                     at += 1;
@@ -214,19 +214,19 @@ pub fn slices(
 // A parameter list from a place on: required members as declared, then optionals to the end, with a row for each known member.
 pub fn list(
     table: &[u8],
-    forms: &[u8; 256],
+    shapes: &[u8; 256],
     top: usize,
     m: &[u8],
     start: usize,
     out: &mut [u8],
 ) -> Walk
     requires { ⌜ start ≤ length (now m) ⌝ }
-    requires { ⌜ now forms ≡ formsOf (now table) ⌝ }
+    requires { ⌜ now shapes ≡ shapesOf (now table) ⌝ }
     ensures { λ r. ⌜ r ≡ listWalk (now (table .entry)) top start (parameters (now (table .entry)) top (drop start (now (m .entry)))) ⌝ }
     ensures { λ _. ⌜ length (now (out .exit)) ≡ length (now (out .entry)) ⌝ }
     ensures { λ _. ⌜ ((ps : List Piece) (n : ℕ) → parameters (now (table .entry)) top (drop start (now (m .entry))) ≡ ok ps n → now (out .exit) ≡ fill 0 (pieceRows (now (table .entry)) top start ps) (now (out .entry))) ⌝ }
 {
-    let members = level::required(table, top, &m[start..], start, 0, out);
+    let members = level::required(table, shapes, top, &m[start..], start, 0, out);
     match members {
         Members::Read(n, k) => {
             let mut at = start + n;
@@ -235,7 +235,7 @@ pub fn list(
             let mut least = 0;
             let mut row = table::type_row(table, top).a;
             while at < m.len() {
-                let o = level::optionals::optional(table, forms, top, row, least, &m[at..]);
+                let o = level::optionals::optional(table, shapes, top, row, least, &m[at..]);
                 match o {
                     Optional::Known(member, tag, b, l) => {
                         level::put_row(out, count, member, at + b, l - b);

@@ -4,19 +4,19 @@
 use libc::STDIN_FILENO;
 use libc::STDOUT_FILENO;
 
-fn letter(form: u8) {
+fn letter(form: usize) {
     if form < 11 {
-        io::write_all(STDOUT_FILENO, &[97 + form]);
+        io::write_all(STDOUT_FILENO, &[97 + form as u8]);
     }
 }
 
 fn show(table: &[u8]) {
-    let mut forms = [0u8; 256];
-    table::forms::fill(table, &mut forms);
+    let mut shapes = [0u8; 256];
+    table::shapes::fill(table, &mut shapes);
     let n = table::rows(table);
     let mut t = 0;
     while t < n {
-        letter(forms[t]);
+        letter(table::shapes::form(&shapes, t));
         t += 1;
     }
     io::write_all(STDOUT_FILENO, b"\n");

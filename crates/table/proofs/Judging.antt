@@ -44,7 +44,7 @@ use Rattle.table.specs.declared.Verdict.{Verdict}
 use Rattle.table.specs.declared.Verdict.the-variants.{Fine, Broken}
 use Rattle.table.proofs.Places.{row-shows, member-placed}
 use Rattle.table.proofs.Ranges.{range-more, range-none, range-left, range-empty, any-here, any-next, any-none, any-never}
-use Rattle.table.proofs.Shapes.{by-kind}
+use Rattle.table.proofs.Filling.{by-kind}
 
 -- ---- rows read whole
 

@@ -3,5 +3,5 @@ pub mod Places
 pub mod Ranges
 pub mod Labels
 pub mod Chains
-pub mod Shapes
+pub mod Filling
 pub mod Judging

@@ -10,19 +10,16 @@
 --   field-past                                      a field past the table's end
 --   member-placed                                   what is read at a member row's place is the member row
 --   rows-few, rows-many                             how many rows have a tree
---   rows-below                                      at most 256 rows have a tree
 --   member-row, no-member                           the row of a member's type
 use Prim.Native.Nat.{ℕ, _+_, _-_, _*_, _/_, _≤_, _<_}
 use mathlib.Core.Path.{_≡_, refl, sym, ap, _∙_}
-use mathlib.Core.Bool.{Bool, true, false}
 use mathlib.Core.List.{List}
 use native.Mathlib.Nat.{add-zero}
 use native.Mathlib.Omega.{arith}
 use lib.ListN.{length, take, drop, getD, drop-of-length-le}
 use lib.Seq.{drop-drop}
-use lib.Dec.{leb}
-use borrow.Author.Tests.{le-leb, lt-leb, leb-true}
-use Rattle.encoding.specs.Result.{pick}
+use borrow.Author.Tests.{le-leb, lt-leb}
+use Rattle.table.specs.ShapesLaws.{rows-below}
 use Rattle.encoding.specs.Table.{at, types, members, typesAt, rowAt, membersAt, memberAt, kind, field, memberType, mark, tag, typeRows, trees, tyOf, memberTy}
 use Rattle.encoding.specs.TableLaws.{ty-past, member-past, member-whole}
 use Rattle.wire.specs.StepLaws.{rest-is}
@@ -142,14 +139,6 @@ module _ (T : List ℕ) (n : ℕ) (e : n ≡ types T) where
   pub rows-many : 256 < n → 256 ≡ typeRows T
   unfolding typeRows
   rows-many h = let l : 256 < types T = omega arith in rw (lt-leb _ _ l)
-
-pub rows-below : (T : List ℕ) → typeRows T ≤ 256
-unfolding typeRows
-rows-below T = go (leb (types T) 256) refl
-  where
-    go : (b : Bool) → leb (types T) 256 ≡ b → pick b (types T) 256 ≤ 256
-    go true e = leb-true _ _ e
-    go false e = omega arith
 
 pub member-row : (T : List ℕ) (m n r : ℕ) → n ≡ members T → m < n → r ≡ memberType T m → tyOf T r ≡ memberTy T (trees T) m
 member-row T m n r e h q = ap (tyOf T) q ∙ sym (member-whole T m (omega arith))

@@ -3,7 +3,8 @@ pub mod Found
 pub mod Rows
 pub mod Names
 pub mod NamesLaws
-pub mod Forms
+pub mod Shapes
+pub mod ShapesLaws
 pub mod Checks
 pub mod ChecksLaws
 pub mod Tags

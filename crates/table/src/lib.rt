@@ -1,10 +1,10 @@
 // The type table: what its bytes say. Each look-up equals its definition on any bytes: past the end is 0.
-// naming.rt has the records' names, chain.rt bases and members, forms.rt the form of an optional of each row,
+// naming.rt has the records' names, chain.rt bases and members, shapes.rt the shape of each row,
 // rules.rt the check of every rule.
 pub mod chain;
-pub mod forms;
 pub mod naming;
 pub mod rules;
+pub mod shapes;
 
 ghost use mathlib.Core.Path.{_≡_};
 ghost use Prim.Native.Nat.{_+_, _*_, _≤_, _<_};

@@ -1,6 +1,9 @@
 -- What the readers of values, structs, sequences and dictionaries make of the answers of those that they call. Assumes nothing.
 --
---   row-not, as-bool .. as-other                             a value by its row's kind; as-bytes one that may be any bytes
+--   row-not, as-bool .. as-other                             a value by its row's kind
+--   row-wide, exact-wide, part-wide                          a value by its row's width
+--   row-text, text-value, text-values                        a string, by its row's shape
+--   again-took, again-bad                                    an answer that is taken apart and put together again
 --   struct-begin, member-gone, -read, -next, -fault, -done   the loop over members
 --   seq-none, -took, -bad                                    a sequence: its size, then its elements
 --   dict-none, -took, -bad                                   a dictionary: its size, then its entries
@@ -11,13 +14,14 @@
 --   value-row                                                a row of the table
 --   exact-took, -bad                                         exactly one value
 use mathlib.Core.Path.{_≡_, refl, sym, ap, _∙_}
-use mathlib.Core.Bool.{false}
+use mathlib.Core.Bool.{Bool, true, false}
 use mathlib.Core.List.{List}
-use Prim.Native.Nat.{ℕ, zero, suc, _+_, _-_, _*_, _≤_, _<_, zero-le}
+use Prim.Native.Nat.{ℕ, suc, _+_, _-_, _*_, _≤_, _<_, zero-le}
 use native.Mathlib.Omega.{arith}
 use native.Mathlib.Nat.{add-zero}
 use lib.ListN.{length, take, drop}
-use lib.Dec.{eqb}
+use lib.Dec.{eqb, ltb}
+use borrow.Author.Tests.{ltb-true, ltb-false}
 use Rattle.encoding.specs.Result.{Res, ok, bad, _>>=_, fail, skip, times}
 use Rattle.encoding.specs.ResultLaws.{Held, held-bind, held-times}
 use Rattle.encoding.specs.Number.{size}
@@ -25,16 +29,19 @@ use Rattle.encoding.specs.Number
 use Rattle.encoding.specs.Proxy
 use Rattle.encoding.specs.Types.{upto, short, int, long, float, double, Ty, broken, bool, byte, string, proxy, num, enum, struct, seq, dict}
 use Rattle.encoding.specs.Table.{kind, field, members, memberType, range, memberTy, memberTys, ownRows, rowTy, tys, typeRows, trees, tyOf}
-use Rattle.encoding.specs.TableLaws.{tys-at, below-none, row-broken, member-in, member-past, members-more, members-none}
+use Rattle.encoding.specs.TableLaws.{tys-at, ty-row, ty-past, below-none, row-broken, member-in, member-past, members-more, members-none}
 use Rattle.encoding.specs.Value.{value, values, whole, exact}
 use Rattle.encoding.specs.ValueLaws.{held-value}
+use Rattle.table.specs.Shapes.{widthOf, shapesOf, widthIn, isTextIn}
+use Rattle.table.specs.ShapesLaws.{width-takes, width-row, text-row}
 use Rattle.wire.specs.declared.Step.{Step}
 use Rattle.wire.specs.declared.Step.the-variants.{Took, Fault}
 use Rattle.wire.specs.declared.Sized.{Sized}
 use Rattle.wire.specs.declared.Sized.the-variants.{Is, Isnt}
 use Rattle.wire.specs.Steps.{stepOf, sizedOf}
 use Rattle.wire.specs.StepLaws.{step-fault, took-held, then-none, then-took, then-bad, with-none, with-took, with-bad, Left, left-begin, left-next, left-fault, left-done, turns-begin, turns-next, turns-fault, turns-done}
-use Rattle.value.specs.Parts.{partTy, width, entry}
+use Rattle.value.specs.Parts.{partTy, entry}
+use Rattle.value.proofs.PlainLaws.{text-step}
 use Rattle.value.proofs.Room.{TookFits, took-fits, BadFits, bad-fits}
 
 -- ---- a value by its row's kind
@@ -82,21 +89,6 @@ module _ (T : List ℕ) (t e : ℕ) (s : List ℕ) where
     unfolding rowTy value
     as-double z g = by-row (num double) (rw (sym q ∙ z)) g
 
-    -- one that may be any bytes
-    pub as-bytes : (n : ℕ) → n ≡ width k → 0 < n → r ≡ stepOf (skip n s) → r ≡ stepOf (value (partTy T t e) s)
-    unfolding width
-    as-bytes n w h g = go k refl w
-      where
-        go : (i : ℕ) → k ≡ i → n ≡ width i → r ≡ stepOf (value (partTy T t e) s)
-        go zero z v = absurd (omega arith)
-        go (suc zero) z v = as-byte z (rw v at g)
-        go (suc (suc zero)) z v = as-short z (rw v at g)
-        go (suc (suc (suc zero))) z v = as-int z (rw v at g)
-        go (suc (suc (suc (suc zero)))) z v = as-long z (rw v at g)
-        go (suc (suc (suc (suc (suc zero))))) z v = as-float z (rw v at g)
-        go (suc (suc (suc (suc (suc (suc zero)))))) z v = as-double z (rw v at g)
-        go (suc (suc (suc (suc (suc (suc (suc i))))))) z v = absurd (omega arith)
-
     pub as-string : k ≡ 7 → r ≡ stepOf (Proxy.text s) → r ≡ stepOf (value (partTy T t e) s)
     unfolding rowTy value
     as-string z g = by-row string (rw (sym q ∙ z)) g
@@ -127,6 +119,66 @@ module _ (T : List ℕ) (t e : ℕ) (s : List ℕ) where
     unfolding value fail stepOf
     as-other n₀ n₁ n₂ n₃ n₄ n₅ n₆ n₇ n₈ n₉ n₁₀ n₁₁ n₁₂ g =
         by-row broken (row-broken T (tys T e) e (rw q at (past (past (past (past (past (past (past (past (past (past (past (past (past zero-le n₀) n₁) n₂) n₃) n₄) n₅) n₆) n₇) n₈) n₉) n₁₀) n₁₁) n₁₂))) g
+
+-- ---- a value by its row's shape
+
+-- a row that has a tree, as a part of a row above
+part-there : (T : List ℕ) (t e : ℕ) → e < t → e < typeRows T → partTy T t e ≡ tyOf T e
+unfolding partTy
+part-there T t e l h = tys-at T t e l ∙ sym (ty-row T e h)
+
+module _ (T shapes : List ℕ) (f : shapes ≡ shapesOf T) where
+  module _ (t : ℕ) (s : List ℕ) (w : ℕ) (g : w ≡ widthIn shapes t) (h : 0 < w) where
+    wide : w ≡ widthOf (tyOf T t)
+    wide = g ∙ width-row T t shapes f
+
+    row-takes : w ≤ length s → value (tyOf T t) s ≡ ok tt w
+    row-takes k = width-takes (tyOf T t) (rw wide at h) s (rw wide at k) ∙ ap (ok tt) (sym wide)
+
+    pub row-wide : w ≤ length s → Took w ≡ stepOf (value (tyOf T t) s)
+    unfolding stepOf
+    row-wide k = rw (row-takes k)
+
+    pub exact-wide : w ≤ length s → eqb w (length s) ≡ exact (tyOf T t) s
+    unfolding exact whole
+    exact-wide k = rw (row-takes k)
+
+  pub row-text : (t : ℕ) (b : Bool) → b ≡ isTextIn shapes t → b ≡ true → (s : List ℕ) (r : Step) → r ≡ stepOf (Number.string s) → r ≡ stepOf (value (tyOf T t) s)
+  unfolding value
+  row-text t b g h s r q = rw (text-row T t shapes f (sym g ∙ h)) (text-step s r q)
+
+  module _ (t e : ℕ) (l : e < t) where
+    pub part-wide : (s : List ℕ) (w : ℕ) → w ≡ widthIn shapes e → 0 < w → w ≤ length s → Took w ≡ stepOf (value (partTy T t e) s)
+    unfolding widthOf
+    part-wide s w g h k = go (ltb e (typeRows T)) refl
+      where
+        go : (b : Bool) → ltb e (typeRows T) ≡ b → Took w ≡ stepOf (value (partTy T t e) s)
+        go true q = rw (part-there T t e l (ltb-true _ _ q)) (row-wide e s w g h k)
+        go false q = absurd (let z : widthOf (tyOf T e) ≡ 0 = rw (ty-past T e (ltb-false _ _ q)) in omega (arith, wide e s w g h))
+
+    part-text : isTextIn shapes e ≡ true → partTy T t e ≡ string
+    part-text h = go (ltb e (typeRows T)) refl
+      where
+        go : (b : Bool) → ltb e (typeRows T) ≡ b → partTy T t e ≡ string
+        go true q = part-there T t e l (ltb-true _ _ q) ∙ text-row T e shapes f h
+        go false q = absurd (let z = sym (text-row T e shapes f h) ∙ ty-past T e (ltb-false _ _ q) in let y : _≡_ {A = ℕ} 0 1 = cc in omega arith)
+
+    module _ (b : Bool) (g : b ≡ isTextIn shapes e) (h : b ≡ true) (s : List ℕ) (r : Step) where
+      pub text-value : r ≡ stepOf (Proxy.text s) → r ≡ stepOf (value (partTy T t e) s)
+      unfolding value
+      text-value q = rw (part-text (sym g ∙ h)) q
+
+      pub text-values : (n : ℕ) → r ≡ stepOf (times n Proxy.text s) → r ≡ stepOf (times n (value (partTy T t e)) s)
+      unfolding value
+      text-values n q = rw (part-text (sym g ∙ h)) q
+
+-- an answer that is taken apart and put together again
+module _ (X : Ty) (s : List ℕ) (r : Step) (e : r ≡ stepOf (value X s)) where
+  pub again-took : (n : ℕ) → r ≡ Took n → Took n ≡ stepOf (value X s)
+  again-took n q = sym q ∙ e
+
+  pub again-bad : (f p : ℕ) → r ≡ Fault f p → Fault f p ≡ stepOf (value X s)
+  again-bad f p q = sym q ∙ e
 
 -- ---- members
 

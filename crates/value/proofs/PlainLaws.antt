@@ -1,13 +1,12 @@
 -- The cases of values without parts, by the bytes at the head. Assumes nothing.
 --
---   width-at, -past            the width of a kind
 --   skip-cut, -whole           k bytes of any content
 --   bool-none, -high, -whole   a bool
 --   text-step                  a string, of which nothing is kept
 --   enum-fits, -past, -none    an enum
-use mathlib.Core.Path.{_≡_, refl, sym, ap, _∙_}
+use mathlib.Core.Path.{_≡_, refl, sym, _∙_}
 use mathlib.Core.List.{List}
-use Prim.Native.Nat.{ℕ, zero, suc, _≤_, _<_}
+use Prim.Native.Nat.{ℕ, _≤_, _<_}
 use lib.ListN.{length}
 use borrow.Author.Tests.{le-leb, lt-leb, lt-ltb, le-ltb}
 use Rattle.encoding.specs.Result.{Res, ok, bad, chunk, skip, judged, must, made, mapc}
@@ -22,21 +21,6 @@ use Rattle.wire.specs.declared.Sized.{Sized}
 use Rattle.wire.specs.declared.Sized.the-variants.{Is, Isnt}
 use Rattle.wire.specs.Steps.{stepOf, sizedOf}
 use Rattle.wire.specs.StepLaws.{sized-is, sized-isnt}
-use Rattle.value.specs.Parts.{width}
-
-pub width-at : (n k : ℕ) → k ≡ n → width n ≡ width k
-width-at n k e = ap width (sym e)
-
-pub width-past : (k : ℕ) → (k ≡ 1 → ⊥) → (k ≡ 2 → ⊥) → (k ≡ 3 → ⊥) → (k ≡ 4 → ⊥) → (k ≡ 5 → ⊥) → (k ≡ 6 → ⊥) → 0 ≡ width k
-unfolding width
-width-past zero a b c d e f = refl
-width-past (suc zero) a b c d e f = absurd (a refl)
-width-past (suc (suc zero)) a b c d e f = absurd (b refl)
-width-past (suc (suc (suc zero))) a b c d e f = absurd (c refl)
-width-past (suc (suc (suc (suc zero)))) a b c d e f = absurd (d refl)
-width-past (suc (suc (suc (suc (suc zero))))) a b c d e f = absurd (e refl)
-width-past (suc (suc (suc (suc (suc (suc zero)))))) a b c d e f = absurd (f refl)
-width-past (suc (suc (suc (suc (suc (suc (suc k))))))) a b c d e f = refl
 
 module _ (s : List ℕ) (k : ℕ) where
   pub skip-cut : length s < k → Fault 4 0 ≡ stepOf (skip k s)

@@ -1,14 +1,13 @@
 -- Parts of the definitions of values and proxies that are functions of their own in the code.
 --
 --   partTy T t e   the type of row e as a part of row t: broken unless e is below t
---   width k        how many bytes a value of kind k has, where it may be any bytes: of bytes and numbers; else 0
 --   entry k v      one entry of a dictionary
 --   name           a string, and how many bytes it holds
 --   named          an identity, of which the length of the name is kept
 --   addresses n    n endpoints, or an adapter where n is 0
 --   secured        a proxy's secure, protocol, encoding and endpoints
 --   settings       a proxy's mode, and those: what follows the facets
-use mathlib.Core.List.{List, [], _∷_}
+use mathlib.Core.List.{List}
 use Prim.Native.Nat.{ℕ}
 use lib.ListN.{length, getD}
 use lib.Dec.{eqb}
@@ -22,10 +21,6 @@ use Rattle.encoding.specs.Proxy.{identity, text, modeForm, versions, endpoint, 
 -- the tree of row e among the trees of the rows below t
 unfoldable pub partTy : List ℕ → ℕ → ℕ → Ty
 partTy T t e = getD (tys T t) e broken
-
--- byte, short, int, long, float, double
-unfoldable pub width : ℕ → ℕ
-width k = getD (0 ∷ 1 ∷ 2 ∷ 4 ∷ 8 ∷ 4 ∷ 8 ∷ []) k 0
 
 -- a key, then a value
 unfoldable pub entry : Ty → Ty → Parser (Unit {0})

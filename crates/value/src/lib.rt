@@ -2,7 +2,7 @@
 //
 // The readers of values, structs, sequences and dictionaries are one cycle of calls. Each has a bound: a type is one of the rows
 // below it, any other row is broken. The bound falls with each part. `part` is small enough to be laid into the loops that call it;
-// `value`, called from two places, is not.
+// `value`, called from several places, is not.
 mod plain;
 mod proxy;
 
@@ -12,12 +12,14 @@ ghost use Rattle.encoding.specs.Types.{struct, seq, dict};
 ghost use Rattle.encoding.specs.Table.{field, tys, tyOf, memberTys, ownRows};
 ghost use Rattle.encoding.specs.Value.{value, exact};
 ghost use Rattle.wire.specs.Steps.{stepOf};
+ghost use Rattle.table.specs.Shapes.{shapesOf};
 ghost use Rattle.value.specs.Parts.{partTy, entry};
 use wire::Sized;
 use wire::Step;
 
 // A value of row e, where e is below t.
-fn value(table: &[u8], t: usize, e: usize, s: &[u8]) -> Step
+fn value(table: &[u8], shapes: &[u8; 256], t: usize, e: usize, s: &[u8]) -> Step
+    requires { ⌜ now shapes ≡ shapesOf (now table) ⌝ }
     ensures { λ r. ⌜ r ≡ stepOf (value (partTy (now (table .entry)) t e) (now (s .entry))) ⌝ }
 {
     if t <= e {
@@ -37,29 +39,37 @@ fn value(table: &[u8], t: usize, e: usize, s: &[u8]) -> Step
             s,
             table::field(table, e, 0) + 65536 * table::field(table, e, 1),
         ),
-        9 => struct_value(table, e, s),
-        10 => sequence(table, e, s),
-        11 => dictionary(table, e, s),
+        9 => struct_value(table, shapes, e, s),
+        10 => sequence(table, shapes, e, s),
+        11 => dictionary(table, shapes, e, s),
         12 => proxy::proxy(s),
         _ => Step::Fault(1, 0),
     }
 }
 
-// The same; a value that may be any bytes is taken at once.
-fn part(table: &[u8], t: usize, e: usize, s: &[u8]) -> Step
+// The same; a value that may be any bytes is taken at once. (What is taken apart and put together again is not handed through memory.)
+fn part(table: &[u8], shapes: &[u8; 256], t: usize, e: usize, s: &[u8]) -> Step
+    requires { ⌜ now shapes ≡ shapesOf (now table) ⌝ }
     ensures { λ r. ⌜ r ≡ stepOf (value (partTy (now (table .entry)) t e) (now (s .entry))) ⌝ }
 {
     if e < t {
-        let k = plain::width(table::kind(table, e));
-        if 0 < k {
-            return plain::skip(s, k);
+        let w = table::shapes::width(shapes, e);
+        if 0 < w {
+            if w <= s.len() {
+                return Step::Took(w);
+            }
         }
     }
-    value(table, t, e, s)
+    let step = value(table, shapes, t, e, s);
+    match step {
+        Step::Took(n) => Step::Took(n),
+        Step::Fault(f, p) => Step::Fault(f, p),
+    }
 }
 
 // The members of struct row t, one after another.
-fn struct_value(table: &[u8], t: usize, s: &[u8]) -> Step
+fn struct_value(table: &[u8], shapes: &[u8; 256], t: usize, s: &[u8]) -> Step
+    requires { ⌜ now shapes ≡ shapesOf (now table) ⌝ }
     ensures { λ r. ⌜ r ≡ stepOf (value (struct (memberTys (now (table .entry)) (tys (now (table .entry)) t) (ownRows (now (table .entry)) t))) (now (s .entry))) ⌝ }
 {
     let all = table::members(table);
@@ -72,7 +82,7 @@ fn struct_value(table: &[u8], t: usize, s: &[u8]) -> Step
             return Step::Fault(1, at);
         }
         let row = table::member_row(table, m);
-        let step = part(table, t, row.of, &s[at..]);
+        let step = part(table, shapes, t, row.of, &s[at..]);
         match step {
             Step::Took(n) => {
                 at += n;
@@ -88,13 +98,14 @@ fn struct_value(table: &[u8], t: usize, s: &[u8]) -> Step
 }
 
 // The sequence of row t: a size, and as many elements.
-fn sequence(table: &[u8], t: usize, s: &[u8]) -> Step
+fn sequence(table: &[u8], shapes: &[u8; 256], t: usize, s: &[u8]) -> Step
+    requires { ⌜ now shapes ≡ shapesOf (now table) ⌝ }
     ensures { λ r. ⌜ r ≡ stepOf (value (seq (partTy (now (table .entry)) t (field (now (table .entry)) t 0))) (now (s .entry))) ⌝ }
 {
     let z = wire::read_size(s);
     match z {
         Sized::Is(n, k) => {
-            let step = elements(table, t, table::field(table, t, 0), n, &s[k..]);
+            let step = elements(table, shapes, t, table::field(table, t, 0), n, &s[k..]);
             match step {
                 Step::Took(m) => Step::Took(k + m),
                 Step::Fault(f, p) => Step::Fault(f, k + p),
@@ -105,13 +116,19 @@ fn sequence(table: &[u8], t: usize, s: &[u8]) -> Step
 }
 
 // n values of row e, where e is below t.
-fn elements(table: &[u8], t: usize, e: usize, n: usize, s: &[u8]) -> Step
+fn elements(table: &[u8], shapes: &[u8; 256], t: usize, e: usize, n: usize, s: &[u8]) -> Step
+    requires { ⌜ now shapes ≡ shapesOf (now table) ⌝ }
     ensures { λ r. ⌜ r ≡ stepOf (times n (value (partTy (now (table .entry)) t e)) (now (s .entry))) ⌝ }
 {
+    if e < t {
+        if table::shapes::is_text(shapes, e) {
+            return plain::texts(s, n);
+        }
+    }
     let mut left = n;
     let mut at: usize = 0;
     while left > 0 {
-        let step = part(table, t, e, &s[at..]);
+        let step = part(table, shapes, t, e, &s[at..]);
         match step {
             Step::Took(m) => {
                 at += m;
@@ -127,13 +144,14 @@ fn elements(table: &[u8], t: usize, e: usize, n: usize, s: &[u8]) -> Step
 }
 
 // The dictionary of row t: a size, and as many entries.
-fn dictionary(table: &[u8], t: usize, s: &[u8]) -> Step
+fn dictionary(table: &[u8], shapes: &[u8; 256], t: usize, s: &[u8]) -> Step
+    requires { ⌜ now shapes ≡ shapesOf (now table) ⌝ }
     ensures { λ r. ⌜ r ≡ stepOf (value (dict (partTy (now (table .entry)) t (field (now (table .entry)) t 0)) (partTy (now (table .entry)) t (field (now (table .entry)) t 1))) (now (s .entry))) ⌝ }
 {
     let z = wire::read_size(s);
     match z {
         Sized::Is(n, k) => {
-            let step = entries(table, t, n, &s[k..]);
+            let step = entries(table, shapes, t, n, &s[k..]);
             match step {
                 Step::Took(m) => Step::Took(k + m),
                 Step::Fault(f, p) => Step::Fault(f, k + p),
@@ -144,7 +162,8 @@ fn dictionary(table: &[u8], t: usize, s: &[u8]) -> Step
 }
 
 // n entries of dictionary row t.
-fn entries(table: &[u8], t: usize, n: usize, s: &[u8]) -> Step
+fn entries(table: &[u8], shapes: &[u8; 256], t: usize, n: usize, s: &[u8]) -> Step
+    requires { ⌜ now shapes ≡ shapesOf (now table) ⌝ }
     ensures { λ r. ⌜ r ≡ stepOf (times n (entry (partTy (now (table .entry)) t (field (now (table .entry)) t 0)) (partTy (now (table .entry)) t (field (now (table .entry)) t 1))) (now (s .entry))) ⌝ }
 {
     let key = table::field(table, t, 0);
@@ -152,7 +171,7 @@ fn entries(table: &[u8], t: usize, n: usize, s: &[u8]) -> Step
     let mut left = n;
     let mut at: usize = 0;
     while left > 0 {
-        let step = pair(table, t, key, val, &s[at..]);
+        let step = pair(table, shapes, t, key, val, &s[at..]);
         match step {
             Step::Took(m) => {
                 at += m;
@@ -166,14 +185,28 @@ fn entries(table: &[u8], t: usize, n: usize, s: &[u8]) -> Step
     Step::Took(at)
 }
 
+// A value of row k, where k is below t; a string is taken at once.
+fn key(table: &[u8], shapes: &[u8; 256], t: usize, k: usize, s: &[u8]) -> Step
+    requires { ⌜ now shapes ≡ shapesOf (now table) ⌝ }
+    ensures { λ r. ⌜ r ≡ stepOf (value (partTy (now (table .entry)) t k) (now (s .entry))) ⌝ }
+{
+    if k < t {
+        if table::shapes::is_text(shapes, k) {
+            return plain::text(s);
+        }
+    }
+    part(table, shapes, t, k, s)
+}
+
 // A key of row k, and then a value of row v, both below t.
-fn pair(table: &[u8], t: usize, k: usize, v: usize, s: &[u8]) -> Step
+fn pair(table: &[u8], shapes: &[u8; 256], t: usize, k: usize, v: usize, s: &[u8]) -> Step
+    requires { ⌜ now shapes ≡ shapesOf (now table) ⌝ }
     ensures { λ r. ⌜ r ≡ stepOf (entry (partTy (now (table .entry)) t k) (partTy (now (table .entry)) t v) (now (s .entry))) ⌝ }
 {
-    let first = part(table, t, k, s);
+    let first = key(table, shapes, t, k, s);
     match first {
         Step::Took(n) => {
-            let step = part(table, t, v, &s[n..]);
+            let step = part(table, shapes, t, v, &s[n..]);
             match step {
                 Step::Took(m) => Step::Took(n + m),
                 Step::Fault(f, p) => Step::Fault(f, n + p),
@@ -184,17 +217,29 @@ fn pair(table: &[u8], t: usize, k: usize, v: usize, s: &[u8]) -> Step
 }
 
 // A value of row t of the table; a row that has no tree is refused by 1 here.
-pub fn read_value(table: &[u8], t: usize, s: &[u8]) -> Step
+pub fn read_value(table: &[u8], shapes: &[u8; 256], t: usize, s: &[u8]) -> Step
+    requires { ⌜ now shapes ≡ shapesOf (now table) ⌝ }
     ensures { λ r. ⌜ r ≡ stepOf (value (tyOf (now (table .entry)) t) (now (s .entry))) ⌝ }
 {
-    part(table, table::rows(table), t, s)
+    let step = value(table, shapes, table::rows(table), t, s);
+    match step {
+        Step::Took(n) => Step::Took(n),
+        Step::Fault(f, p) => Step::Fault(f, p),
+    }
 }
 
 // The bytes are exactly one value of row t.
-pub fn exact_value(table: &[u8], t: usize, s: &[u8]) -> bool
+pub fn exact_value(table: &[u8], shapes: &[u8; 256], t: usize, s: &[u8]) -> bool
+    requires { ⌜ now shapes ≡ shapesOf (now table) ⌝ }
     ensures { λ r. ⌜ r ≡ exact (tyOf (now (table .entry)) t) (now (s .entry)) ⌝ }
 {
-    let step = value(table, table::rows(table), t, s);
+    let w = table::shapes::width(shapes, t);
+    if 0 < w {
+        if w <= s.len() {
+            return w == s.len();
+        }
+    }
+    let step = value(table, shapes, table::rows(table), t, s);
     match step {
         Step::Took(n) => n == s.len(),
         Step::Fault(f, p) => false,

@@ -1,29 +1,13 @@
 // Values without parts: bytes of any content, bools, strings, enums.
 ghost use mathlib.Core.Path.{_≡_};
-ghost use Rattle.encoding.specs.Result.{skip};
+ghost use Rattle.encoding.specs.Result.{skip, times};
 ghost use Rattle.encoding.specs.Number.{bool};
 ghost use Rattle.encoding.specs.Proxy.{text};
 ghost use Rattle.encoding.specs.Types.{upto, enum};
 ghost use Rattle.encoding.specs.Value.{value};
 ghost use Rattle.wire.specs.Steps.{stepOf};
-ghost use Rattle.value.specs.Parts.{width};
 use wire::Sized;
 use wire::Step;
-
-// How many bytes a value of kind k has, where it may be any bytes; else 0.
-pub fn width(k: usize) -> usize
-    ensures { λ r. ⌜ r ≡ width k ⌝ }
-{
-    match k {
-        1 => 1,
-        2 => 2,
-        3 => 4,
-        4 => 8,
-        5 => 4,
-        6 => 8,
-        _ => 0,
-    }
-}
 
 // k bytes of any content.
 pub fn skip(s: &[u8], k: usize) -> Step
@@ -53,6 +37,27 @@ pub fn text(s: &[u8]) -> Step
     ensures { λ r. ⌜ r ≡ stepOf (text (now (s .entry))) ⌝ }
 {
     wire::read_string(s)
+}
+
+// n strings.
+pub fn texts(s: &[u8], n: usize) -> Step
+    ensures { λ r. ⌜ r ≡ stepOf (times n text (now (s .entry))) ⌝ }
+{
+    let mut left = n;
+    let mut at: usize = 0;
+    while left > 0 {
+        let step = text(&s[at..]);
+        match step {
+            Step::Took(m) => {
+                at += m;
+            }
+            Step::Fault(f, p) => {
+                return Step::Fault(f, at + p);
+            }
+        }
+        left -= 1;
+    }
+    Step::Took(at)
 }
 
 // An enum: a size, at most the greatest.

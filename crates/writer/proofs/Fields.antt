@@ -3,7 +3,6 @@
 --   content-put                            the bytes of a row
 --   header-put-short, header-put-long      a header
 --   length-put-none, length-put-size, length-put-int   a length field
---   form-here, form-past                   the form of a type row, from the forms of the rows
 --   optional-put                           header, length field and content, one behind another
 --   row-stop, row-nothing                  a row that is none of this owner, or none that may come
 --   due-wrong, due-right                   a row as a required member, by the judgement on its bytes
@@ -11,22 +10,20 @@
 use mathlib.Core.Path.{_≡_, refl, sym, ap, _∙_}
 use mathlib.Core.Bool.{Bool, true, false}
 use mathlib.Core.Option.{some}
-use mathlib.Core.List.{List, [], _∷_, _++_, map}
-use Prim.Native.Nat.{ℕ, zero, suc, _+_, _-_, _*_, _≤_, _<_}
+use mathlib.Core.List.{List, [], _∷_, _++_}
+use Prim.Native.Nat.{ℕ, _+_, _-_, _*_, _≤_, _<_}
 use native.Mathlib.Omega.{arith}
-use native.Mathlib.Nat.{add-zero, zero-add}
-use lib.ListN.{length, take, drop, getD}
-use lib.Dec.{leb, ltb}
-use borrow.Author.Tests.{leb-true, lt-ltb, le-ltb, ltb-true, ltb-false, eq-eqb}
+use lib.ListN.{length, take, drop}
+use borrow.Author.Tests.{eq-eqb}
 use Rattle.encoding.specs.Result.{pick}
 use Rattle.encoding.specs.Number.{leBytes, sizeBytes}
-use Rattle.encoding.specs.Types.{Ty, broken, formOf}
-use Rattle.encoding.specs.Table.{field, types, typeRows, range, tag, trees, tyOf, memberTy}
-use Rattle.encoding.specs.TableLaws.{ty-past}
+use Rattle.encoding.specs.Types.{Ty, formOf}
+use Rattle.encoding.specs.Table.{field, tag, trees, tyOf, memberTy}
 use Rattle.encoding.specs.Optional.{required, optional, isOptional}
 use Rattle.encoding.specs.Message.{Row}
 use Rattle.encoding.specs.Write.{stop, Reached, reach, given, partOf, rowAt}
-use Rattle.table.specs.Forms.{formNumber, formAt, formsOf}
+use Rattle.table.specs.Shapes.{formNumber, shapesOf, formIn}
+use Rattle.table.specs.ShapesLaws.{form-row}
 use Rattle.wire.specs.Put.{put, headerBits}
 use Rattle.wire.specs.PutLaws.{header-bits}
 use Rattle.writer.specs.declared.Cursor.{Cursor}
@@ -36,7 +33,7 @@ use Rattle.writer.specs.Cursors.{requiredIn, stateOf, mayMember, dueReac
 use Rattle.writer.specs.Judged.{partForm, judgedRow}
 use Rattle.writer.specs.Puts.{Puts}
 use Rattle.writer.specs.PutsLaws.{puts-one, puts-none, puts-is, puts-number, puts-byte, puts-size, puts-then}
-use Rattle.writer.specs.Pieces.{headerField, formBits, lengthField, formIn, optionalField, hereOf, takenOf, pieceAt, RowLaid}
+use Rattle.writer.specs.Pieces.{headerField, formBits, lengthField, optionalField, hereOf, takenOf, pieceAt, RowLaid}
 use Rattle.writer.specs.PiecesLaws.{required-bytes, optional-bytes, header-short, header-long, length-none, length-size, length-int}
 use Rattle.writer.proofs.Judges.{row-none, row-refused, row-right}
 
@@ -71,39 +68,6 @@ module _ (form n at : ℕ) (out : List ℕ) where
 
   pub length-put-int : (last : List ℕ) → 9 ≤ form → (form ≡ 9 → ⊥) → last ≡ put at (leBytes 4 n) out → Puts at (lengthField form n) out last (at + 4)
   length-put-int last h q e = puts-is at _ _ out last (at + 4) (sym (length-int form n (omega (arith, q)))) (puts-number 4 n at out last e)
-
--- ---- the form of a member
-
-getD-range : (f : ℕ → ℕ) (a n i : ℕ) → i < n → getD (map f (range a n)) i 0 ≡ f (a + i)
-unfolding range
-getD-range f a zero i h = absurd (omega arith)
-getD-range f a (suc n) zero h = ap f (sym (add-zero a))
-getD-range f a (suc n) (suc i) h = getD-range f (suc a) n i (omega arith) ∙ ap f (omega arith)
-
-rows-few : (T : List ℕ) → typeRows T ≤ 256
-unfolding typeRows
-rows-few T = go (leb (types T) 256) refl
-  where
-    go : (t : Bool) → leb (types T) 256 ≡ t → pick t (types T) 256 ≤ 256
-    go true e = leb-true (types T) 256 e
-    go false e = omega arith
-
-module _ (forms : List ℕ) (t : ℕ) where
-  pub form-here : t < 256 → (r : ℕ) → r ≡ getD forms t 0 → r ≡ formIn forms t
-  unfolding formIn
-  form-here h r e = rw (lt-ltb t 256 h) e
-
-  pub form-past : 256 ≤ t → 10 ≡ formIn forms t
-  unfolding formIn
-  form-past h = rw (le-ltb t 256 h)
-
-  form-is : (T : List ℕ) → forms ≡ formsOf T → formIn forms t ≡ formNumber (formOf (tyOf T t))
-  unfolding formIn formsOf formAt formNumber formOf
-  form-is T e = go (ltb t 256) refl
-    where
-      go : (b : Bool) → ltb t 256 ≡ b → pick b (getD forms t 0) 10 ≡ formNumber (formOf (tyOf T t))
-      go true q = ap (λ (l : List ℕ). getD l t 0) e ∙ getD-range (formAt T) 0 256 t (ltb-true t 256 q) ∙ ap (formAt T) (zero-add t)
-      go false q = let f : tyOf T t ≡ broken = ty-past T t (omega (arith, rows-few T, ltb-false t 256 q)) in rw f
 
 -- ---- an optional
 
@@ -166,13 +130,13 @@ module _ (T rows buffer : List ℕ) (i : ℕ) (r : Row) (er : r ≡ rowAt rows i
       pub may-tagged : 1 ≤ c .least
       may-tagged = let e : c .least ≡ tag T (r .member) + 1 = may-of .3 in omega arith
 
-      pub may-right : form ≡ 0 → (forms : List ℕ) → forms ≡ formsOf T → (f : ℕ) → f ≡ formIn forms t → (at : ℕ) (out last : List ℕ) (end : ℕ) → end ≤ at + 66000
+      pub may-right : form ≡ 0 → (shapes : List ℕ) → shapes ≡ shapesOf T → (f : ℕ) → f ≡ formIn shapes t → (at : ℕ) (out last : List ℕ) (end : ℕ) → end ≤ at + 66000
           → Puts at (optionalField (c .least - 1) f (partOf buffer r)) out last end → RowLaid T rows buffer judged from i at out last c end true
       unfolding mayReached mayMember given isOptional stateOf
-      may-right n forms eo f eq at out last end few p =
+      may-right n shapes eo f eq at out last end few p =
           let least : c .least ≡ tag T (r .member) + 1 = may-of .3 in
           let k : c .least - 1 ≡ tag T (r .member) = omega arith in
-          let b : f ≡ formNumber (formOf (memberTy T (trees T) (r .member))) = eq ∙ form-is forms t T eo ∙ ap (λ (x : Ty). formNumber (formOf x)) et in
+          let b : f ≡ formNumber (formOf (memberTy T (trees T) (r .member))) = eq ∙ form-row T t shapes eo ∙ ap (λ (x : Ty). formNumber (formOf x)) et in
           record {
             piece = optional (tag T (r .member)) (formOf (memberTy T (trees T) (r .member))) (partOf buffer r);
             is = piece-is T rows buffer i r er from _ (may-of .0) (may-of .1);

@@ -4,7 +4,6 @@
 --   headerField    an optional's header of a tag and type bits
 --   formBits       the type bits in the header of a form's number
 --   lengthField    the length field in front of so many bytes, by a form's number
---   formIn         the form's number of a type row, of the forms of the rows
 --   optionalField  an optional of a tag, a form's number and bytes
 --   Taken          the piece of a row, and where the rows stand behind it
 --   pieceAt        row i as a member of the owner where the rows stand, if it is one
@@ -16,7 +15,7 @@ use mathlib.Core.Bool.{Bool}
 use mathlib.Core.Option.{Option, none, some}
 use mathlib.Core.List.{List, [], _∷_, _++_}
 use Prim.Native.Nat.{ℕ, zero, suc, _+_, _*_, _≤_, _<_}
-use lib.ListN.{length, getD}
+use lib.ListN.{length}
 use lib.Dec.{eqb, ltb}
 use Rattle.encoding.specs.Result.{pick}
 use Rattle.encoding.specs.Number.{leBytes, sizeBytes}
@@ -42,9 +41,6 @@ formBits n = pick (ltb n 8) n (pick (ltb n 10) 5 6)
 
 unfoldable pub lengthField : ℕ → ℕ → List ℕ
 lengthField form n = pick (ltb form 9) [] (pick (eqb form 9) (sizeBytes n) (leBytes 4 n))
-
-unfoldable pub formIn : List ℕ → ℕ → ℕ
-formIn forms t = pick (ltb t 256) (getD forms t 0) 10
 
 unfoldable pub optionalField : ℕ → ℕ → List ℕ → List ℕ
 optionalField t form b = headerField t (formBits form) ++ lengthField form (length b) ++ b

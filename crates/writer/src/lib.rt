@@ -12,7 +12,7 @@ ghost use mathlib.Core.Path.{_≡_};
 ghost use Prim.Native.Nat.{_≤_, _<_};
 ghost use lib.ListN.{length};
 ghost use Rattle.encoding.specs.Write.{output};
-ghost use Rattle.table.specs.Forms.{formsOf};
+ghost use Rattle.table.specs.Shapes.{shapesOf};
 ghost use Rattle.writer.specs.Messages.{written, outcomeOf};
 
 // Where the rows stand: the owner, how many of its member rows are passed, and the least tag that may come.
@@ -69,7 +69,7 @@ pub enum Outcome {
 // A message that fits there is copied, a longer one is put again, its parts not judged again.
 fn write_by_draft(
     table: &[u8],
-    forms: &[u8; 256],
+    shapes: &[u8; 256],
     top: usize,
     format: usize,
     count: usize,
@@ -78,7 +78,7 @@ fn write_by_draft(
     draft: &mut [u8],
     out: &mut [u8],
 ) -> Outcome
-    requires { ⌜ now forms ≡ formsOf (now table) ⌝ }
+    requires { ⌜ now shapes ≡ shapesOf (now table) ⌝ }
     requires { ⌜ (top < 65536) × (count ≤ 4294967296) × (length (now buffer) ≤ 65536) ⌝ }
     ensures { λ r. ⌜ (r ≡ outcomeOf (written (now (table .entry)) top format count (now (rows .entry)) (now (buffer .entry)) (length (now (out .entry))))) × (now (out .exit) ≡ output (written (now (table .entry)) top format count (now (rows .entry)) (now (buffer .entry)) (length (now (out .entry)))) (now (out .entry))) ⌝ }
 {
@@ -86,7 +86,17 @@ fn write_by_draft(
         return Outcome::Stopped(20, count);
     }
     let sliced = format != 0;
-    let put = message::put_message(table, forms, draft, top, sliced, false, count, rows, buffer);
+    let put = message::put_message(
+        table,
+        shapes,
+        draft,
+        top,
+        sliced,
+        false,
+        count,
+        rows,
+        buffer,
+    );
     match put {
         Put::Wrong(number, place) => Outcome::Stopped(number, place),
         Put::Made(n) => {
@@ -100,7 +110,7 @@ fn write_by_draft(
                 wire::put_part(out, 0, draft, 0, n);
                 return Outcome::Made(n);
             }
-            message::put_message(table, forms, out, top, sliced, true, count, rows, buffer);
+            message::put_message(table, shapes, out, top, sliced, true, count, rows, buffer);
             Outcome::Made(n)
         }
     }
@@ -110,7 +120,7 @@ fn write_by_draft(
 // The draft has 256 bytes where the buffer is short, else 1,024: fewer bytes are cleared sooner.
 pub fn write_rows(
     table: &[u8],
-    forms: &[u8; 256],
+    shapes: &[u8; 256],
     top: usize,
     format: usize,
     count: usize,
@@ -118,7 +128,7 @@ pub fn write_rows(
     buffer: &[u8],
     out: &mut [u8],
 ) -> Outcome
-    requires { ⌜ now forms ≡ formsOf (now table) ⌝ }
+    requires { ⌜ now shapes ≡ shapesOf (now table) ⌝ }
     requires { ⌜ (top < 65536) × (count ≤ 4294967296) × (length (now buffer) ≤ 65536) ⌝ }
     ensures { λ r. ⌜ (r ≡ outcomeOf (written (now (table .entry)) top format count (now (rows .entry)) (now (buffer .entry)) (length (now (out .entry))))) × (now (out .exit) ≡ output (written (now (table .entry)) top format count (now (rows .entry)) (now (buffer .entry)) (length (now (out .entry)))) (now (out .entry))) ⌝ }
 {
@@ -126,7 +136,7 @@ pub fn write_rows(
         let mut few = [0u8; 256];
         return write_by_draft(
             table,
-            forms,
+            shapes,
             top,
             format,
             count,
@@ -139,7 +149,7 @@ pub fn write_rows(
     let mut more = [0u8; 1024];
     write_by_draft(
         table,
-        forms,
+        shapes,
         top,
         format,
         count,

@@ -7,14 +7,14 @@ ghost use lib.ListN.{length};
 ghost use Rattle.encoding.specs.Table.{chain};
 ghost use Rattle.encoding.specs.Slice.{first, slicesBytes};
 ghost use Rattle.encoding.specs.Message.{encapsulate};
-ghost use Rattle.table.specs.Forms.{formsOf};
+ghost use Rattle.table.specs.Shapes.{shapesOf};
 ghost use Rattle.writer.specs.Slices.{formatBy, slicesFrom};
 ghost use Rattle.writer.specs.Messages.{contentsOf, AllPut};
 
 // Judges the rows and puts the slices of row t and its bases.
 fn put_slices(
     table: &[u8],
-    forms: &[u8; 256],
+    shapes: &[u8; 256],
     out: &mut [u8],
     start: usize,
     t: usize,
@@ -24,7 +24,7 @@ fn put_slices(
     rows: &[u8],
     buffer: &[u8],
 ) -> Put
-    requires { ⌜ now forms ≡ formsOf (now table) ⌝ }
+    requires { ⌜ now shapes ≡ shapesOf (now table) ⌝ }
     requires { ⌜ (start ≤ 7) × (t < 65536) × (count ≤ 4294967296) × (length (now buffer) ≤ 65536) ⌝ }
     ensures { λ r. ⌜ AllPut (now (table .entry)) (now (rows .entry)) (now (buffer .entry)) judged count t start (slicesBytes (formatBy sliced) first (slicesFrom (now (table .entry)) (now (rows .entry)) (now (buffer .entry)) count 0 (chain (now (table .entry)) t))) (now (out .entry)) (now (out .exit)) r ⌝ }
 {
@@ -36,7 +36,7 @@ fn put_slices(
         let up = table::chain::base(table, o);
         let d = slice::put_slice(
             table,
-            forms,
+            shapes,
             out,
             at,
             o,
@@ -68,7 +68,7 @@ fn put_slices(
 // Judges the rows and puts the data of an encapsulation: a parameter list, a class instance behind its marker, or an exception.
 fn put_contents(
     table: &[u8],
-    forms: &[u8; 256],
+    shapes: &[u8; 256],
     out: &mut [u8],
     t: usize,
     sliced: bool,
@@ -77,13 +77,13 @@ fn put_contents(
     rows: &[u8],
     buffer: &[u8],
 ) -> Put
-    requires { ⌜ now forms ≡ formsOf (now table) ⌝ }
+    requires { ⌜ now shapes ≡ shapesOf (now table) ⌝ }
     requires { ⌜ (t < 65536) × (count ≤ 4294967296) × (length (now buffer) ≤ 65536) ⌝ }
     ensures { λ r. ⌜ AllPut (now (table .entry)) (now (rows .entry)) (now (buffer .entry)) judged count t 6 (contentsOf (now (table .entry)) (now (rows .entry)) (now (buffer .entry)) count (formatBy sliced) t) (now (out .entry)) (now (out .exit)) r ⌝ }
 {
     let k = table::kind(table, t);
     if k == 15 {
-        let d = slice::put_rows(table, forms, out, 6, t, 0, judged, count, rows, buffer);
+        let d = slice::put_rows(table, shapes, out, 6, t, 0, judged, count, rows, buffer);
         if d.fault != 0 {
             return Put::Wrong(d.fault, d.row);
         }
@@ -94,15 +94,37 @@ fn put_contents(
     }
     if k == 14 {
         wire::put_number(out, 6, 1, 1);
-        return put_slices(table, forms, out, 7, t, sliced, judged, count, rows, buffer);
+        return put_slices(
+            table,
+            shapes,
+            out,
+            7,
+            t,
+            sliced,
+            judged,
+            count,
+            rows,
+            buffer,
+        );
     }
-    put_slices(table, forms, out, 6, t, sliced, judged, count, rows, buffer)
+    put_slices(
+        table,
+        shapes,
+        out,
+        6,
+        t,
+        sliced,
+        judged,
+        count,
+        rows,
+        buffer,
+    )
 }
 
 // Judges the rows and puts the message: the data, then the size and the version before them.
 pub fn put_message(
     table: &[u8],
-    forms: &[u8; 256],
+    shapes: &[u8; 256],
     out: &mut [u8],
     t: usize,
     sliced: bool,
@@ -111,11 +133,11 @@ pub fn put_message(
     rows: &[u8],
     buffer: &[u8],
 ) -> Put
-    requires { ⌜ now forms ≡ formsOf (now table) ⌝ }
+    requires { ⌜ now shapes ≡ shapesOf (now table) ⌝ }
     requires { ⌜ (t < 65536) × (count ≤ 4294967296) × (length (now buffer) ≤ 65536) ⌝ }
     ensures { λ r. ⌜ AllPut (now (table .entry)) (now (rows .entry)) (now (buffer .entry)) judged count t 0 (encapsulate (contentsOf (now (table .entry)) (now (rows .entry)) (now (buffer .entry)) count (formatBy sliced) t)) (now (out .entry)) (now (out .exit)) r ⌝ }
 {
-    let put = put_contents(table, forms, out, t, sliced, judged, count, rows, buffer);
+    let put = put_contents(table, shapes, out, t, sliced, judged, count, rows, buffer);
     match put {
         Put::Made(n) => {
             wire::put_number(out, 0, 4, n);

@@ -11,10 +11,10 @@ ghost use lib.ListN.{length};
 ghost use Rattle.encoding.specs.Result.{pick};
 ghost use Rattle.encoding.specs.Table.{tyOf};
 ghost use Rattle.encoding.specs.Write.{partOf};
-ghost use Rattle.table.specs.Forms.{formsOf};
+ghost use Rattle.table.specs.Shapes.{shapesOf};
 ghost use Rattle.writer.specs.Puts.{Puts};
 ghost use Rattle.writer.specs.Judged.{partForm};
-ghost use Rattle.writer.specs.Pieces.{rowOf, headerField, formBits, lengthField, formIn, optionalField, RowPut};
+ghost use Rattle.writer.specs.Pieces.{rowOf, headerField, formBits, lengthField, optionalField, RowPut};
 
 // Puts the bytes of a row, and gives their end.
 fn put_content(out: &mut [u8], at: usize, row: RowNumbers, buffer: &[u8]) -> usize
@@ -68,18 +68,16 @@ fn put_length(out: &mut [u8], at: usize, form: usize, n: usize) -> usize
     at + 4
 }
 
-// The form of an optional of type row t, of the forms of the rows.
-fn form_of(forms: &[u8; 256], t: usize) -> usize
-    ensures { λ r. ⌜ r ≡ formIn (now (forms .entry)) t ⌝ }
-{
-    if t < 256 {
-        return wire::wide(forms[t]);
-    }
-    10
-}
-
 // 20 where a row's part lies outside the buffer, 21 where it isn't exactly a value of type row t, else 0; and 0 where it was judged before.
-fn part_form(table: &[u8], t: usize, judged: bool, row: RowNumbers, buffer: &[u8]) -> usize
+fn part_form(
+    table: &[u8],
+    shapes: &[u8; 256],
+    t: usize,
+    judged: bool,
+    row: RowNumbers,
+    buffer: &[u8],
+) -> usize
+    requires { ⌜ now shapes ≡ shapesOf (now table) ⌝ }
     requires { ⌜ length (now buffer) ≤ 65536 ⌝ }
     ensures { λ r. ⌜ r ≡ pick judged 0 (partForm (now (buffer .entry)) (rowOf row) (tyOf (now (table .entry)) t)) ⌝ }
 {
@@ -90,7 +88,7 @@ fn part_form(table: &[u8], t: usize, judged: bool, row: RowNumbers, buffer: &[u8
     let len = row.len;
     if wire::fits(buffer.len(), place, len) {
         let e = place + len;
-        if value::exact_value(table, t, &buffer[place..e]) {
+        if value::exact_value(table, shapes, t, &buffer[place..e]) {
             return 0;
         }
         return 21;
@@ -118,7 +116,7 @@ fn put_optional(
 // Judges row i, each 20 then 21, and puts it, if it is a member of the owner where the rows stand. A part judged before is not judged again.
 pub fn put_row(
     table: &[u8],
-    forms: &[u8; 256],
+    shapes: &[u8; 256],
     out: &mut [u8],
     at: usize,
     from: Cursor,
@@ -127,7 +125,7 @@ pub fn put_row(
     i: usize,
     buffer: &[u8],
 ) -> Placed
-    requires { ⌜ now forms ≡ formsOf (now table) ⌝ }
+    requires { ⌜ now shapes ≡ shapesOf (now table) ⌝ }
     requires { ⌜ (at ≤ 1152921504606846976) × (i < 4294967296) × (from .passed ≤ 65536) × (length (now buffer) ≤ 65536) ⌝ }
     ensures { λ r. ⌜ RowPut (now (table .entry)) (now (rows .entry)) (now (buffer .entry)) judged from i at (now (out .entry)) (now (out .exit)) r ⌝ }
 {
@@ -136,7 +134,7 @@ pub fn put_row(
     match r {
         Reach::Due(c) => {
             let t = table::type_of_member(table, row.member);
-            let fault = part_form(table, t, judged, row, buffer);
+            let fault = part_form(table, shapes, t, judged, row, buffer);
             if fault != 0 {
                 return Placed::Wrong(fault);
             }
@@ -145,11 +143,18 @@ pub fn put_row(
         }
         Reach::May(c) => {
             let t = table::type_of_member(table, row.member);
-            let fault = part_form(table, t, judged, row, buffer);
+            let fault = part_form(table, shapes, t, judged, row, buffer);
             if fault != 0 {
                 return Placed::Wrong(fault);
             }
-            let end = put_optional(out, at, c.least - 1, form_of(forms, t), row, buffer);
+            let end = put_optional(
+                out,
+                at,
+                c.least - 1,
+                table::shapes::form(shapes, t),
+                row,
+                buffer,
+            );
             Placed::Row(c, end, true)
         }
         Reach::Above => Placed::Stop,

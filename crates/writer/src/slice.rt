@@ -9,14 +9,14 @@ ghost use Prim.Native.Nat.{_+_, _≤_, _<_};
 ghost use lib.ListN.{length};
 ghost use Rattle.encoding.specs.Result.{pick};
 ghost use Rattle.encoding.specs.Table.{nameOf};
-ghost use Rattle.table.specs.Forms.{formsOf};
+ghost use Rattle.table.specs.Shapes.{shapesOf};
 ghost use Rattle.writer.specs.Puts.{Puts};
 ghost use Rattle.writer.specs.Slices.{formatBy, idField, frontField, RowsPut, DataPut, SlicePut};
 
 // Judges and puts the rows of owner o from row `first` on.
 pub fn put_rows(
     table: &[u8],
-    forms: &[u8; 256],
+    shapes: &[u8; 256],
     out: &mut [u8],
     start: usize,
     o: usize,
@@ -26,7 +26,7 @@ pub fn put_rows(
     rows: &[u8],
     buffer: &[u8],
 ) -> Laid
-    requires { ⌜ now forms ≡ formsOf (now table) ⌝ }
+    requires { ⌜ now shapes ≡ shapesOf (now table) ⌝ }
     requires { ⌜ (start ≤ 576460752303423488) × (first ≤ count) × (count ≤ 4294967296) × (length (now buffer) ≤ 65536) ⌝ }
     ensures { λ r. ⌜ RowsPut (now (table .entry)) (now (rows .entry)) (now (buffer .entry)) judged count o first start (now (out .entry)) (now (out .exit)) r ⌝ }
 {
@@ -39,7 +39,7 @@ pub fn put_rows(
     let mut i = first;
     let mut optionals = false;
     while i < count {
-        let p = piece::put_row(table, forms, out, at, from, judged, rows, i, buffer);
+        let p = piece::put_row(table, shapes, out, at, from, judged, rows, i, buffer);
         match p {
             Placed::Row(c, end, optional) => {
                 from = c;
@@ -122,7 +122,7 @@ fn put_id(table: &[u8], out: &mut [u8], at: usize, o: usize, id: bool) -> usize
 // Judges the rows of owner o and puts a slice's data: the rows and, behind optionals, byte 255.
 fn put_data(
     table: &[u8],
-    forms: &[u8; 256],
+    shapes: &[u8; 256],
     out: &mut [u8],
     start: usize,
     o: usize,
@@ -132,13 +132,13 @@ fn put_data(
     rows: &[u8],
     buffer: &[u8],
 ) -> Laid
-    requires { ⌜ now forms ≡ formsOf (now table) ⌝ }
+    requires { ⌜ now shapes ≡ shapesOf (now table) ⌝ }
     requires { ⌜ (start ≤ 576460752303423488) × (first ≤ count) × (count ≤ 4294967296) × (length (now buffer) ≤ 65536) ⌝ }
     ensures { λ r. ⌜ DataPut (now (table .entry)) (now (rows .entry)) (now (buffer .entry)) judged count o first start (now (out .entry)) (now (out .exit)) r ⌝ }
 {
     let d = put_rows(
         table,
-        forms,
+        shapes,
         out,
         start,
         o,
@@ -201,7 +201,7 @@ fn put_front(
 // Judges the rows of owner o and puts its slice: the data first, then what stands before them.
 pub fn put_slice(
     table: &[u8],
-    forms: &[u8; 256],
+    shapes: &[u8; 256],
     out: &mut [u8],
     at: usize,
     o: usize,
@@ -214,14 +214,14 @@ pub fn put_slice(
     rows: &[u8],
     buffer: &[u8],
 ) -> Laid
-    requires { ⌜ now forms ≡ formsOf (now table) ⌝ }
+    requires { ⌜ now shapes ≡ shapesOf (now table) ⌝ }
     requires { ⌜ (at ≤ 288230376151711744) × (first ≤ count) × (count ≤ 4294967296) × (length (now buffer) ≤ 65536) ⌝ }
     ensures { λ r. ⌜ SlicePut (now (table .entry)) (now (rows .entry)) (now (buffer .entry)) judged count (formatBy sliced) id last o first at (now (out .entry)) (now (out .exit)) r ⌝ }
 {
     let start = at + front_len(table, o, id, sliced);
     let d = put_data(
         table,
-        forms,
+        shapes,
         out,
         start,
         o,

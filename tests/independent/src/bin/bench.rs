@@ -187,7 +187,7 @@ fn main() {
     let values: Vec<_> = (0..1_024).map(|i| (i, value(i))).collect();
     Case::new("1,024 members", &spec, top, &values).run();
 
-    // The slowest that we know: tags that fall, so that each is compared with all before; a byte behind 253 structs,
+    // The slowest that we know: tags that fall, so that each is compared with all before; a bool behind 253 structs,
     // as often as a message can hold it.
     let mut spec = Spec::default();
     let byte = spec.basic(1);
@@ -196,12 +196,12 @@ fn main() {
     Case::new("1,024 falling tags", &spec, top, &[]).run();
 
     let mut spec = Spec::default();
-    let mut part = spec.basic(1);
+    let mut part = spec.basic(0);
     for _ in 0..253 {
         part = spec.owner(9, &[(part, None)]);
     }
     let parts = spec.row(10, [part, 0, 0, 0, 0]);
     let top = spec.owner(15, &[(parts, None)]);
     let member = spec.members.len() - 1;
-    Case::new("65,525 deep bytes", &spec, top, &[(member, [size(65_525), vec![1; 65_525]].concat())]).run();
+    Case::new("65,525 deep bools", &spec, top, &[(member, [size(65_525), vec![1; 65_525]].concat())]).run();
 }

@@ -1,6 +1,6 @@
 -- The forms by their numbers: bare ones go by their type, the others by VSize or FSize. Assumes nothing.
 use borrow.Author.Needs.{needs}
-use Rattle.level.proofs.Declared.{part-bare, part-own, part-counted, part-sized}
+use Rattle.level.proofs.Declared.{part-run, part-size, part-own, part-counted, part-sized}
 use Rattle.level.proofs.extents.part.Statement.{statement}
 use Rattle.level.proofs.extents.part.Tie as tie
 
@@ -8,12 +8,15 @@ pub part-spec : {M : Type 1} → statement M
 part-spec =
     tie.close
     (tie.spec
-    (λ c κs. search needs)  -- extent-requires
-    (λ c. search part-bare)  -- returns
+    (λ c κs. search needs)  -- run-width-requires
+    (λ c κs. search needs)  -- bare-requires
+    (λ c. search part-run)  -- returns
+    (λ c κs. search needs)  -- sized-requires
+    (λ c. search part-size)  -- returns-2
     (λ c κs. search needs)  -- counted-requires
     (λ c κs. search needs)  -- whole-requires
-    (λ c. search part-own)  -- returns-2
+    (λ c. search part-own)  -- returns-3
     (λ c κs. search needs)  -- counted-requires-2
-    (λ c. search part-counted)  -- returns-3
+    (λ c. search part-counted)  -- returns-4
     (λ c κs. search needs)  -- declared-requires
-    (λ c. search part-sized))  -- returns-4
+    (λ c. search part-sized))  -- returns-5

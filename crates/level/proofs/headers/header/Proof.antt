@@ -16,7 +16,7 @@ header-spec =
     (λ c. search needs)  -- enum-known-found
     (λ c κs. search needs)  -- members-requires
     (λ c κs. search needs)  -- type-of-requires
-    (λ c κs. search needs)  -- form-at-requires
+    (λ c κs. search needs)  -- form-requires
     (λ c κs. search needs)  -- form-bits-requires
     (λ c. search needs)  -- enum-told
     (λ c. search needs)  -- enum-known-f-2

@@ -12,11 +12,11 @@ use Rattle.reader.proofs.walks.list.Statement.{statement}
 use Rattle.reader.proofs.walks.list.Tie as tie
 
 abbrev Inv-loop : tie.InvT-loop
-Inv-loop table forms top m start out₀ n k at₀ count₀ optionals₀ least₀ row₀ out at count optionals least row =
+Inv-loop table shapes top m start out₀ n k at₀ count₀ optionals₀ least₀ row₀ out at count optionals least row =
     (length out ≡ length out₀) × Listing table top m (listing table top m at₀ least₀ count₀ optionals₀ out₀) at least row count optionals out
 
 abbrev μ-loop : tie.MeasureT-loop
-μ-loop table forms top m start out₀ n k at₀ count₀ optionals₀ least₀ row₀ out at count optionals least row = length m - at
+μ-loop table shapes top m start out₀ n k at₀ count₀ optionals₀ least₀ row₀ out at count optionals least row = length m - at
 
 pub list-spec : {M : Type 1} → statement M
 list-spec =
@@ -27,7 +27,7 @@ list-spec =
     (λ c. search needs)  -- sub-required
     (λ c. search needs)  -- part-required-start
     (λ c. search needs)  -- part-required-end
-    (λ c κs. (list-asks (c .before .before .before .before .before .args .m .now) _ (c .before .before .before .before .before .pre .0) (omega arith), omega arith))  -- required-requires
+    (λ c κs. (search needs, (list-asks (c .before .before .before .before .before .args .m .now) _ (c .before .before .before .before .before .pre .0) (omega arith), omega arith)))  -- required-requires
     (λ c. search needs)  -- enum-known-members
     (λ c. list-at _ _ (c .before .before .before .before .before .before .before .before .before .before .before .args .m .now) _ (c .before .before .before .before .before .before .before .before .before .before .before .pre .0) _ (c .before .before .before .before .before .required .ensures .0) _ _ (c .before .members .given .1) (omega arith))  -- add-at
     (λ c κs. search needs)  -- type-row-requires

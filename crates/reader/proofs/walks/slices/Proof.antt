@@ -14,19 +14,19 @@ use Rattle.reader.proofs.walks.slices.Statement.{statement}
 use Rattle.reader.proofs.walks.slices.Tie as tie
 
 abbrev Inv-loop : tie.InvT-loop
-Inv-loop table forms top m start out₀ stage pos count₀ optionals₀ skipped fst t has sliced a e from end n k at₀ least₀ row₀ more₀ out count optionals at least row more =
+Inv-loop table shapes top m start out₀ stage pos count₀ optionals₀ skipped fst t has sliced a e from end n k at₀ least₀ row₀ more₀ out count optionals at least row more =
     (length out ≡ length out₀)
     × Inner table top m (amid table top m (stageOf stage) pos t sliced from end skipped fst at₀ least₀ count₀ optionals₀ more₀ out₀) stage pos t sliced from end skipped fst at least row count optionals more out
 
 abbrev μ-loop : tie.MeasureT-loop
-μ-loop table forms top m start out₀ stage pos count₀ optionals₀ skipped fst t has sliced a e from end n k at₀ least₀ row₀ more₀ out count optionals at least row more = length m - at
+μ-loop table shapes top m start out₀ stage pos count₀ optionals₀ skipped fst t has sliced a e from end n k at₀ least₀ row₀ more₀ out count optionals at least row more = length m - at
 
 abbrev Inv-slices : tie.InvT-slices
-Inv-slices table forms top m start out₀ stage₀ pos₀ count₀ optionals₀ skipped₀ fst₀ out stage pos count optionals skipped fst =
+Inv-slices table shapes top m start out₀ stage₀ pos₀ count₀ optionals₀ skipped₀ fst₀ out stage pos count optionals skipped fst =
     (length out ≡ length out₀) × Outer table top m (left table (seek first) start 0 0 0 0 out₀ (slices table top (drop start m))) stage pos count optionals skipped fst out
 
 abbrev μ-slices : tie.MeasureT-slices
-μ-slices table forms top m start out₀ stage₀ pos₀ count₀ optionals₀ skipped₀ fst₀ out stage pos count optionals skipped fst = length m - pos
+μ-slices table shapes top m start out₀ stage₀ pos₀ count₀ optionals₀ skipped₀ fst₀ out stage pos count optionals skipped fst = length m - pos
 
 pub slices-spec : {M : Type 1} → statement M
 slices-spec =
@@ -52,7 +52,7 @@ slices-spec =
     (λ c. search known-order)  -- sub-required
     (λ c. search (needs, known-order))  -- part-required-start
     (λ c. search (needs, known-within))  -- part-required-end
-    (λ c κs. (asks-place (c .before .before .before .before .before .before .before .slices .inv .1) (c .before .before .before .before .before .opening .ensures) (c .before .before .before .o2 .given .1), asks-count (c .before .before .before .before .before .before .before .slices .inv .1) (c .before .before .before .before .before .opening .ensures) (c .before .before .before .o2 .given .1)))  -- required-requires
+    (λ c κs. (search needs, (asks-place (c .before .before .before .before .before .before .before .slices .inv .1) (c .before .before .before .before .before .opening .ensures) (c .before .before .before .o2 .given .1), asks-count (c .before .before .before .before .before .before .before .slices .inv .1) (c .before .before .before .before .before .opening .ensures) (c .before .before .before .o2 .given .1))))  -- required-requires
     (λ c. search needs)  -- enum-known-members
     (λ c. search (needs, at-fits))  -- add-at
     (λ c κs. search needs)  -- type-row-requires

@@ -3,9 +3,6 @@ use borrow.Author.Needs.{needs}
 use Rattle.value.proofs.PlainLaws.{bool-none, bool-high, bool-whole}
 use Rattle.value.proofs.plain.bool.Statement.{statement}
 use Rattle.value.proofs.plain.bool.Tie as tie
-use Rattle.value.proofs.plain.bool.Reads as reads
-use Rattle.value.proofs.plain.bool.Lts as lts
-use Rattle.wire.proofs.byte_at.Reads as byte-at-reads
 
 pub bool-spec : {M : Type 1} → statement M
 bool-spec =

@@ -3,9 +3,6 @@ use borrow.Author.Needs.{needs}
 use Rattle.value.proofs.PlainLaws.{enum-fits, enum-past, enum-none}
 use Rattle.value.proofs.plain.enumerator.Statement.{statement}
 use Rattle.value.proofs.plain.enumerator.Tie as tie
-use Rattle.value.proofs.plain.enumerator.Reads as reads
-use Rattle.value.proofs.plain.enumerator.Lts as lts
-use Rattle.wire.proofs.read_size.Reads as read-size-reads
 
 pub enumerator-spec : {M : Type 1} → statement M
 enumerator-spec =

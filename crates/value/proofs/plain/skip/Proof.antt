@@ -2,8 +2,6 @@
 use Rattle.value.proofs.PlainLaws.{skip-cut, skip-whole}
 use Rattle.value.proofs.plain.skip.Statement.{statement}
 use Rattle.value.proofs.plain.skip.Tie as tie
-use Rattle.value.proofs.plain.skip.Reads as reads
-use Rattle.value.proofs.plain.skip.Lts as lts
 
 pub skip-spec : {M : Type 1} → statement M
 skip-spec =

@@ -3,9 +3,6 @@ use borrow.Author.Needs.{needs}
 use Rattle.value.proofs.PlainLaws.{text-step}
 use Rattle.value.proofs.plain.text.Statement.{statement}
 use Rattle.value.proofs.plain.text.Tie as tie
-use Rattle.value.proofs.plain.text.Reads as reads
-use Rattle.value.proofs.plain.text.Lts as lts
-use Rattle.wire.proofs.read_string.Reads as read-string-reads
 
 pub text-spec : {M : Type 1} → statement M
 text-spec =

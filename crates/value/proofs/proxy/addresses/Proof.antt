@@ -3,10 +3,6 @@ use borrow.Author.Needs.{needs}
 use Rattle.value.proofs.ProxyLaws.{addresses-text, addresses-list}
 use Rattle.value.proofs.proxy.addresses.Statement.{statement}
 use Rattle.value.proofs.proxy.addresses.Tie as tie
-use Rattle.value.proofs.proxy.addresses.Reads as reads
-use Rattle.value.proofs.proxy.addresses.Lts as lts
-use Rattle.value.proofs.plain.text.Reads as text-reads
-use Rattle.value.proofs.proxy.endpoint_list.Reads as endpoint-list-reads
 
 pub addresses-spec : {M : Type 1} → statement M
 addresses-spec =

@@ -6,9 +6,6 @@ use Rattle.value.proofs.Room.{took-fits, bad-fits}
 use Rattle.value.proofs.ProxyLaws.{endpoint-cut, endpoint-took, endpoint-bad}
 use Rattle.value.proofs.proxy.endpoint.Statement.{statement}
 use Rattle.value.proofs.proxy.endpoint.Tie as tie
-use Rattle.value.proofs.proxy.endpoint.Reads as reads
-use Rattle.value.proofs.proxy.endpoint.Lts as lts
-use Rattle.wire.proofs.read_declared.Reads as read-declared-reads
 
 pub endpoint-spec : {M : Type 1} → statement M
 endpoint-spec =

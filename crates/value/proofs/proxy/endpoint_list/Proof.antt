@@ -9,9 +9,6 @@ use Rattle.encoding.specs.ValueLaws.{held-endpoint}
 use Rattle.value.proofs.Room.{took-fits, bad-fits}
 use Rattle.value.proofs.proxy.endpoint_list.Statement.{statement}
 use Rattle.value.proofs.proxy.endpoint_list.Tie as tie
-use Rattle.value.proofs.proxy.endpoint_list.Reads as reads
-use Rattle.value.proofs.proxy.endpoint_list.Lts as lts
-use Rattle.value.proofs.proxy.endpoint.Reads as endpoint-reads
 
 abbrev Inv-loop : tie.InvT-loop
 Inv-loop s n left₀ at₀ left at = Left s (stepOf (times n endpoint-of s)) (times left endpoint-of) at

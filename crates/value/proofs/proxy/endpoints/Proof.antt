@@ -5,10 +5,6 @@ use Rattle.value.specs.Parts.{addresses as addresses-of}
 use Rattle.value.proofs.ProxyLaws.{held-addresses, size-end, endpoints-took, endpoints-bad, endpoints-none}
 use Rattle.value.proofs.proxy.endpoints.Statement.{statement}
 use Rattle.value.proofs.proxy.endpoints.Tie as tie
-use Rattle.value.proofs.proxy.endpoints.Reads as reads
-use Rattle.value.proofs.proxy.endpoints.Lts as lts
-use Rattle.wire.proofs.read_size.Reads as read-size-reads
-use Rattle.value.proofs.proxy.addresses.Reads as addresses-reads
 
 pub endpoints-spec : {M : Type 1} → statement M
 endpoints-spec =

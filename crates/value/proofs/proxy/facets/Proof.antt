@@ -6,10 +6,6 @@ use Rattle.value.proofs.Room.{took-fits, bad-fits}
 use Rattle.value.proofs.ProxyLaws.{size-end, facets-many, facets-end, facets-took, facets-bad, facets-none}
 use Rattle.value.proofs.proxy.facets.Statement.{statement}
 use Rattle.value.proofs.proxy.facets.Tie as tie
-use Rattle.value.proofs.proxy.facets.Reads as reads
-use Rattle.value.proofs.proxy.facets.Lts as lts
-use Rattle.wire.proofs.read_size.Reads as read-size-reads
-use Rattle.value.proofs.plain.text.Reads as text-reads
 
 pub facets-spec : {M : Type 1} → statement M
 facets-spec =

@@ -3,9 +3,6 @@ use borrow.Author.Needs.{needs}
 use Rattle.value.proofs.ProxyLaws.{name-end, category-took, category-bad, identity-is, identity-less, identity-nil, identity-bad, identity-none}
 use Rattle.value.proofs.proxy.identity.Statement.{statement}
 use Rattle.value.proofs.proxy.identity.Tie as tie
-use Rattle.value.proofs.proxy.identity.Reads as reads
-use Rattle.value.proofs.proxy.identity.Lts as lts
-use Rattle.value.proofs.proxy.name.Reads as name-reads
 
 pub identity-spec : {M : Type 1} → statement M
 identity-spec =

@@ -3,9 +3,6 @@ use borrow.Author.Needs.{needs}
 use Rattle.value.proofs.ProxyLaws.{size-end, name-whole, name-cut, name-bad}
 use Rattle.value.proofs.proxy.name.Statement.{statement}
 use Rattle.value.proofs.proxy.name.Tie as tie
-use Rattle.value.proofs.proxy.name.Reads as reads
-use Rattle.value.proofs.proxy.name.Lts as lts
-use Rattle.wire.proofs.read_size.Reads as read-size-reads
 
 pub name-spec : {M : Type 1} → statement M
 name-spec =

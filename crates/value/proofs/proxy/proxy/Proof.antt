@@ -6,10 +6,6 @@ use Rattle.encoding.specs.ValueLaws.{held-reference}
 use Rattle.value.proofs.ProxyLaws.{identity-end, proxy-nil, proxy-took, proxy-bad, proxy-none}
 use Rattle.value.proofs.proxy.proxy.Statement.{statement}
 use Rattle.value.proofs.proxy.proxy.Tie as tie
-use Rattle.value.proofs.proxy.proxy.Reads as reads
-use Rattle.value.proofs.proxy.proxy.Lts as lts
-use Rattle.value.proofs.proxy.identity.Reads as identity-reads
-use Rattle.value.proofs.proxy.reference.Reads as reference-reads
 
 pub proxy-spec : {M : Type 1} → statement M
 proxy-spec =

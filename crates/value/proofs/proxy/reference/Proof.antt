@@ -7,10 +7,6 @@ use Rattle.wire.specs.StepLaws.{took-held}
 use Rattle.value.proofs.ProxyLaws.{held-facets, held-settings, reference-took, reference-bad, reference-none}
 use Rattle.value.proofs.proxy.reference.Statement.{statement}
 use Rattle.value.proofs.proxy.reference.Tie as tie
-use Rattle.value.proofs.proxy.reference.Reads as reads
-use Rattle.value.proofs.proxy.reference.Lts as lts
-use Rattle.value.proofs.proxy.facets.Reads as facets-reads
-use Rattle.value.proofs.proxy.settings.Reads as settings-reads
 
 pub reference-spec : {M : Type 1} → statement M
 reference-spec =

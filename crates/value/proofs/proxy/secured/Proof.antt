@@ -5,10 +5,6 @@ use Rattle.encoding.specs.Proxy.{endpoints as endpoints-of}
 use Rattle.value.proofs.ProxyLaws.{held-endpoints, secured-none, secured-high, secured-short, secured-took, secured-bad}
 use Rattle.value.proofs.proxy.secured.Statement.{statement}
 use Rattle.value.proofs.proxy.secured.Tie as tie
-use Rattle.value.proofs.proxy.secured.Reads as reads
-use Rattle.value.proofs.proxy.secured.Lts as lts
-use Rattle.wire.proofs.byte_at.Reads as byte-at-reads
-use Rattle.value.proofs.proxy.endpoints.Reads as endpoints-reads
 
 pub secured-spec : {M : Type 1} → statement M
 secured-spec =

@@ -5,10 +5,6 @@ use Rattle.value.specs.Parts.{secured as secured-of}
 use Rattle.value.proofs.ProxyLaws.{held-secured, settings-none, settings-high, settings-took, settings-bad}
 use Rattle.value.proofs.proxy.settings.Statement.{statement}
 use Rattle.value.proofs.proxy.settings.Tie as tie
-use Rattle.value.proofs.proxy.settings.Reads as reads
-use Rattle.value.proofs.proxy.settings.Lts as lts
-use Rattle.wire.proofs.byte_at.Reads as byte-at-reads
-use Rattle.value.proofs.proxy.secured.Reads as secured-reads
 
 pub settings-spec : {M : Type 1} → statement M
 settings-spec =

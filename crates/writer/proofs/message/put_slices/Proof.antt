@@ -9,10 +9,10 @@ use Rattle.writer.proofs.message.put_slices.Statement.{statement}
 use Rattle.writer.proofs.message.put_slices.Tie as tie
 
 abbrev Inv-loop : tie.InvT-loop
-Inv-loop table forms out₀ start t sliced judged count rows buffer at₀ o₀ id₀ i₀ out at o id i = (length out ≡ length out₀) × Slicing table rows buffer judged count t (formatBy sliced) start out₀ at o id i out
+Inv-loop table shapes out₀ start t sliced judged count rows buffer at₀ o₀ id₀ i₀ out at o id i = (length out ≡ length out₀) × Slicing table rows buffer judged count t (formatBy sliced) start out₀ at o id i out
 
 abbrev μ-loop : tie.MeasureT-loop
-μ-loop table forms out₀ start t sliced judged count rows buffer at₀ o₀ id₀ i₀ out at o id i = o
+μ-loop table shapes out₀ start t sliced judged count rows buffer at₀ o₀ id₀ i₀ out at o id i = o
 
 pub put-slices-spec : {M : Type 1} → statement M
 put-slices-spec =
