@@ -1,5 +1,6 @@
 -- The writer's outcome, and the answer made of it. Assumes nothing.
 --
+--   anew-outcome, anew-output                         the outcome and the output of parts taken anew
 --   top-beyond, top-kind                              what 2 judges
 --   format-great, format-list, format-known           what 23 judges
 --   early-top, early-format, early-long, early-none   the judgements between the table's and the rows'
@@ -13,9 +14,9 @@
 use mathlib.Core.Path.{_≡_, refl, sym, ap, _∙_, subst}
 use mathlib.Core.Bool.{Bool, true, false, _&&_}
 use mathlib.Core.List.{List}
-use Prim.Native.Nat.{ℕ, zero, suc, _≤_, _<_}
+use Prim.Native.Nat.{ℕ, zero, suc, _-_, _≤_, _<_}
 use native.Mathlib.Omega.{arith}
-use lib.ListN.{length}
+use lib.ListN.{length, take, drop}
 use lib.Dec.{eqb, leb, ltb}
 use borrow.Author.Tests.{ltb-false, le-leb, lt-leb, le-ltb, lt-ltb, eq-eqb, ne-eqb}
 use Rattle.encoding.specs.Result.{pick, firstOf}
@@ -27,6 +28,7 @@ use Rattle.encoding.specs.MessageLaws.{top-there, length-encapsulate}
 use Rattle.encoding.specs.declared.Writing.{Writing}
 use Rattle.encoding.specs.declared.Writing.the-variants.{Written, Rejected}
 use Rattle.encoding.specs.Write.{Out, out, stop, next, begin, above, judgeAll, noFormat, bounded, tableRules, early, unless, rowsGiven, message, writing, output, writingOf}
+use Rattle.wire.specs.StepLaws.{rest-is}
 use Rattle.table.specs.Checks.{verdictOf}
 use Rattle.table.specs.declared.Verdict.{Verdict}
 use Rattle.table.specs.declared.Verdict.the-variants.{Fine, Broken}
@@ -37,6 +39,22 @@ use Rattle.laws.specs.PlanLaws.{out≢stop}
 use Rattle.laws.specs.MessageWritten.{message-ok, too-long}
 use Rattle.laws.specs.WriteSmall.{Narrow, writing-narrow}
 use Rattle.codec.specs.Tell.{Fits, tells, fitted}
+
+-- ---- parts taken anew
+
+-- a slice from 0 on, as the check names it
+abbrev anew : List ℕ → List ℕ
+anew s = take (length s - 0) (drop 0 s)
+
+module _ (T : List ℕ) (top format count : ℕ) (rows buffer : List ℕ) (n : ℕ) where
+  anew-same : writing (anew T) top format count (anew rows) (anew buffer) n ≡ writing T top format count rows buffer n
+  anew-same = rw (rest-is T 0, rest-is rows 0, rest-is buffer 0)
+
+  pub anew-outcome : (r : Outcome) → r ≡ outcomeOf (writing (anew T) top format count (anew rows) (anew buffer) n) → r ≡ outcomeOf (writing T top format count rows buffer n)
+  anew-outcome r e = e ∙ ap outcomeOf anew-same
+
+  pub anew-output : (lent last : List ℕ) → last ≡ output (writing (anew T) top format count (anew rows) (anew buffer) n) lent → last ≡ output (writing T top format count rows buffer n) lent
+  anew-output lent last e = e ∙ ap (λ (w : Out (List ℕ)). output w lent) anew-same
 
 -- ---- before the rows
 

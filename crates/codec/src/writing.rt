@@ -50,7 +50,7 @@ fn early(table: &[u8], top: usize, format: usize, buffer: &[u8]) -> usize
 }
 
 // The table's rules, then 2, 23 and 3, then the rows.
-pub fn outcome(
+fn judged(
     table: &[u8],
     top: usize,
     format: usize,
@@ -76,6 +76,31 @@ pub fn outcome(
             writer::write_rows(table, &shapes, top, format, count, rows, buffer, out)
         }
     }
+}
+
+// The same of parts taken anew: a part is handed on as two numbers, a slice as it came is copied at once, which takes longer.
+pub fn outcome(
+    table: &[u8],
+    top: usize,
+    format: usize,
+    count: usize,
+    rows: &[u8],
+    buffer: &[u8],
+    out: &mut [u8],
+) -> Outcome
+    requires { ⌜ count < 4294967296 ⌝ }
+    ensures { λ r. ⌜ (r ≡ outcomeOf (writing (now (table .entry)) top format count (now (rows .entry)) (now (buffer .entry)) (length (now (out .entry))))) × Fits r ⌝ }
+    ensures { λ _. ⌜ now (out .exit) ≡ output (writing (now (table .entry)) top format count (now (rows .entry)) (now (buffer .entry)) (length (now (out .entry)))) (now (out .entry)) ⌝ }
+{
+    judged(
+        &table[0..],
+        top,
+        format,
+        count,
+        &rows[0..],
+        &buffer[0..],
+        out,
+    )
 }
 
 // The outcome for an output of `room` bytes, of the one for an output that holds no message.

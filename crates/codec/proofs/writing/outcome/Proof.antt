@@ -1,33 +1,22 @@
--- The table's rules, then the judgements before the rows, then what the rows give. Assumes nothing.
-use native.Mathlib.Omega.{arith}
+-- A part from 0 on is the whole. Assumes nothing.
 use borrow.Author.Needs.{needs}
-use Rattle.codec.proofs.Outcomes.{broken-outcome, broken-fits, broken-output, early-outcome, early-fits, early-output, passed-top, passed-short, rows-outcome, rows-fits, rows-output}
+use Rattle.codec.proofs.Outcomes.{anew-outcome, anew-output}
 use Rattle.codec.proofs.writing.outcome.Statement.{statement}
 use Rattle.codec.proofs.writing.outcome.Tie as tie
-
-returns : tie.Need-returns
-returns c = ((search early-outcome, search early-fits), search early-output)
-
-write-rows-requires : tie.Need-write-rows-requires
-write-rows-requires c κs = (search needs, (search passed-top, omega arith, search passed-short))
-
-returns-2 : tie.Need-returns-2
-returns-2 c = ((search broken-outcome, search broken-fits), search broken-output)
-
-returns-3 : tie.Need-returns-3
-returns-3 c = ((search rows-outcome, search rows-fits), search rows-output)
 
 pub outcome-spec : {M : Type 1} → statement M
 outcome-spec =
     tie.close
     (tie.spec
-    (λ c κs. search needs)  -- check-requires
-    (λ c. search needs)  -- enum-known-v
-    (λ c. search needs)  -- enum-told
-    (λ c κs. search needs)  -- early-requires
-    returns
-    (λ c κs. search needs)  -- fill-requires
-    write-rows-requires
-    returns-2
+    (λ c. search needs)  -- sub-judged
+    (λ c. search needs)  -- part-judged-start
+    (λ c. search needs)  -- part-judged-end
+    (λ c. search needs)  -- sub-judged-2
+    (λ c. search needs)  -- part-judged-start-2
+    (λ c. search needs)  -- part-judged-end-2
+    (λ c. search needs)  -- sub-judged-3
+    (λ c. search needs)  -- part-judged-start-3
+    (λ c. search needs)  -- part-judged-end-3
+    (λ c κs. search needs)  -- judged-requires
     (λ c. search needs)  -- same-length
-    returns-3)
+    (λ c. ((search anew-outcome, search needs), search anew-output)))  -- returns
