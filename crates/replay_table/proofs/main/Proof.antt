@@ -1,7 +1,7 @@
 -- `main` is safe and ends: the measure is the number of turns that are left, and nothing has to hold from turn to turn. Assumes nothing.
 use native.Mathlib.Omega.{arith}
-use Rattle.replay_forms.proofs.main.Statement.{statement}
-use Rattle.replay_forms.proofs.main.Tie as tie
+use Rattle.replay_table.proofs.main.Statement.{statement}
+use Rattle.replay_table.proofs.main.Tie as tie
 
 abbrev Inv-loop : tie.InvT-loop
 Inv-loop turns₀ turns = Unit {0}
