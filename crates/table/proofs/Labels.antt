@@ -114,6 +114,9 @@ module _ (T nm : List ℕ) (t : ℕ) (k : ℕ) (ek : k ≡ kind T t) (b : Bool) 
   pub record-named : (r : Bool) → b ≡ true → r ≡ sameBytes nm (nameOf T t) → r ≡ isNamed T nm t
   record-named r q e = e ∙ sym (ap (λ (z : Bool). z && sameBytes nm (nameOf T t)) (ap isRecord (sym ek) ∙ sym eb ∙ q))
 
+  pub record-short : b ≡ true → (n : ℕ) → n ≡ field T t 4 → n < length nm → false ≡ isNamed T nm t
+  record-short q n e h = record-named false q (same-lengths nm (nameOf T t) (λ l. omega (arith, length-name T t)))
+
   pub record-none : b ≡ false → false ≡ isNamed T nm t
   record-none q = sym (ap (λ (z : Bool). z && sameBytes nm (nameOf T t)) (ap isRecord (sym ek) ∙ sym eb ∙ q))
 

@@ -66,11 +66,14 @@ pub fn is_named(table: &[u8], t: usize, name: &[u8]) -> bool
     same(name, &table[a..e])
 }
 
-// Row t is a record of this name.
+// Row t is a record of this name. A longer name is none of its, whatever its bytes.
 pub fn is_record_named(table: &[u8], t: usize, name: &[u8]) -> bool
     ensures { λ r. ⌜ r ≡ isNamed (now (table .entry)) (now (name .entry)) t ⌝ }
 {
     if crate::is_record(crate::kind(table, t)) {
+        if crate::field(table, t, 4) < name.len() {
+            return false;
+        }
         return is_named(table, t, name);
     }
     false

@@ -1,6 +1,6 @@
--- Both tests in turn. Assumes nothing.
+-- The tests in turn. Assumes nothing.
 use borrow.Author.Needs.{needs}
-use Rattle.table.proofs.Labels.{record-named, record-none}
+use Rattle.table.proofs.Labels.{record-short, record-named, record-none}
 use Rattle.table.proofs.naming.is_record_named.Statement.{statement}
 use Rattle.table.proofs.naming.is_record_named.Tie as tie
 
@@ -10,6 +10,8 @@ is-record-named-spec =
     (tie.spec
     (λ c κs. search needs)  -- kind-requires
     (λ c κs. search needs)  -- is-record-requires
+    (λ c κs. search needs)  -- field-requires
+    (λ c. search record-short)  -- returns
     (λ c κs. search needs)  -- is-named-requires
-    (λ c. search record-named)  -- returns
-    (λ c. search record-none))  -- returns-2
+    (λ c. search record-named)  -- returns-2
+    (λ c. search record-none))  -- returns-3
