@@ -113,13 +113,14 @@ pub fn required(
     ensures { λ _. ⌜ ((ps : List Piece) (n : ℕ) → requireds (required (now (table .entry)) t) (now (s .entry)) ≡ ok ps n → now (out .exit) ≡ fill count (pieceRows (now (table .entry)) t at ps) (now (out .entry))) ⌝ }
 {
     let all = table::members(table);
+    let first = table::member_start(table);
     let owner = table::type_row(table, t);
     let mut m = owner.a;
     let mut left = owner.b;
     let mut pos = 0;
     let mut k = count;
     while left > 0 {
-        let row = table::member_row(table, m);
+        let row = table::member_row_from(table, first, m);
         if row.mark != 0 {
             m += 1;
             left -= 1;

@@ -42,7 +42,7 @@ use Rattle.table.specs.declared.TypeRow.{TypeRow}
 use Rattle.table.specs.declared.MemberRow.{MemberRow}
 use Rattle.table.specs.declared.Verdict.{Verdict}
 use Rattle.table.specs.declared.Verdict.the-variants.{Fine, Broken}
-use Rattle.table.proofs.Places.{row-shows, member-placed}
+use Rattle.table.proofs.Places.{row-shows, members-begin-at, member-placed}
 use Rattle.table.proofs.Ranges.{range-more, range-none, range-left, range-empty, any-here, any-next, any-none, any-never}
 use Rattle.table.proofs.Filling.{by-kind}
 
@@ -744,7 +744,7 @@ module _ (T : List ℕ) (o m left above : ℕ) (inv : Owner T o m left above) wh
 
   module _ (h : 0 < left) (own : TypeRow) (eo : IsTypeRow T o own) (n : ℕ) (en : n ≡ types T) (r : MemberRow) (at : IsMemberAt T (12 + 12 * n + 8 * m) r) (c : ℕ) (e : c ≡ firstOf (memberRulesBy T o own r (isTagAlike T (own .a) m above (r .tag)))) where
     er : IsMemberRow T m r
-    er = member-placed T m n r en at
+    er = member-placed T m (12 + 12 * n) r (members-begin-at T n en) at
 
     owner-row : c ≡ firstOf (memberRulesOf T o m)
     unfolding memberRulesOf

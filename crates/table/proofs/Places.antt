@@ -8,6 +8,7 @@
 --   kind-direct, kind-byte                          a kind read at its place
 --   kind-is .. tag-is                               a field of a row, read from a part that shows the row
 --   field-past                                      a field past the table's end
+--   members-begin-at                                where the member rows begin
 --   member-placed                                   what is read at a member row's place is the member row
 --   rows-few, rows-many                             how many rows have a tree
 --   member-row, no-member                           the row of a member's type
@@ -118,9 +119,13 @@ module _ (T s : List ℕ) (m : ℕ) (shows : Shows T s (memberAt T m) 8) (r : �
   unfolding tag
   tag-is h = h ∙ shows .same 4 4 (omega arith)
 
-pub member-placed : (T : List ℕ) (m n : ℕ) (r : MemberRow) → n ≡ types T → IsMemberAt T (12 + 12 * n + 8 * m) r → IsMemberRow T m r
-unfolding memberType mark tag memberAt membersAt rowAt typesAt
-member-placed T m n r e i = record {
+pub members-begin-at : (T : List ℕ) (n : ℕ) → n ≡ types T → 12 + 12 * n ≡ membersAt T
+unfolding membersAt rowAt typesAt
+members-begin-at T n e = ap (λ (i : ℕ). 12 + 12 * i) e
+
+pub member-placed : (T : List ℕ) (m first : ℕ) (r : MemberRow) → first ≡ membersAt T → IsMemberAt T (first + 8 * m) r → IsMemberRow T m r
+unfolding memberType mark tag memberAt
+member-placed T m first r e i = record {
   of-is = i .of-is ∙ rw e;
   mark-is = i .mark-is ∙ rw e;
   spare-is = i .spare-is ∙ rw e;

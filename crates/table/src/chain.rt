@@ -82,8 +82,9 @@ pub fn tag_member(table: &[u8], t: usize, from: usize, tag: usize) -> FoundMembe
     let row = crate::type_row(table, t);
     let end = row.a + row.b;
     let mut m = later(from, row.a);
+    let first = crate::member_start(table);
     while m < end {
-        let member = crate::member_row(table, m);
+        let member = crate::member_row_from(table, first, m);
         if member.mark != 0 {
             if tag == member.tag {
                 return FoundMember::At(m, member.of);

@@ -9,7 +9,7 @@ pub mod shapes;
 ghost use mathlib.Core.Path.{_≡_};
 ghost use Prim.Native.Nat.{_+_, _*_, _≤_, _<_};
 ghost use lib.ListN.{length, drop};
-ghost use Rattle.encoding.specs.Table.{at, types, members, names, rowAt, memberAt, isRecord, owns, kind, field, memberType, mark, tag, typeRows, trees, tyOf, memberTy};
+ghost use Rattle.encoding.specs.Table.{at, types, members, names, rowAt, membersAt, memberAt, isRecord, owns, kind, field, memberType, mark, tag, typeRows, trees, tyOf, memberTy};
 ghost use Rattle.table.specs.Rows.{IsTypeRow, IsMemberAt, IsMemberRow};
 
 // A row number, if there is one.
@@ -260,20 +260,20 @@ fn member_row_in(table: &[u8], start: usize) -> MemberRow
     }
 }
 
-// Member row m whole. The fields of a row outside are copied, so that the row that is returned is lent to no call.
-pub fn member_row(table: &[u8], m: usize) -> MemberRow
+// Where the member rows begin.
+pub fn member_start(table: &[u8]) -> usize
+    ensures { λ r. ⌜ (r ≡ membersAt (now (table .entry))) × (r < 1048576) ⌝ }
+{
+    12 + 12 * types(table)
+}
+
+// Member row m whole, where the member rows begin at `first`: for a loop, which looks that up once. The fields of a row outside are copied, so that the row that is returned is lent to no call.
+pub fn member_row_from(table: &[u8], first: usize, m: usize) -> MemberRow
+    requires { ⌜ first ≡ membersAt (now table) ⌝ }
+    requires { ⌜ (first < 1048576) × (m < 131072) ⌝ }
     ensures { λ r. ⌜ IsMemberRow (now (table .entry)) m r ⌝ }
 {
-    if 65536 <= m {
-        let far = member_row_outside(table, m);
-        return MemberRow {
-            of: far.of,
-            mark: far.mark,
-            spare: far.spare,
-            tag: far.tag,
-        };
-    }
-    let start = 12 + 12 * types(table) + 8 * m;
+    let start = first + 8 * m;
     if table.len() < start + 8 {
         let cut = member_row_outside(table, m);
         return MemberRow {
@@ -284,6 +284,22 @@ pub fn member_row(table: &[u8], m: usize) -> MemberRow
         };
     }
     member_row_in(table, start)
+}
+
+// Member row m whole.
+pub fn member_row(table: &[u8], m: usize) -> MemberRow
+    ensures { λ r. ⌜ IsMemberRow (now (table .entry)) m r ⌝ }
+{
+    if 131072 <= m {
+        let far = member_row_outside(table, m);
+        return MemberRow {
+            of: far.of,
+            mark: far.mark,
+            spare: far.spare,
+            tag: far.tag,
+        };
+    }
+    member_row_from(table, member_start(table), m)
 }
 
 // Kind k is an exception or a class.

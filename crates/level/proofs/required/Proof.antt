@@ -9,10 +9,10 @@ use Rattle.level.proofs.required.Statement.{statement}
 use Rattle.level.proofs.required.Tie as tie
 
 abbrev Inv-loop : tie.InvT-loop
-Inv-loop table shapes t s at count out₀ all m₀ left₀ pos₀ k₀ out m left pos k = (at + length s < 2 ^ 63) × (count < 2 ^ 63) × Due table t at count s out₀ m left pos k out
+Inv-loop table shapes t s at count out₀ all first m₀ left₀ pos₀ k₀ out m left pos k = (at + length s < 2 ^ 63) × (count < 2 ^ 63) × Due table t at count s out₀ m left pos k out
 
 abbrev μ-loop : tie.MeasureT-loop
-μ-loop table shapes t s at count out₀ all m₀ left₀ pos₀ k₀ out m left pos k = left
+μ-loop table shapes t s at count out₀ all first m₀ left₀ pos₀ k₀ out m left pos k = left
 
 pub required-spec : {M : Type 1} → statement M
 required-spec =
@@ -21,9 +21,10 @@ required-spec =
     Inv-loop
     μ-loop
     (λ c κs. search needs)  -- members-requires
+    (λ c κs. search needs)  -- member-start-requires
     (λ c κs. search needs)  -- type-row-requires
     (λ c. search (needs, due-begin))  -- loop-holds
-    (λ c κs. search needs)  -- member-row-requires
+    (λ c κs. (search needs, (search needs, omega arith)))  -- member-row-from-requires
     (λ c. omega arith)  -- add-m
     (λ c. omega arith)  -- sub-left
     (λ c. omega arith)  -- loop-less

@@ -1,6 +1,5 @@
--- A member row that lies inside is read at its place; any other by the look-ups. Assumes nothing.
+-- By the bound below which no sum of places wraps. Assumes nothing.
 use borrow.Author.Needs.{needs}
-use Rattle.table.proofs.Places.{member-placed}
 use Rattle.table.proofs.member_row.Statement.{statement}
 use Rattle.table.proofs.member_row.Tie as tie
 
@@ -10,13 +9,6 @@ member-row-spec =
     (tie.spec
     (λ c κs. search needs)  -- member-row-outside-requires
     (λ c. search needs)  -- returns
-    (λ c κs. search needs)  -- types-requires
-    (λ c. search needs)  -- mul-start
-    (λ c. search needs)  -- add-start
-    (λ c. search needs)  -- mul-start-2
-    (λ c. search needs)  -- add-start-2
-    (λ c. search needs)  -- add-if2
-    (λ c κs. search needs)  -- member-row-outside-requires-2
-    (λ c. search needs)  -- returns-2
-    (λ c κs. search needs)  -- member-row-in-requires
-    (λ c. search member-placed))  -- returns-3
+    (λ c κs. search needs)  -- member-start-requires
+    (λ c κs. search needs)  -- member-row-from-requires
+    (λ c. search needs))  -- returns-2
