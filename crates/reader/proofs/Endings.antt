@@ -1,6 +1,7 @@
 -- How a walk ends, numbers that stay small, and parts of a message. Assumes nothing.
 --
 --   Ends, ends-..                 an answer and a lent list are those of an outcome
+--   put-keeps                           a list that is written into keeps its length
 --   Small, types-below, field-below     a table is of bytes, so that it has few types and a row names few members
 --   part-on, part-length                what is left of a part of a message
 use mathlib.Core.Path.{_≡_, refl, sym, ap, ap₂, _∙_, subst}
@@ -10,8 +11,12 @@ use native.Mathlib.Nat.{sub-zero}
 use native.Mathlib.Omega.{arith}
 use lib.ListN.{length, take, drop, getD, length-drop}
 use lib.Seq.{take-nil, drop-drop, length-take-le}
+use mir.Syntax.{w8}
+use mir.Val.{Fits}
 use Rattle.encoding.specs.Table.{at as number-at, types, field}
 use Rattle.wire.specs.At.{at-more, at-byte}
+use Rattle.wire.specs.Put.{put}
+use Rattle.wire.specs.PutLaws.{put-length}
 use Rattle.reader.specs.declared.Walk.{Walk}
 use Rattle.reader.specs.declared.Walk.the-variants.{Stop}
 use Rattle.reader.specs.Left.{Outcome, listed, refused, answerOf}
@@ -41,11 +46,15 @@ pub ends-list : {o : Outcome} {v : Walk} {out : List ℕ} → Ends o v out → (
 ends-list accepted w l e = cc
 ends-list stopped w l e = let z : _≡_ {A = ℕ} 0 1 = cc in absurd (omega arith)
 
+-- a list that is written into keeps its length
+pub put-keeps : (at : ℕ) (b l out out′ : List ℕ) → out′ ≡ put at b out → length out ≡ length l → length out′ ≡ length l
+put-keeps at b l out out′ e h = ap length e ∙ put-length at b out ∙ h
+
 -- ---- numbers that stay small
 
 -- a table is of bytes
 abbrev pub Small : List ℕ → Type 0
-Small T = (i : ℕ) → getD T i 0 < 256
+Small T = (i : ℕ) → Fits w8 (getD T i 0)
 
 short-below : (T : List ℕ) → Small T → (i : ℕ) → number-at T 2 i < 65536
 short-below T S i = omega (arith, at-more T 1 i, at-byte T (suc i), S i, S (suc i))

@@ -1,9 +1,10 @@
 -- The walk over a parameter list: what holds at the head of its loop, and what each step makes of it. Assumes nothing.
 --
---   list-says, list-gives      an outcome's answer and list are those of the walk
---   list-refused               a required member is refused
---   listing, Listing           the outcome by the optionals ahead; what holds at the loop's head
+--   list-asks, list-at, list-place    places that fit
+--   told-both                  what is told of one answer is the same
+--   Listing, list-begin        what holds at the loop's head, and that it does at first
 --   listing-..                 what each step makes of it
+--   done-.., stopped-.., refused-..   the answer and the lent list are those of the walk: at the end, where an optional is refused, where a required member is
 use mathlib.Core.Path.{_≡_, refl, sym, ap, ap₂, _∙_}
 use mathlib.Core.Bool.{false}
 use mathlib.Core.Option.{none, some}
@@ -39,11 +40,11 @@ use Rattle.reader.specs.Walks.{listWalk}
 use Rattle.reader.specs.Left.{Outcome, listed, refused, answerOf, optionalsFrom, finish, listClose, listing}
 use Rattle.reader.specs.LeftLaws.{parameters-required, parameters-refused, finish-end, finish-wrong, finish-known, finish-skipped}
 use Rattle.reader.specs.MemberLaws.{required-few, optional-two}
-use Rattle.reader.proofs.Endings.{Ends, ends-refused, ends-listed, ends-answer, ends-list, Small, field-below}
+use Rattle.reader.proofs.Endings.{Ends, ends-same, ends-refused, ends-listed, ends-answer, ends-list, Small, field-below}
 
 -- ---- the whole walk
 
-abbrev pub inList : List ℕ → ℕ → ℕ → List ℕ → Res (List Piece) → Outcome
+abbrev inList : List ℕ → ℕ → ℕ → List ℕ → Res (List Piece) → Outcome
 inList T top at out r = finish T top (listClose top) refused false at 0 0 out r
 
 list-whole : (T : List ℕ) (top at : ℕ) (out : List ℕ) (r : Res (List Piece)) → answerOf (inList T top at out r) ≡ listWalk T top at r
@@ -52,10 +53,10 @@ list-whole T top at out (ok ps n) = ap₂ (λ (i j : ℕ). Done top 1 i j 0 (at 
 list-whole T top at out (bad c p) = refl
 
 module _ (T : List ℕ) (top at : ℕ) (out₀ : List ℕ) (r : Res (List Piece)) (v : Walk) (out : List ℕ) (E : Ends (inList T top at out₀ r) v out) where
-  pub list-says : v ≡ listWalk T top at r
+  list-says : v ≡ listWalk T top at r
   list-says = ends-answer E ∙ list-whole T top at out₀ r
 
-  pub list-gives : (ps : List Piece) (n : ℕ) → r ≡ ok ps n → out ≡ fill 0 (pieceRows T top at ps) out₀
+  list-gives : (ps : List Piece) (n : ℕ) → r ≡ ok ps n → out ≡ fill 0 (pieceRows T top at ps) out₀
   unfolding finish listClose
   list-gives ps n e = ends-list E _ _ (ap (inList T top at out₀) e)
 
@@ -96,22 +97,22 @@ module _ (T : List ℕ) (top : ℕ) (m : List ℕ) (start : ℕ) (h : start ≤ 
   reads : ms ≡ membersOf 0 (requireds (Table.required T top) (drop start m))
   reads = em ∙ ap (λ (l : List ℕ). membersOf 0 (requireds (Table.required T top) l)) (rest-is m start)
 
-  pub list-refused : (c p : ℕ) → ms ≡ Refused c p → (out out′ : List ℕ) → Ends (inList T top start out (parameters T top (drop start m))) (Stop c (start + p)) out′
+  list-refused : (c p : ℕ) → ms ≡ Refused c p → (out out′ : List ℕ) → Ends (inList T top start out (parameters T top (drop start m))) (Stop c (start + p)) out′
   list-refused c p q out out′ =
       ends-refused _ c (start + p) (Stop c (start + p)) out′
       (parameters-refused T top (listClose top) refused (drop start m) c p (members-refused (Table.required T top) 0 (drop start m) ms reads c p q) start 0 0 out) refl
 
-  pub list-place : (c p : ℕ) → ms ≡ Refused c p → length m < 2 ^ 63 → Fits w64 (start + p)
+  pub list-place : (c p : ℕ) → ms ≡ Refused c p → Fits w64 (length m) → Fits w64 (start + p)
   list-place c p q l = omega (arith, refused-within (Table.required T top) 0 (drop start m) ms reads c p q, length-drop start m)
 
   module _ (n j : ℕ) (q : ms ≡ Read n j) where
     list-within : start + n ≤ length m
     list-within = omega (arith, members-within (Table.required T top) 0 (drop start m) ms reads n j q, length-drop start m)
 
-    pub list-at : length m < 2 ^ 63 → Fits w64 (start + n)
+    pub list-at : Fits w64 (length m) → Fits w64 (start + n)
     list-at l = omega (arith, list-within)
 
-    pub list-same : (out out′ : List ℕ) → ((ps : List Piece) (n : ℕ) → requireds (Table.required T top) (take (length m - start) (drop start m)) ≡ ok ps n → out′ ≡ fill 0 (pieceRows T top start ps) out)
+    list-same : (out out′ : List ℕ) → ((ps : List Piece) (n : ℕ) → requireds (Table.required T top) (take (length m - start) (drop start m)) ≡ ok ps n → out′ ≡ fill 0 (pieceRows T top start ps) out)
         → inList T top start out (parameters T top (drop start m)) ≡ listing T top m (start + n) 0 j 0 out′
     unfolding listing
     list-same out out′ fills = go (members-read (Table.required T top) 0 (drop start m) ms reads n j q)
@@ -124,22 +125,28 @@ module _ (T : List ℕ) (top : ℕ) (m : List ℕ) (start : ℕ) (h : start ≤ 
             ∙ ap₂ (λ (i : ℕ) (l : List ℕ). finish T top (listClose top) refused false (start + n) i 0 l (optionalsFrom atEnd (Table.optional T top) 0 (drop n (drop start m)))) (sym (R .2)) (sym (fills (R .0) n e))
             ∙ ap (λ (l : List ℕ). finish T top (listClose top) refused false (start + n) j 0 out′ (optionalsFrom atEnd (Table.optional T top) 0 l)) (drop-drop n start m)
 
-    pub list-in : {row : ℕ} → row ≡ Table.field T top 0 → (out′ : List ℕ) → Small T → length m < 2 ^ 63 → Listing T top m (listing T top m (start + n) 0 j 0 out′) (start + n) 0 row j 0 out′
-    list-in e out′ S l =
-        let R = members-read (Table.required T top) 0 (drop start m) ms reads n j q in
-        record {
-          small = S;
-          room = l;
-          inside = list-within;
-          few = omega (arith, R .2, required-few T top (drop start m) (R .0) n (R .1), field-below T S top 1);
-          fewer = omega arith;
-          passed = rw e (passed-none T top);
-          rest = refl;
-        }
+-- what is told of one answer
+pub told-both : (ms x y : Members) → ms ≡ x → ms ≡ y → x ≡ y
+told-both ms x y e h = sym e ∙ h
+
+-- at the first optional
+pub list-begin : (T : List ℕ) (top : ℕ) (m : List ℕ) (start n j row : ℕ) (out : List ℕ) → Read n j ≡ membersOf 0 (requireds (Table.required T top) (take (length m - start) (drop start m))) → row ≡ Table.field T top 0
+    → start ≤ length m → Small T → length m < 2 ^ 63 → Listing T top m (listing T top m (start + n) 0 j 0 out) (start + n) 0 row j 0 out
+list-begin T top m start n j row out em e h S l =
+    let R = members-read (Table.required T top) 0 (drop start m) (Read n j) (reads T top m start h (Read n j) em) n j refl in
+    record {
+      small = S;
+      room = l;
+      inside = list-within T top m start h (Read n j) em n j refl;
+      few = omega (arith, R .2, required-few T top (drop start m) (R .0) n (R .1), field-below T S top 1);
+      fewer = omega arith;
+      passed = rw e (passed-none T top);
+      rest = refl;
+    }
 
 module _ {T : List ℕ} {top : ℕ} {m : List ℕ} {whole : Outcome} {at least row k o : ℕ} {out : List ℕ} (inv : Listing T top m whole at least row k o out) where
   -- the end of the list
-  pub listing-end : length m ≤ at → Ends whole (Done top 1 k o 0 at) out
+  listing-end : length m ≤ at → Ends whole (Done top 1 k o 0 at) out
   unfolding listing listClose
   listing-end h =
       ends-listed whole (Done top 1 k o 0 at) out
@@ -156,11 +163,14 @@ module _ {T : List ℕ} {top : ℕ} {m : List ℕ} {whole : Outcome} {at least r
       reading : KnownRead (Table.optional T top) least (drop at m) i tag a n
       reading = known-read (Table.optional T top) least (drop at m) r answers i tag a n q
 
-      pub listing-two : 2 ≤ n
+      listing-two : 2 ≤ n
       listing-two = optional-two (Table.optional T top) least (drop at m) _ n (reading .read)
 
-      pub listing-within : at + n ≤ length m
+      listing-within : at + n ≤ length m
       listing-within = omega (arith, known-within (Table.optional T top) least (drop at m) r answers i tag a n q, length-drop at m)
+
+      pub listing-less : length m - (at + n) < length m - at
+      listing-less = omega (arith, listing-two, listing-within)
 
       pub listing-start : a ≤ n
       listing-start = known-start (Table.optional T top) least (drop at m) r answers i tag a n q
@@ -197,11 +207,14 @@ module _ {T : List ℕ} {top : ℕ} {m : List ℕ} {whole : Outcome} {at least r
 
     -- a skipped one
     module _ {tag n : ℕ} (q : r ≡ Skipped tag n) where
-      pub listing-some : 1 ≤ n
+      listing-some : 1 ≤ n
       listing-some = skipped-some (Table.optional T top) least (drop at m) r answers tag n q
 
-      pub listing-past : at + n ≤ length m
+      listing-past : at + n ≤ length m
       listing-past = omega (arith, skipped-within (Table.optional T top) least (drop at m) r answers tag n q, length-drop at m)
+
+      pub listing-past-less : length m - (at + n) < length m - at
+      listing-past-less = omega (arith, listing-some, listing-past)
 
       pub listing-past-fits : Fits w64 (at + n)
       listing-past-fits = omega (arith, inv .room, listing-past)
@@ -232,8 +245,63 @@ module _ {T : List ℕ} {top : ℕ} {m : List ℕ} {whole : Outcome} {at least r
       pub listing-stop : Fits w64 (at + p)
       listing-stop = omega (arith, inv .room, wrong-within (Table.optional T top) least (drop at m) r answers c p q, length-drop at m, inv .inside)
 
-      pub listing-wrong : (out′ : List ℕ) → Ends whole (Stop c (at + p)) out′
+      listing-wrong : (out′ : List ℕ) → Ends whole (Stop c (at + p)) out′
       unfolding listing
       listing-wrong out′ =
           ends-refused whole c (at + p) (Stop c (at + p)) out′
           (inv .rest ∙ finish-wrong T top (listClose top) refused atEnd false least (drop at m) at k o out (not-end m at on) c p (wrong-read (Table.optional T top) least (drop at m) r answers c p q)) refl
+
+-- ---- how the walk ends
+
+-- the answer does not depend on the lent list
+listing-answer : (T : List ℕ) (top : ℕ) (m : List ℕ) (at least k o : ℕ) (out out′ : List ℕ) → answerOf (listing T top m at least k o out) ≡ answerOf (listing T top m at least k o out′)
+unfolding listing finish listClose answerOf
+listing-answer T top m at least k o out out′ = go (optionalsFrom atEnd (Table.optional T top) least (drop at m))
+  where
+    go : (r : Res (List Piece)) → answerOf (finish T top (listClose top) refused false at k o out r) ≡ answerOf (finish T top (listClose top) refused false at k o out′ r)
+    go (ok ps n) = refl
+    go (bad c p) = refl
+
+module _ (T : List ℕ) (top : ℕ) (m : List ℕ) (start n j : ℕ) (mid : List ℕ) (at least row k o : ℕ) (out : List ℕ) (inv : Listing T top m (listing T top m (start + n) 0 j 0 mid) at least row k o out)
+    (h : start ≤ length m) (ms : Members) (em : ms ≡ membersOf 0 (requireds (Table.required T top) (take (length m - start) (drop start m)))) (w : ms ≡ Read n j) where
+  same-answer : answerOf (listing T top m (start + n) 0 j 0 mid) ≡ listWalk T top start (parameters T top (drop start m))
+  same-answer = go (members-read (Table.required T top) 0 (drop start m) ms (reads T top m start h ms em) n j w)
+    where
+      go : (ps : List Piece) × (requireds (Table.required T top) (drop start m) ≡ ok ps n) × (j ≡ 0 + length ps) → answerOf (listing T top m (start + n) 0 j 0 mid) ≡ listWalk T top start (parameters T top (drop start m))
+      go R =
+          listing-answer T top m (start + n) 0 j 0 mid (fill 0 (pieceRows T top start (R .0)) mid)
+          ∙ sym (ap answerOf (list-same T top m start h ms em n j w mid (fill 0 (pieceRows T top start (R .0)) mid) (λ ps i e.
+          let z : ok (R .0) n ≡ ok ps i = sym (ap (requireds (Table.required T top)) (rest-is m start) ∙ R .1) ∙ e in
+          let y : R .0 ≡ ps = cc in ap (λ (l : List Piece). fill 0 (pieceRows T top start l) mid) y)))
+          ∙ list-whole T top start mid (parameters T top (drop start m))
+
+  abbrev Fills : List ℕ → Type 0
+  Fills out₀ = (ps : List Piece) (n : ℕ) → requireds (Table.required T top) (take (length m - start) (drop start m)) ≡ ok ps n → mid ≡ fill 0 (pieceRows T top start ps) out₀
+
+  gives : (out₀ : List ℕ) → Fills out₀ → (v : Walk) → Ends (listing T top m (start + n) 0 j 0 mid) v out → (ps : List Piece) (n : ℕ) → parameters T top (drop start m) ≡ ok ps n → out ≡ fill 0 (pieceRows T top start ps) out₀
+  gives out₀ fills v E = list-gives T top start out₀ (parameters T top (drop start m)) v out (ends-same (list-same T top m start h ms em n j w out₀ mid fills) E)
+
+  -- at the end of the list
+  module _ (over : length m ≤ at) where
+    pub done-says : Done top 1 k o 0 at ≡ listWalk T top start (parameters T top (drop start m))
+    done-says = ends-answer (listing-end inv over) ∙ same-answer
+
+    pub done-gives : (out₀ : List ℕ) → Fills out₀ → (ps : List Piece) (n : ℕ) → parameters T top (drop start m) ≡ ok ps n → out ≡ fill 0 (pieceRows T top start ps) out₀
+    done-gives out₀ fills = gives out₀ fills (Done top 1 k o 0 at) (listing-end inv over)
+
+  -- an optional is refused
+  module _ (on : at < length m) (r : Optional) (e : r ≡ optionalAnswer (optionalFrom T top row) (optionalOf (optionalFrom T top row) least (take (length m - at) (drop at m)))) (c p : ℕ) (q : r ≡ Wrong c p) where
+    pub stopped-says : Stop c (at + p) ≡ listWalk T top start (parameters T top (drop start m))
+    stopped-says = ends-answer (listing-wrong inv on e q out) ∙ same-answer
+
+    pub stopped-gives : (out₀ : List ℕ) → Fills out₀ → (ps : List Piece) (n : ℕ) → parameters T top (drop start m) ≡ ok ps n → out ≡ fill 0 (pieceRows T top start ps) out₀
+    stopped-gives out₀ fills = gives out₀ fills (Stop c (at + p)) (listing-wrong inv on e q out)
+
+-- a required member is refused
+module _ (T : List ℕ) (top : ℕ) (m : List ℕ) (start : ℕ) (h : start ≤ length m) (ms : Members) (em : ms ≡ membersOf 0 (requireds (Table.required T top) (take (length m - start) (drop start m))))
+    (c p : ℕ) (w : ms ≡ Refused c p) where
+  pub refused-says : Stop c (start + p) ≡ listWalk T top start (parameters T top (drop start m))
+  refused-says = list-says T top start m (parameters T top (drop start m)) (Stop c (start + p)) m (list-refused T top m start h ms em c p w m m)
+
+  pub refused-gives : (out out₀ : List ℕ) (ps : List Piece) (n : ℕ) → parameters T top (drop start m) ≡ ok ps n → out ≡ fill 0 (pieceRows T top start ps) out₀
+  refused-gives out out₀ = list-gives T top start out₀ (parameters T top (drop start m)) (Stop c (start + p)) out (list-refused T top m start h ms em c p w out₀ out)

@@ -1,13 +1,12 @@
 -- The loop's invariant: the outcome comes of the optionals ahead. The measure is the bytes left. Assumes nothing.
-use mathlib.Core.Path.{_≡_, refl, ap, _∙_}
+use mathlib.Core.Path.{_≡_, refl}
 use lib.ListN.{length}
 use Prim.Native.Nat.{_-_}
 use native.Mathlib.Omega.{arith}
 use borrow.Author.Needs.{needs}
-use Rattle.wire.specs.PutLaws.{put-length}
 use Rattle.reader.specs.Left.{listing}
-use Rattle.reader.proofs.Endings.{ends-same}
-use Rattle.reader.proofs.Listing.{list-says, list-gives, list-asks, list-refused, list-place, list-at, list-same, list-in, Listing, listing-end, listing-two, listing-within, listing-start, listing-place, listing-fits, listing-count, listing-tag, listing-few, listing-known, listing-some, listing-past, listing-past-fits, listing-skips, listing-past-tag, listing-skipped, listing-stop, listing-wrong}
+use Rattle.reader.proofs.Endings.{put-keeps}
+use Rattle.reader.proofs.Listing.{list-asks, list-at, list-place, list-begin, told-both, Listing, listing-less, listing-start, listing-place, listing-fits, listing-count, listing-tag, listing-few, listing-known, listing-past-less, listing-past-fits, listing-skips, listing-past-tag, listing-skipped, listing-stop, done-says, done-gives, stopped-says, stopped-gives, refused-says, refused-gives}
 use Rattle.reader.proofs.walks.list.Statement.{statement}
 use Rattle.reader.proofs.walks.list.Tie as tie
 
@@ -27,38 +26,38 @@ list-spec =
     (λ c. search needs)  -- sub-required
     (λ c. search needs)  -- part-required-start
     (λ c. search needs)  -- part-required-end
-    (λ c κs. (search needs, (list-asks (c .before .before .before .before .before .args .m .now) _ (c .before .before .before .before .before .pre .0) (omega arith), omega arith)))  -- required-requires
+    (λ c κs. (search needs, (search (needs, list-asks), omega arith)))  -- required-requires
     (λ c. search needs)  -- enum-known-members
-    (λ c. list-at _ _ (c .before .before .before .before .before .before .before .before .before .before .before .args .m .now) _ (c .before .before .before .before .before .before .before .before .before .before .before .pre .0) _ (c .before .before .before .before .before .required .ensures .0) _ _ (c .before .members .given .1) (omega arith))  -- add-at
+    (λ c. search (needs, list-at))  -- add-at
     (λ c κs. search needs)  -- type-row-requires
-    (λ c. (refl, list-in _ _ _ _ (c .before .before .before .before .before .before .before .before .before .before .before .before .pre .0) _ (c .before .before .before .before .before .before .required .ensures .0) _ _ (c .before .before .members .given .1) (c .type-row .ensures .a-is) _ (λ i. omega (arith, c .before .before .before .before .before .before .before .before .before .before .before .shared-slice-known .given i)) (omega arith)))  -- loop-holds
+    (λ c. (refl, list-begin _ _ _ _ _ _ _ _ (search told-both) (search) (search needs) (search) (omega arith)))  -- loop-holds
     (λ c. omega arith)  -- sub-optional
     (λ c. search needs)  -- part-optional-start
     (λ c. search needs)  -- part-optional-end
     (λ c κs. search needs)  -- optional-requires
     (λ c. search needs)  -- enum-known-o
-    (λ c. listing-place (c .before .before .before .before .before .before .before .loop .inv .1) (c .before .before .before .before .before .before .loop-test .taken) (c .before .before .before .before .optional .ensures) (c .before .before .o .given .1))  -- add-put-row
-    (λ c. listing-start (c .before .before .before .before .before .before .before .loop .inv .1) (c .before .before .before .before .before .before .loop-test .taken) (c .before .before .before .before .optional .ensures) (c .before .before .o .given .1))  -- sub-put-row
+    (λ c. search listing-place)  -- add-put-row
+    (λ c. search listing-start)  -- sub-put-row
     (λ c κs. search needs)  -- put-row-requires
-    (λ c. listing-count (c .before .before .before .before .before .before .before .before .before .before .loop .inv .1) (c .before .before .before .before .before .before .before .before .before .loop-test .taken) (c .before .before .before .before .before .before .before .optional .ensures) (c .before .before .before .before .before .o .given .1))  -- add-count
-    (λ c. listing-fits (c .before .before .before .before .before .before .before .before .before .before .loop .inv .1) (c .before .before .before .before .before .before .before .before .before .loop-test .taken) (c .before .before .before .before .before .before .before .optional .ensures) (c .before .before .before .before .before .o .given .1))  -- add-at-2
-    (λ c. listing-tag (c .before .before .before .before .before .before .before .before .before .before .loop .inv .1) (c .before .before .before .before .before .before .before .before .before .loop-test .taken) (c .before .before .before .before .before .before .before .optional .ensures) (c .before .before .before .before .before .o .given .1))  -- add-least
-    (λ c κs. listing-few (c .before .before .before .before .before .before .before .before .before .before .loop .inv .1) (c .before .before .before .before .before .before .before .before .before .loop-test .taken) (c .before .before .before .before .before .before .before .optional .ensures) (c .before .before .before .before .before .o .given .1))  -- behind-requires
-    (λ c. omega (arith, listing-two (c .before .before .before .before .before .before .before .before .before .before .before .loop .inv .1) (c .before .before .before .before .before .before .before .before .before .before .loop-test .taken) (c .before .before .before .before .before .before .before .before .optional .ensures) (c .before .before .before .before .before .before .o .given .1), listing-within (c .before .before .before .before .before .before .before .before .before .before .before .loop .inv .1) (c .before .before .before .before .before .before .before .before .before .before .loop-test .taken) (c .before .before .before .before .before .before .before .before .optional .ensures) (c .before .before .before .before .before .before .o .given .1)))  -- loop-less
-    (λ c. (ap length (c .before .before .before .put-row .ensures) ∙ put-length _ _ _ ∙ c .before .before .before .before .before .before .before .before .before .before .before .loop .inv .0, listing-known (c .before .before .before .before .before .before .before .before .before .before .before .loop .inv .1) (c .before .before .before .before .before .before .before .before .before .before .loop-test .taken) (c .before .before .before .before .before .before .before .before .optional .ensures) (c .before .before .before .before .before .before .o .given .1) (c .before .before .before .put-row .ensures) (c .behind .ensures)))  -- loop-again
+    (λ c. search listing-count)  -- add-count
+    (λ c. search listing-fits)  -- add-at-2
+    (λ c. search listing-tag)  -- add-least
+    (λ c κs. search listing-few)  -- behind-requires
+    (λ c. search listing-less)  -- loop-less
+    (λ c. (search put-keeps, search listing-known))  -- loop-again
     (λ c. search needs)  -- enum-known-o-2
-    (λ c. listing-skips (c .before .before .before .before .before .before .loop .inv .1) (c .before .before .before .before .before .loop-test .taken) (c .before .before .before .optional .ensures) (c .before .o2 .given .1))  -- add-optionals
-    (λ c. listing-past-fits (c .before .before .before .before .before .before .loop .inv .1) (c .before .before .before .before .before .loop-test .taken) (c .before .before .before .optional .ensures) (c .before .o2 .given .1))  -- add-at-3
-    (λ c. listing-past-tag (c .before .before .before .before .before .before .loop .inv .1) (c .before .before .before .before .before .loop-test .taken) (c .before .before .before .optional .ensures) (c .before .o2 .given .1))  -- add-least-2
-    (λ c. omega (arith, listing-some (c .before .before .before .before .before .before .loop .inv .1) (c .before .before .before .before .before .loop-test .taken) (c .before .before .before .optional .ensures) (c .before .o2 .given .1), listing-past (c .before .before .before .before .before .before .loop .inv .1) (c .before .before .before .before .before .loop-test .taken) (c .before .before .before .optional .ensures) (c .before .o2 .given .1)))  -- loop-less-2
-    (λ c. (c .before .before .before .before .before .before .loop .inv .0, listing-skipped (c .before .before .before .before .before .before .loop .inv .1) (c .before .before .before .before .before .loop-test .taken) (c .before .before .before .optional .ensures) (c .before .o2 .given .1)))  -- loop-again-2
+    (λ c. search listing-skips)  -- add-optionals
+    (λ c. search listing-past-fits)  -- add-at-3
+    (λ c. search listing-past-tag)  -- add-least-2
+    (λ c. search listing-past-less)  -- loop-less-2
+    (λ c. (search needs, search listing-skipped))  -- loop-again-2
     (λ c. search needs)  -- enum-known-o-3
-    (λ c. listing-stop (c .before .before .before .before .before .before .loop .inv .1) (c .before .before .before .before .before .loop-test .taken) (c .before .before .before .optional .ensures) (c .before .o3 .given .1))  -- add-t44
-    (λ c. (c .before .before .before .before .before .before .loop .inv .0 ∙ c .before .before .before .before .before .before .before .before .before .before .before .before .before .required .ensures .1 .0))  -- same-length
-    (λ c. let E = ends-same (list-same _ _ _ _ (c .before .before .before .before .before .before .before .before .before .before .before .before .before .before .before .before .before .before .before .pre .0) _ (c .before .before .before .before .before .before .before .before .before .before .before .before .before .required .ensures .0) _ _ (c .before .before .before .before .before .before .before .before .before .members .given .1) _ _ (c .before .before .before .before .before .before .before .before .before .before .before .before .before .required .ensures .1 .1)) (listing-wrong (c .before .before .before .before .before .before .loop .inv .1) (c .before .before .before .before .before .loop-test .taken) (c .before .before .before .optional .ensures) (c .before .o3 .given .1) _) in (list-says _ _ _ _ _ _ _ E, ((c .before .before .before .before .before .before .loop .inv .0 ∙ c .before .before .before .before .before .before .before .before .before .before .before .before .before .required .ensures .1 .0), list-gives _ _ _ _ _ _ _ E)))  -- returns
+    (λ c. search listing-stop)  -- add-t44
+    (λ c. search needs)  -- same-length
+    (λ c. (search stopped-says, (search needs, search stopped-gives)))  -- returns
     (λ c. search needs)  -- enum-known-members-2
-    (λ c. list-place _ _ (c .before .before .before .before .before .before .before .before .before .before .before .args .m .now) _ (c .before .before .before .before .before .before .before .before .before .before .before .pre .0) _ (c .before .before .before .before .before .required .ensures .0) _ _ (c .before .members2 .given .1) (omega arith))  -- add-t45
-    (λ c. (c .before .loop .inv .0 ∙ c .before .before .before .before .before .before .before .before .required .ensures .1 .0))  -- same-length-2
-    (λ c. let E = ends-same (list-same _ _ _ _ (c .before .before .before .before .before .before .before .before .before .before .before .before .before .before .pre .0) _ (c .before .before .before .before .before .before .before .before .required .ensures .0) _ _ (c .before .before .before .before .members .given .1) _ _ (c .before .before .before .before .before .before .before .before .required .ensures .1 .1)) (listing-end (c .before .loop .inv .1) (c .loop-test .left)) in (list-says _ _ _ _ _ _ _ E, ((c .before .loop .inv .0 ∙ c .before .before .before .before .before .before .before .before .required .ensures .1 .0), list-gives _ _ _ _ _ _ _ E)))  -- returns-2
-    (λ c. (c .before .before .before .before .before .required .ensures .1 .0))  -- same-length-3
-    (λ c. let E = list-refused _ _ _ _ (c .before .before .before .before .before .before .before .before .before .before .before .pre .0) _ (c .before .before .before .before .before .required .ensures .0) _ _ (c .before .members2 .given .1) _ _ in (list-says _ _ _ _ _ _ _ E, ((c .before .before .before .before .before .required .ensures .1 .0), list-gives _ _ _ _ _ _ _ E))))  -- returns-3
+    (λ c. search (needs, list-place))  -- add-t45
+    (λ c. search needs)  -- same-length-2
+    (λ c. (search done-says, (search needs, search done-gives)))  -- returns-2
+    (λ c. search needs)  -- same-length-3
+    (λ c. (search refused-says, (search needs, search refused-gives))))  -- returns-3

@@ -36,7 +36,7 @@ slices-spec =
     μ-loop
     Inv-slices
     μ-slices
-    (λ c. (refl, outer-begin _ _ _ _ _ (λ i. omega (arith, c .before .before .shared-slice-known .given i)) (omega arith) (c .before .before .before .pre .0)))  -- slices-holds
+    (λ c. (refl, outer-begin _ _ _ _ _ (search) (omega arith) (search needs)))  -- slices-holds
     (λ c. omega arith)  -- sub-opening
     (λ c. search needs)  -- part-opening-start
     (λ c. search needs)  -- part-opening-end
