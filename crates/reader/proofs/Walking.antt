@@ -4,6 +4,7 @@
 --   credit                  how many owners may still come
 --   Outer, outer-..         at the head of the loop over slices
 --   Inner, inner-..         at the head of the loop over optionals
+--   wrong-.., refused-.., stopped-.., over-..   the answer and the lent list are those of the walk: where a slice is refused before its data, a required member, an optional, and where bytes are left over
 use mathlib.Core.Path.{_≡_, refl, sym, ap, ap₂, _∙_}
 use mathlib.Core.Bool.{Bool, true, false, _&&_, not}
 use mathlib.Core.Option.{none, some}
@@ -56,7 +57,7 @@ use Rattle.reader.specs.LeftLaws.{left-whole, left-listed, left-refused,
 use Rattle.reader.specs.OpeningLaws.{Opened, Skipped, opening-wrong, opening-place, opening-skip, opening-known, opened-eats, opened-sized, row-below, row-base, passed-never}
 use Rattle.reader.specs.MemberLaws.{required-few, optional-two, mark-byte}
 use Rattle.reader.specs.TurnLaws.{turn-end, turn-known, turn-skipped, Early, turn-wrong, turn-place, passed-turn}
-use Rattle.reader.proofs.Endings.{Ends, ends-refused, ends-listed, ends-answer, ends-list, Small, types-below, field-below, part-on, part-length}
+use Rattle.reader.proofs.Endings.{Ends, ends-same, ends-refused, ends-listed, ends-answer, ends-list, Small, types-below, field-below, part-on, part-length}
 
 -- ---- the whole walk
 
@@ -112,7 +113,7 @@ module _ {T : List ℕ} {top : ℕ} {m : List ℕ} {whole : Outcome} {stage : St
   opens = e ∙ ap (opening T top (stageOf stage)) (rest-is m pos)
 
   -- a refusal before the data
-  pub outer-wrong : {c p : ℕ} → r ≡ WrongSlice c p → {v : Walk} → v ≡ answerOf (recalling pos c (pos + p)) → Ends whole v out
+  outer-wrong : {c p : ℕ} → r ≡ WrongSlice c p → {v : Walk} → v ≡ answerOf (recalling pos c (pos + p)) → Ends whole v out
   unfolding answerOf recalling
   outer-wrong {c} {p} q {v} h =
       ends-refused whole c (recallTo c pos (pos + p)) v out
@@ -126,11 +127,14 @@ module _ {T : List ℕ} {top : ℕ} {m : List ℕ} {whole : Outcome} {stage : St
     skipped : Skipped T top (stageOf stage) (drop pos m) n
     skipped = opening-skip T top (stageOf stage) (drop pos m) r opens n q
 
-    pub skip-some : 1 ≤ n
+    skip-some : 1 ≤ n
     skip-some = eats-slice T top (stageOf stage) (drop pos m) _ n (skipped .read)
 
-    pub skip-within : pos + n ≤ length m
+    skip-within : pos + n ≤ length m
     skip-within = omega (arith, held-took (slice T top (stageOf stage)) (held-slice T top (stageOf stage)) (drop pos m) (skipped .read), length-drop pos m, inv .inside)
+
+    pub skip-less : length m - (pos + n) < length m - pos
+    skip-less = omega (arith, skip-some, skip-within)
 
     pub skip-fits : Fits w64 (pos + n)
     skip-fits = omega (arith, inv .room, skip-within)
@@ -209,7 +213,7 @@ module _ {T : List ℕ} {top : ℕ} {m : List ℕ} {whole : Outcome} {stage : St
         ∙ ap (λ (l : List ℕ). finish T t close (recalling pos) false (pos + a) k o out (fields T t opt l)) same-part
 
     module _ {ms : Members} (em : ms ≡ membersOf k (requireds (Table.required T t) part)) where
-      pub known-refused : {c p : ℕ} → ms ≡ Refused c p → {v : Walk} → v ≡ answerOf (recalling pos c (pos + a + p)) → (out′ : List ℕ) → Ends whole v out′
+      known-refused : {c p : ℕ} → ms ≡ Refused c p → {v : Walk} → v ≡ answerOf (recalling pos c (pos + a + p)) → (out′ : List ℕ) → Ends whole v out′
       unfolding answerOf recalling
       known-refused {c} {p} w {v} h out′ =
           ends-refused whole c (recallTo c pos (pos + a + p)) v out′
@@ -220,7 +224,7 @@ module _ {T : List ℕ} {top : ℕ} {m : List ℕ} {whole : Outcome} {stage : St
           omega (arith, inv .room, refused-within (Table.required T t) k part ms em c p w, part-length m (pos + a) (pos + b) known-order known-within, known-order, known-within)
 
       module _ {n j : ℕ} (w : ms ≡ Read n j) where
-        pub at-within : pos + a + n ≤ pos + b
+        at-within : pos + a + n ≤ pos + b
         at-within = omega (arith, members-within (Table.required T t) k part ms em n j w, part-length m (pos + a) (pos + b) known-order known-within, known-order)
 
         pub at-fits : Fits w64 (pos + a + n)
@@ -282,8 +286,11 @@ module _ {T : List ℕ} {top : ℕ} {m : List ℕ} {whole : Outcome} {stage : St
 
     -- the end marker
     module _ (q : r ≡ End) where
-      pub end-within : at + 1 ≤ end
+      end-within : at + 1 ≤ end
       end-within = omega (arith, mark-byte part-in 1 (turn-end (Table.optional T t) least part-in r turns q .0) .1, long)
+
+      pub end-less : length m - (at + 1) < length m - at
+      end-less = omega (arith, end-within, inv .within)
 
       pub end-mark-fits : Fits w64 (at + 1)
       end-mark-fits = omega (arith, inv .room, end-within, inv .within)
@@ -311,11 +318,14 @@ module _ {T : List ℕ} {top : ℕ} {m : List ℕ} {whole : Outcome} {stage : St
       known-told : (atMark part-in ≡ none) × KnownRead (Table.optional T t) least part-in i tag a n
       known-told = turn-known (Table.optional T t) least part-in r turns i tag a n q
 
-      pub known-two : 2 ≤ n
+      known-two : 2 ≤ n
       known-two = optional-two (Table.optional T t) least part-in _ n (known-told .1 .read)
 
-      pub known-ends : at + n ≤ end
+      known-ends : at + n ≤ end
       known-ends = omega (arith, held-took (optionalOf (Table.optional T t) least) (held-optional (Table.optional T t) least) part-in (known-told .1 .read), long, inv .inside)
+
+      pub known-less : length m - (at + n) < length m - at
+      known-less = omega (arith, known-two, known-ends, inv .within)
 
       pub known-starts : a ≤ n
       known-starts = omega (arith, known-told .1 .sum)
@@ -359,11 +369,14 @@ module _ {T : List ℕ} {top : ℕ} {m : List ℕ} {whole : Outcome} {stage : St
       skipped-told : (atMark part-in ≡ none) × SkippedRead (Table.optional T t) least part-in tag n
       skipped-told = turn-skipped (Table.optional T t) least part-in r turns tag n q
 
-      pub skipped-some : 1 ≤ n
+      skipped-some : 1 ≤ n
       skipped-some = eats-optional (Table.optional T t) least part-in _ n (skipped-told .1 .read)
 
-      pub skipped-ends : at + n ≤ end
+      skipped-ends : at + n ≤ end
       skipped-ends = omega (arith, held-took (optionalOf (Table.optional T t) least) (held-optional (Table.optional T t) least) part-in (skipped-told .1 .read), long, inv .inside)
+
+      pub skipped-less : length m - (at + n) < length m - at
+      skipped-less = omega (arith, skipped-some, skipped-ends, inv .within)
 
       pub skipped-fits : Fits w64 (at + n)
       skipped-fits = omega (arith, inv .room, skipped-ends, inv .within)
@@ -397,7 +410,7 @@ module _ {T : List ℕ} {top : ℕ} {m : List ℕ} {whole : Outcome} {stage : St
       pub stop-fits : Fits w64 (at + p)
       stop-fits = omega (arith, inv .room, turn-place (Table.optional T t) least part-in r turns c p q, long, inv .inside, inv .within)
 
-      pub inner-wrong : {v : Walk} → v ≡ answerOf (recalling pos c (at + p)) → Ends whole v out
+      inner-wrong : {v : Walk} → v ≡ answerOf (recalling pos c (at + p)) → Ends whole v out
       unfolding answerOf recalling recallTo
       inner-wrong {v} h = go (turn-wrong (Table.optional T t) least part-in r turns c p q)
         where
@@ -414,10 +427,7 @@ module _ {T : List ℕ} {top : ℕ} {m : List ℕ} {whole : Outcome} {stage : St
     behind = inv .rest ∙ rw enough
 
     module _ (over : b ≡ true) where
-      pub size-place : 4 ≤ from
-      size-place = inv .sized (both-true z (not (eqb at end)) (sym eb ∙ over) .0)
-
-      pub inner-over : Ends whole (Stop 11 (from - 4)) out
+      inner-over : Ends whole (Stop 11 (from - 4)) out
       unfolding closing
       inner-over = ends-refused whole 11 (from - 4) (Stop 11 (from - 4)) out (behind ∙ rw (sym eb ∙ over)) refl
 
@@ -451,6 +461,10 @@ module _ {T : List ℕ} {top : ℕ} {m : List ℕ} {whole : Outcome} {stage : St
           go zero n = absurd (n refl)
           go (suc i) n = refl
 
+-- the length of a slice with bytes left over stands before its data
+pub size-place : (z : Bool) (from at end : ℕ) → (z ≡ true → 4 ≤ from) → (b : Bool) → b ≡ z && not (eqb at end) → b ≡ true → 4 ≤ from
+size-place z from at end f b eb over = f (both-true z (not (eqb at end)) (sym eb ∙ over) .0)
+
 -- an outcome by another name
 pub outer-join : {T : List ℕ} {top : ℕ} {m : List ℕ} {whole other : Outcome} {stage : Stage} {pos k o s fst : ℕ} {out : List ℕ}
     → whole ≡ other → Outer T top m other stage pos k o s fst out → Outer T top m whole stage pos k o s fst out
@@ -464,3 +478,57 @@ outer-join e inv = record {
   on = inv .on;
   rest = e ∙ inv .rest;
 }
+
+-- ---- how the walk ends
+
+-- a slice is refused before its data
+module _ (T : List ℕ) (top : ℕ) (m : List ℕ) (start : ℕ) (out₀ : List ℕ) (stage : Stage) (pos k o s fst : ℕ) (out : List ℕ)
+    (inv : Outer T top m (left T (seek first) start 0 0 0 0 out₀ (slices T top (drop start m))) stage pos k o s fst out)
+    (r : Opening) (e : r ≡ opening T top (stageOf stage) (take (length m - pos) (drop pos m))) where
+  module _ (c p : ℕ) (q : r ≡ WrongSlice c p) (v : Walk) (h : v ≡ answerOf (recalling pos c (pos + p))) where
+    pub wrong-says : v ≡ sliceWalk T start (slices T top (drop start m))
+    wrong-says = ends-says T start out₀ (slices T top (drop start m)) v out (outer-wrong inv e q h)
+
+    pub wrong-gives : (c : Chain) (n : ℕ) → slices T top (drop start m) ≡ ok c n → out ≡ fill 0 (chainRows T start c) out₀
+    wrong-gives = ends-gives T start out₀ (slices T top (drop start m)) v out (outer-wrong inv e q h)
+
+  module _ (t : ℕ) (opt z : Bool) (a b : ℕ) (q : r ≡ KnownSlice t opt z a b) (ms : Members) (em : ms ≡ membersOf k (requireds (Table.required T t) (take (pos + b - (pos + a)) (drop (pos + a) m)))) where
+    -- a required member is refused
+    module _ (c p : ℕ) (w : ms ≡ Refused c p) (v : Walk) (h : v ≡ answerOf (recalling pos c (pos + a + p))) where
+      pub refused-says : v ≡ sliceWalk T start (slices T top (drop start m))
+      refused-says = ends-says T start out₀ (slices T top (drop start m)) v out (known-refused inv e q em w h out)
+
+      pub refused-gives : (out′ : List ℕ) (c : Chain) (n : ℕ) → slices T top (drop start m) ≡ ok c n → out′ ≡ fill 0 (chainRows T start c) out₀
+      refused-gives out′ = ends-gives T start out₀ (slices T top (drop start m)) v out′ (known-refused inv e q em w h out′)
+
+    -- the members behind the required ones decide
+    pub outer-answer : (n j : ℕ) → ms ≡ Read n j → (out′ : List ℕ)
+        → ((ps : List Piece) (n : ℕ) → requireds (Table.required T t) (take (pos + b - (pos + a)) (drop (pos + a) m)) ≡ ok ps n → out′ ≡ fill k (pieceRows T t (pos + a) ps) out)
+        → sliceWalk T start (slices T top (drop start m)) ≡ answerOf (amid T top m (stageOf stage) pos t z (pos + a) (pos + b) s fst (pos + a + n) 0 j o opt out′)
+    outer-answer n j w out′ fills = sym (left-whole T start out₀ (slices T top (drop start m))) ∙ ap answerOf (outer-same inv e q em w fills)
+
+-- a walk that stops accepts nothing
+stop-never : (T : List ℕ) (start : ℕ) (r : Res Chain) (c p : ℕ) → Stop c p ≡ sliceWalk T start r → (x : Chain) (n : ℕ) → r ≡ ok x n → (out l : List ℕ) → out ≡ l
+unfolding sliceWalk
+stop-never T start (ok y i) c p h x n e out l = let z : _≡_ {A = ℕ} 0 1 = cc in absurd (omega arith)
+stop-never T start (bad d q) c p h x n e out l = let z : _≡_ {A = ℕ} 0 1 = cc in absurd (omega arith)
+
+module _ (T : List ℕ) (top : ℕ) (m : List ℕ) (start : ℕ) (whole : Outcome) (stage : Stage) (pos t : ℕ) (z : Bool) (from end s fst : ℕ) (at least row k o : ℕ) (more : Bool) (out : List ℕ)
+    (inv : Inner T top m whole stage pos t z from end s fst at least row k o more out) (answer : sliceWalk T start (slices T top (drop start m)) ≡ answerOf whole) where
+  -- an optional is refused
+  module _ (go-on : more ≡ true) (r : Turn) (e : r ≡ turnOf (optionalFrom T t row) least (take (end - at) (drop at m))) (c p : ℕ) (q : r ≡ Wrong c p) (v : Walk) (h : v ≡ answerOf (recalling pos c (at + p))) where
+    pub stopped-says : v ≡ sliceWalk T start (slices T top (drop start m))
+    stopped-says = ends-answer (inner-wrong inv go-on e q h) ∙ sym answer
+
+    pub stopped-gives : (out₀ : List ℕ) (x : Chain) (n : ℕ) → slices T top (drop start m) ≡ ok x n → out ≡ fill 0 (chainRows T start x) out₀
+    unfolding answerOf recalling
+    stopped-gives out₀ x n f = stop-never T start (slices T top (drop start m)) c (recallTo c pos (at + p)) (sym h ∙ stopped-says) x n f out _
+
+  module _ (enough : more ≡ false) (b : Bool) (eb : b ≡ z && not (eqb at end)) where
+    -- bytes are left over
+    module _ (over : b ≡ true) where
+      pub over-says : Stop 11 (from - 4) ≡ sliceWalk T start (slices T top (drop start m))
+      over-says = ends-answer (inner-over inv enough eb over) ∙ sym answer
+
+      pub over-gives : (out₀ : List ℕ) (x : Chain) (n : ℕ) → slices T top (drop start m) ≡ ok x n → out ≡ fill 0 (chainRows T start x) out₀
+      over-gives out₀ x n f = stop-never T start (slices T top (drop start m)) 11 (from - 4) over-says x n f out _
