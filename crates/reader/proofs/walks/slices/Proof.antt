@@ -1,5 +1,5 @@
 -- The loops' invariants: the outcome comes of the slices ahead, and inside a slice of the optionals ahead. Each measure is the bytes left. Assumes nothing.
-use mathlib.Core.Path.{_≡_, refl}
+use mathlib.Core.Path.{_≡_, refl, _∙_}
 use lib.ListN.{length, drop}
 use Prim.Native.Nat.{_-_}
 use native.Mathlib.Omega.{arith}
@@ -31,10 +31,22 @@ abbrev μ-slices : tie.MeasureT-slices
 μ-slices table shapes top m start out₀ stage₀ pos₀ count₀ optionals₀ skipped₀ fst₀ out stage pos count optionals skipped fst = length m - pos
 
 loop-holds : tie.Need-loop-holds Inv-loop μ-loop Inv-slices μ-slices
-loop-holds c = (refl, search (outer-answer, c .before .before .before .before .before .before .before .before .before .before .before .before .before .before .slices .inv .1, c .before .before .before .before .before .before .before .before .before .before .before .before .opening .ensures, c .before .before .before .before .before .before .before .before .before .before .o2 .given .1), search (outer-in, c .before .before .before .before .before .before .before .before .before .before .before .before .before .before .slices .inv .1, c .before .before .before .before .before .before .before .before .before .before .before .before .opening .ensures, c .before .before .before .before .before .before .before .before .before .before .o2 .given .1))
+loop-holds c =
+    let K = c .before .before .before .before .before .before .before .before .before .before .o2 .given .1 in
+    let O = c .before .before .before .before .before .before .before .before .before .before .before .before .opening .ensures in
+    let I = c .before .before .before .before .before .before .before .before .before .before .before .before .before .before .slices .inv .1 in
+    (refl, search (outer-answer, I, O, K), search (outer-in, I, O, K))
 
 slices-again-2 : tie.Need-slices-again-2 Inv-loop μ-loop Inv-slices μ-slices
-slices-again-2 c = (search (needs, c .before .before .before .before .before .before .before .before .before .before .before .before .before .before .before .before .before .before .before .before .before .slices), outer-join (outer-same (c .before .before .before .before .before .before .before .before .before .before .before .before .before .before .before .before .before .before .before .before .before .slices .inv .1) (c .before .before .before .before .before .before .before .before .before .before .before .before .before .before .before .before .before .before .before .opening .ensures) (c .before .before .before .before .before .before .before .before .before .before .before .before .before .before .before .before .before .o2 .given .1) (c .before .before .before .before .before .before .before .before .before .before .before .before .before .required .ensures .0) (c .before .before .before .before .before .before .before .before .before .members .given .1) (c .before .before .before .before .before .before .before .before .before .before .before .before .before .required .ensures .1 .1)) (inner-out (c .before .before .before .before .before .before .loop .inv .2) (c .before .before .before .before .before .loop-test .left) (c .before .before .before .before .left-over .ensures) (c .before .before .before .if1 .left) (c .before .before .first-of .ensures) (c .before .base .ensures .0) (c .if2 .left)))
+slices-again-2 c =
+    let inner = c .before .before .before .before .before .before in
+    let read = inner .before .before .before in
+    let asked = read .before .before .before .before in
+    let known = asked .before .before .before .before in
+    let opened = known .before .before in
+    let outer = opened .before .before in
+    let S = outer-same (outer .slices .inv .1) (opened .opening .ensures) (known .o2 .given .1) (asked .required .ensures .0) (read .members .given .1) (asked .required .ensures .1 .1) in
+    (inner .loop .inv .0 ∙ asked .required .ensures .1 .0 ∙ outer .slices .inv .0, outer-join S (inner-out (inner .loop .inv .2) (c .before .before .before .before .before .loop-test .left) (c .before .before .before .before .left-over .ensures) (c .before .before .before .if1 .left) (c .before .before .first-of .ensures) (c .before .base .ensures .0) (c .if2 .left)))
 
 returns : tie.Need-returns Inv-loop μ-loop Inv-slices μ-slices
 returns c = (search stopped-says, (search (needs, c .before .before .before .before .before .before .before .before .before .before .before .before .before .before .before .before .before .before .before .before .before .before .slices), search stopped-gives))
@@ -43,7 +55,15 @@ returns-2 : tie.Need-returns-2 Inv-loop μ-loop Inv-slices μ-slices
 returns-2 c = (search (over-says, c .before .before .before .loop .inv .2), (search (needs, c .before .before .before .before .before .before .before .before .before .before .before .before .before .before .before .before .before .before .slices), search over-gives))
 
 returns-3 : tie.Need-returns-3 Inv-loop μ-loop Inv-slices μ-slices
-returns-3 c = let E = ends-same (outer-same (c .before .before .before .before .before .before .before .before .before .before .before .before .before .before .before .before .before .before .before .before .before .before .slices .inv .1) (c .before .before .before .before .before .before .before .before .before .before .before .before .before .before .before .before .before .before .before .before .opening .ensures) (c .before .before .before .before .before .before .before .before .before .before .before .before .before .before .before .before .before .before .o2 .given .1) (c .before .before .before .before .before .before .before .before .before .before .before .before .before .before .required .ensures .0) (c .before .before .before .before .before .before .before .before .before .before .members .given .1) (c .before .before .before .before .before .before .before .before .before .before .before .before .before .before .required .ensures .1 .1)) (inner-done (c .before .before .before .before .before .before .before .loop .inv .2) (c .before .before .before .before .before .before .loop-test .left) (c .before .before .before .before .before .left-over .ensures) (c .before .before .before .before .if1 .left) (c .before .before .before .first-of .ensures) (c .before .before .base .ensures .0) (c .before .if2 .taken) (c .format-number .ensures)) in (ends-says _ _ _ _ _ _ E, (search (needs, c .before .before .before .before .before .before .before .before .before .before .before .before .before .before .before .before .before .before .before .before .before .before .slices), ends-gives _ _ _ _ _ _ E))
+returns-3 c =
+    let inner = c .before .before .before .before .before .before .before in
+    let read = inner .before .before .before in
+    let asked = read .before .before .before .before in
+    let known = asked .before .before .before .before in
+    let opened = known .before .before in
+    let outer = opened .before .before in
+    let E = ends-same (outer-same (outer .slices .inv .1) (opened .opening .ensures) (known .o2 .given .1) (asked .required .ensures .0) (read .members .given .1) (asked .required .ensures .1 .1)) (inner-done (inner .loop .inv .2) (c .before .before .before .before .before .before .loop-test .left) (c .before .before .before .before .before .left-over .ensures) (c .before .before .before .before .if1 .left) (c .before .before .before .first-of .ensures) (c .before .before .base .ensures .0) (c .before .if2 .taken) (c .format-number .ensures)) in
+    (ends-says _ _ _ _ _ _ E, (inner .loop .inv .0 ∙ asked .required .ensures .1 .0 ∙ outer .slices .inv .0, ends-gives _ _ _ _ _ _ E))
 
 pub slices-spec : {M : Type 1} → statement M
 slices-spec =
