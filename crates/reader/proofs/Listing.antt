@@ -264,6 +264,7 @@ listing-answer T top m at least k o out out′ = go (optionalsFrom atEnd (Table.
 
 module _ (T : List ℕ) (top : ℕ) (m : List ℕ) (start n j : ℕ) (mid : List ℕ) (at least row k o : ℕ) (out : List ℕ) (inv : Listing T top m (listing T top m (start + n) 0 j 0 mid) at least row k o out)
     (h : start ≤ length m) (ms : Members) (em : ms ≡ membersOf 0 (requireds (Table.required T top) (take (length m - start) (drop start m)))) (w : ms ≡ Read n j) where
+  -- the optionals decide
   same-answer : answerOf (listing T top m (start + n) 0 j 0 mid) ≡ listWalk T top start (parameters T top (drop start m))
   same-answer = go (members-read (Table.required T top) 0 (drop start m) ms (reads T top m start h ms em) n j w)
     where
@@ -275,9 +276,11 @@ module _ (T : List ℕ) (top : ℕ) (m : List ℕ) (start n j : ℕ) (mid : List
           let y : R .0 ≡ ps = cc in ap (λ (l : List Piece). fill 0 (pieceRows T top start l) mid) y)))
           ∙ list-whole T top start mid (parameters T top (drop start m))
 
+  -- the required members are listed
   abbrev Fills : List ℕ → Type 0
   Fills out₀ = (ps : List Piece) (n : ℕ) → requireds (Table.required T top) (take (length m - start) (drop start m)) ≡ ok ps n → mid ≡ fill 0 (pieceRows T top start ps) out₀
 
+  -- so are all of them where the walk accepts
   gives : (out₀ : List ℕ) → Fills out₀ → (v : Walk) → Ends (listing T top m (start + n) 0 j 0 mid) v out → (ps : List Piece) (n : ℕ) → parameters T top (drop start m) ≡ ok ps n → out ≡ fill 0 (pieceRows T top start ps) out₀
   gives out₀ fills v E = list-gives T top start out₀ (parameters T top (drop start m)) v out (ends-same (list-same T top m start h ms em n j w out₀ mid fills) E)
 

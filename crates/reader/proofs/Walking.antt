@@ -57,7 +57,7 @@ use Rattle.reader.specs.LeftLaws.{left-whole, left-listed, left-refused,
 use Rattle.reader.specs.OpeningLaws.{Opened, Skipped, opening-wrong, opening-place, opening-skip, opening-known, opened-eats, opened-sized, row-below, row-base, passed-never}
 use Rattle.reader.specs.MemberLaws.{required-few, optional-two, mark-byte}
 use Rattle.reader.specs.TurnLaws.{turn-end, turn-known, turn-skipped, Early, turn-wrong, turn-place, passed-turn}
-use Rattle.reader.proofs.Endings.{Ends, ends-same, ends-refused, ends-listed, ends-answer, ends-list, Small, types-below, field-below, part-on, part-length}
+use Rattle.reader.proofs.Endings.{Ends, ends-refused, ends-listed, ends-answer, ends-list, Small, types-below, field-below, part-on, part-length}
 
 -- ---- the whole walk
 
@@ -481,10 +481,10 @@ outer-join e inv = record {
 
 -- ---- how the walk ends
 
--- a slice is refused before its data
 module _ (T : List ℕ) (top : ℕ) (m : List ℕ) (start : ℕ) (out₀ : List ℕ) (stage : Stage) (pos k o s fst : ℕ) (out : List ℕ)
     (inv : Outer T top m (left T (seek first) start 0 0 0 0 out₀ (slices T top (drop start m))) stage pos k o s fst out)
     (r : Opening) (e : r ≡ opening T top (stageOf stage) (take (length m - pos) (drop pos m))) where
+  -- a slice is refused before its data
   module _ (c p : ℕ) (q : r ≡ WrongSlice c p) (v : Walk) (h : v ≡ answerOf (recalling pos c (pos + p))) where
     pub wrong-says : v ≡ sliceWalk T start (slices T top (drop start m))
     wrong-says = ends-says T start out₀ (slices T top (drop start m)) v out (outer-wrong inv e q h)
@@ -513,6 +513,7 @@ unfolding sliceWalk
 stop-never T start (ok y i) c p h x n e out l = let z : _≡_ {A = ℕ} 0 1 = cc in absurd (omega arith)
 stop-never T start (bad d q) c p h x n e out l = let z : _≡_ {A = ℕ} 0 1 = cc in absurd (omega arith)
 
+-- inside a slice, where the answer is known to be that of the outcome
 module _ (T : List ℕ) (top : ℕ) (m : List ℕ) (start : ℕ) (whole : Outcome) (stage : Stage) (pos t : ℕ) (z : Bool) (from end s fst : ℕ) (at least row k o : ℕ) (more : Bool) (out : List ℕ)
     (inv : Inner T top m whole stage pos t z from end s fst at least row k o more out) (answer : sliceWalk T start (slices T top (drop start m)) ≡ answerOf whole) where
   -- an optional is refused
@@ -524,11 +525,10 @@ module _ (T : List ℕ) (top : ℕ) (m : List ℕ) (start : ℕ) (whole : Outcom
     unfolding answerOf recalling
     stopped-gives out₀ x n f = stop-never T start (slices T top (drop start m)) c (recallTo c pos (at + p)) (sym h ∙ stopped-says) x n f out _
 
-  module _ (enough : more ≡ false) (b : Bool) (eb : b ≡ z && not (eqb at end)) where
-    -- bytes are left over
-    module _ (over : b ≡ true) where
-      pub over-says : Stop 11 (from - 4) ≡ sliceWalk T start (slices T top (drop start m))
-      over-says = ends-answer (inner-over inv enough eb over) ∙ sym answer
+  -- bytes are left over
+  module _ (enough : more ≡ false) (b : Bool) (eb : b ≡ z && not (eqb at end)) (over : b ≡ true) where
+    pub over-says : Stop 11 (from - 4) ≡ sliceWalk T start (slices T top (drop start m))
+    over-says = ends-answer (inner-over inv enough eb over) ∙ sym answer
 
-      pub over-gives : (out₀ : List ℕ) (x : Chain) (n : ℕ) → slices T top (drop start m) ≡ ok x n → out ≡ fill 0 (chainRows T start x) out₀
-      over-gives out₀ x n f = stop-never T start (slices T top (drop start m)) 11 (from - 4) over-says x n f out _
+    pub over-gives : (out₀ : List ℕ) (x : Chain) (n : ℕ) → slices T top (drop start m) ≡ ok x n → out ≡ fill 0 (chainRows T start x) out₀
+    over-gives out₀ x n f = stop-never T start (slices T top (drop start m)) 11 (from - 4) over-says x n f out _
