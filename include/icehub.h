@@ -18,7 +18,7 @@
  *
  * Stack and time are measured, not proved (x86-64, make stack, make bench). No call took more than 6 KB of stack over
  * all recorded and 20,000 generated calls; each level of nesting of the table's types takes 0.4 KB more, 104 KB under a
- * table of 256 nested types. icehub_read took 0.1 us for a message of 22 bytes, 1.4 us for 1 KB, and 0.3 s for the
+ * table of 256 nested types. icehub_read took 0.07 us for a message of 22 bytes, 0.7 us for 1 KB, and 0.14 s for the
  * slowest message of 65,536 bytes that we know; icehub_write took as long. Each further call takes as long as the call
  * whose numbers it tells.
  */
