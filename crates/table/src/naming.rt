@@ -66,7 +66,7 @@ pub fn is_named(table: &[u8], t: usize, name: &[u8]) -> bool
     same(name, &table[a..e])
 }
 
-// Row t is a record of this name. A longer name is none of its, whatever its bytes.
+// Row t is a record of this name. A name longer than the row says is another, whatever its bytes.
 pub fn is_record_named(table: &[u8], t: usize, name: &[u8]) -> bool
     ensures { λ r. ⌜ r ≡ isNamed (now (table .entry)) (now (name .entry)) t ⌝ }
 {
