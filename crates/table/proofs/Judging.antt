@@ -1,21 +1,25 @@
 -- What the tests of the check tell, rule by rule, and its loops. Assumes nothing.
 --
 --   whole-..                   a row read whole is the table's
+--   at-below                   a number of k bytes is below 256 ^ k
 --   marked-..                  the first five bytes, read as an int and a byte
 --   header-..                  the header's rules in the code's order
 --   set-.., clear-..           fields that are not 0, from one on
 --   unused-..                  those that a kind does not use
 --   part-.., base-..           references to rows below
---   Before, before-.., alike-is   the loop over the names before, and that it finds what is alike
+--   Before, before-.., alike-is   the loop over the names of rows before, and that it finds what is alike
+--   past-.., Plain, plain-..   how far no row is a record; alike-from: names are alike from there on or nowhere
 --   enum-.. list-..            the rules of each kind; kind-.. those of a row by its kind; row-.. all of a type row
 --   share-.., Sum, sum-..      the member rows that rows take
 --   basic-..                   a basic row breaks no rule and takes no member rows
 --   Types, types-..            the pass over the type rows and the member sum
 --   Tags, tags-..              the loop over the tags before; alike-above, alike-below only of a tag below a bound
 --   required-.., optional-.., member-..   the rules of a member row
---   Owner, owner-..            the member rows of one owner; Owners, owners-.. of all owners
+--   Fields, fields, tag-of     the eight bytes of a member row as one number, by its fields
+--   usual-..                   the tests of a usual row, and that it breaks no rule but perhaps that of its type
+--   Owner, owner-..            the member rows of one owner, each of its class (class-..), read whole or usual; Owners, owners-.. of all owners
 --   check-..                   the passes one after another; check-rows, check-all-rows the type rows lie inside, all rows do
-use Prim.Native.Nat.{ℕ, zero, suc, _+_, _-_, _*_, _^_, _≤_, _<_, max}
+use Prim.Native.Nat.{ℕ, zero, suc, _+_, _-_, _*_, _/_, _%_, _^_, _≤_, _<_, max}
 use mathlib.Core.Path.{_≡_, refl, sym, ap, ap₂, _∙_}
 use mathlib.Core.Bool.{Bool, true, false, _&&_, _||_, not}
 use mathlib.Core.List.{List, [], _∷_, _++_}
@@ -25,17 +29,17 @@ use native.Mathlib.Numerals.{add-one, sub-one}
 use native.Mathlib.Omega.{arith}
 use lib.ListN.{length, take, drop, getD, List·getD-eq-default}
 use lib.Seq.{take-take}
-use lib.Dec.{eqb, ltb}
-use borrow.Author.Tests.{eqb-true, eqb-false, ltb-true, ltb-false, lt-ltb, le-ltb, le-leb, lt-leb, eq-eqb, ne-eqb}
+use lib.Dec.{eqb, leb, ltb}
+use borrow.Author.Tests.{eqb-true, eqb-false, leb-true, ltb-true, ltb-false, not-true, not-false, lt-ltb, le-ltb, le-leb, lt-leb, eq-eqb, ne-eqb}
 use Rattle.encoding.specs.Result.{pick, firstOf, sameBytes}
 use Rattle.encoding.specs.ResultLaws.{both-true, either-false, sameBytes-ok}
 use Rattle.encoding.specs.Number.{val, leBytes, negative}
 use Rattle.encoding.specs.NumberLaws.{leBytes-val}
 use Rattle.encoding.specs.Table.{at, types, members, names, typesAt, rowAt, membersAt, memberAt, namesAt, kind, field, memberType, mark, tag, isRecord, owns, nameOf, range, any, used, taken, noPart, alike, typeRules, headerTests, headerRules, sumRules, faultAt, Fault, fine, fault, orElse, pass, passes, faults}
-use Rattle.wire.specs.At.{at-split}
+use Rattle.wire.specs.At.{at-more, at-split}
 use Rattle.table.specs.Names.{nameStart, isNamed}
 use Rattle.table.specs.NamesLaws.{name-part}
-use Rattle.table.specs.Checks.{verdictOf, isSetFrom, noBaseOf, enumRules, structRules, seqRules, dictRules, recordRules, listRules, kindRules, rowRules, share, isBasic, typePass, memberPass, isOptionalOf, isTagBefore, isTagAlike, requiredRules, optionalRules, memberRulesBy, memberRulesOf, ownerPass, ownersPass, MembersThere, OwnersThere}
+use Rattle.table.specs.Checks.{verdictOf, isSetFrom, noBaseOf, alikeFrom, enumRules, structRules, seqRules, dictRules, recordRules, listRules, kindRules, rowRules, share, isBasic, past, typePass, memberPass, isOptionalOf, isTagBefore, isTagAlike, requiredRules, optionalRules, memberRulesBy, memberRulesOf, isUsual, ownerPass, ownersPass, MembersThere, OwnersThere}
 use Rattle.table.specs.ChecksLaws.{row-rules, or-assoc, table-length, owners-pass, owners-there}
 use Rattle.table.specs.Rows.{typeRowOf, memberRowOf, IsTypeRow, IsMemberAt, IsMemberRow}
 use Rattle.table.specs.declared.TypeRow.{TypeRow}
@@ -43,8 +47,9 @@ use Rattle.table.specs.declared.MemberRow.{MemberRow}
 use Rattle.table.specs.declared.Verdict.{Verdict}
 use Rattle.table.specs.declared.Verdict.the-variants.{Fine, Broken}
 use Rattle.table.proofs.Places.{row-shows, members-begin-at, member-placed}
-use Rattle.table.proofs.Ranges.{range-more, range-none, range-left, range-empty, any-here, any-next, any-none, any-never}
+use Rattle.table.proofs.Ranges.{range-more, range-none, range-left, range-empty, any-here, any-next, any-none, any-never, any-past}
 use Rattle.table.proofs.Filling.{by-kind}
+use Rattle.table.proofs.Labels.{record-named, record-short, record-none}
 
 -- ---- rows read whole
 
@@ -61,6 +66,14 @@ whole-member T m r i = go (i .of-is) (i .mark-is) (i .spare-is) (i .tag-is)
     go : {t k s g : ℕ} → t ≡ memberType T m → k ≡ mark T m → s ≡ at T 1 (memberAt T m + 3) → g ≡ tag T m
         → _≡_ {A = MemberRow} (record { of = t; mark = k; spare = s; tag = g }) (memberRowOf T m)
     go et ek es eg = rw (et, ek, es, eg)
+
+-- ---- numbers of bytes
+
+-- a number of k bytes is below 256 ^ k
+at-below : (T : List ℕ) → ((i : ℕ) → getD T i 0 < 256) → (k p : ℕ) → at T k p < 256 ^ k
+unfolding at val
+at-below T small zero p = omega arith
+at-below T small (suc k) p = omega (arith, at-more T k p, small p, at-below T small k (suc p))
 
 -- ---- header
 
@@ -254,21 +267,36 @@ module _ (T : List ℕ) (t k b : ℕ) where
 
 -- ---- names
 
-pub record Before (T nm : List ℕ) (t r : ℕ) : Type 0 where
-  pub rest : any (isNamed T nm) (range 0 t) ≡ any (isNamed T nm) (range r (t - r))
+pub record Before (T nm : List ℕ) (from t r : ℕ) : Type 0 where
+  pub rest : any (isNamed T nm) (range from (t - from)) ≡ any (isNamed T nm) (range r (t - r))
 
-pub before-begin : (T nm : List ℕ) (t : ℕ) → Before T nm t 0
-before-begin T nm t = let z : t - 0 ≡ t = omega arith in record { rest = rw z }
+pub before-begin : (T nm : List ℕ) (from t : ℕ) → Before T nm from t from
+before-begin T nm from t = record { rest = refl }
 
-module _ (T nm : List ℕ) (t r : ℕ) (inv : Before T nm t r) where
-  module _ (h : r < t) (b : Bool) (e : b ≡ isNamed T nm r) where
-    pub before-here : b ≡ true → true ≡ any (isNamed T nm) (range 0 t)
-    before-here q = sym (inv .rest ∙ any-here (isNamed T nm) r t h (sym e ∙ q))
+module _ (T nm : List ℕ) (from t r : ℕ) (inv : Before T nm from t r) where
+  module _ (h : r < t) where
+    before-next : false ≡ isNamed T nm r → Before T nm from t (r + 1)
+    before-next e = record { rest = inv .rest ∙ any-next (isNamed T nm) r t h (sym e) }
 
-    pub before-next : b ≡ false → Before T nm t (r + 1)
-    before-next q = record { rest = inv .rest ∙ any-next (isNamed T nm) r t h (sym e ∙ q) }
+    module _ (row : TypeRow) (er : IsTypeRow T r row) (b : Bool) (eb : b ≡ isRecord (row .kind)) where
+      pub before-plain : b ≡ false → Before T nm from t (r + 1)
+      before-plain q = before-next (record-none T nm r (row .kind) (er .kind-is) b eb q)
 
-  pub before-end : t ≤ r → false ≡ any (isNamed T nm) (range 0 t)
+      module _ (q : b ≡ true) where
+        pub before-short : row .e < length nm → Before T nm from t (r + 1)
+        before-short l = before-next (record-short T nm r (row .kind) (er .kind-is) b eb q (row .e) (er .e-is) l)
+
+        module _ (s : Bool) (es : s ≡ sameBytes nm (nameOf T r)) where
+          named : s ≡ isNamed T nm r
+          named = record-named T nm r (row .kind) (er .kind-is) b eb s q es
+
+          pub before-here : s ≡ true → true ≡ any (isNamed T nm) (range from (t - from))
+          before-here y = sym (inv .rest ∙ any-here (isNamed T nm) r t h (sym named ∙ y))
+
+          pub before-other : s ≡ false → Before T nm from t (r + 1)
+          before-other y = before-next (sym y ∙ named)
+
+  pub before-end : t ≤ r → false ≡ any (isNamed T nm) (range from (t - from))
   before-end h = sym (inv .rest ∙ any-none (isNamed T nm) r t h)
 
 same-sym : (a b : List ℕ) → sameBytes a b ≡ sameBytes b a
@@ -287,12 +315,60 @@ unfolding any
 any-same f g h [] = refl
 any-same f g h (i ∷ l) = rw (h i, any-same f g h l)
 
-pub alike-is : (T : List ℕ) (t a n : ℕ) (r : Bool) → a ≡ nameStart T t → n ≡ length (nameOf T t)
-    → r ≡ any (isNamed T (take (a + n - a) (drop a T))) (range 0 t) → r ≡ alike T t
-unfolding alike
-alike-is T t a n r s e h =
+pub alike-is : (T : List ℕ) (from t a n : ℕ) (r : Bool) → a ≡ nameStart T t → n ≡ length (nameOf T t)
+    → r ≡ any (isNamed T (take (a + n - a) (drop a T))) (range from (t - from)) → r ≡ alikeFrom T from t
+unfolding alikeFrom
+alike-is T from t a n r s e h =
     let z : a + n - a ≡ length (nameOf T t) = omega arith in
-    h ∙ rw (z, s, name-part T t) (any-same _ _ (λ i. ap (λ (y : Bool). isRecord (kind T i) && y) (same-sym (nameOf T t) (nameOf T i))) (range 0 t))
+    h ∙ rw (z, s, name-part T t)
+
+-- how far no row is a record
+module _ (from t : ℕ) (b : Bool) where
+  pub past-plain : from ≡ t → b ≡ true → t + 1 ≡ past from t b
+  unfolding past
+  past-plain e q = rw (eq-eqb from t e, q)
+
+  pub past-record : from ≡ t → b ≡ false → from ≡ past from t b
+  unfolding past
+  past-record e q = rw (eq-eqb from t e, q)
+
+  pub past-before : (from ≡ t → ⊥) → from ≡ past from t b
+  unfolding past
+  past-before h = rw (ne-eqb from t h)
+
+-- no row before `from` is a record, and `from` is not behind row t
+pub record Plain (T : List ℕ) (t from : ℕ) : Type 0 where
+  pub within : from ≤ t
+  pub plain : (r : ℕ) → r < from → isRecord (kind T r) ≡ false
+
+plain-begin : (T : List ℕ) → Plain T 0 0
+plain-begin T = record { within = omega arith; plain = λ r h. absurd (omega arith) }
+
+module _ (T : List ℕ) (t from : ℕ) (inv : Plain T t from) where
+  plain-next : (b : Bool) → (b ≡ true → isRecord (kind T t) ≡ false) → Plain T (t + 1) (past from t b)
+  unfolding past
+  plain-next b e = go (eqb from t) refl b refl
+    where
+      stays : Plain T (t + 1) from
+      stays = record { within = omega (arith, inv .within); plain = inv .plain }
+
+      go : (d : Bool) → eqb from t ≡ d → (c : Bool) → b ≡ c → Plain T (t + 1) (pick (d && c) (t + 1) from)
+      go true q true y = record {
+        within = omega arith;
+        plain = λ r h. ⊎-elim
+            (λ z. ap (λ (i : ℕ). isRecord (kind T i)) z ∙ e y)
+            (λ z. inv .plain r (omega (arith, eqb-true from t q)))
+            (eq-or-lt-of-le {n = r} {m = t} (omega arith));
+      }
+      go true q false y = stays
+      go false q c y = stays
+
+  -- rows that are no records have no name to be alike
+  alike-from : alikeFrom T from t ≡ alike T t
+  unfolding alikeFrom alike
+  alike-from =
+      sym (any-past (isNamed T (nameOf T t)) from t (inv .within) (λ r h. ap (λ (b : Bool). b && sameBytes (nameOf T t) (nameOf T r)) (inv .plain r h)))
+      ∙ any-same _ _ (λ i. ap (λ (y : Bool). isRecord (kind T i) && y) (same-sym (nameOf T t) (nameOf T i))) (range 0 t)
 
 -- ---- the rules of each kind
 
@@ -349,86 +425,86 @@ module _ (T : List ℕ) (t : ℕ) (r : TypeRow) (b : Bool) (eb : b ≡ noPart T 
     unfolding firstOf dictRules
     dict-fine q = rw (← eb, key, ← es, q)
 
-module _ (T : List ℕ) (t : ℕ) (r : TypeRow) (n : ℕ) (b : Bool) (eb : b ≡ noBaseOf T t (r .kind) (r .c)) where
-  pub record-base : b ≡ true → 34 ≡ firstOf (recordRules T t r n)
+module _ (T : List ℕ) (t : ℕ) (r : TypeRow) (n : ℕ) (s b : Bool) (eb : b ≡ noBaseOf T t (r .kind) (r .c)) where
+  pub record-base : b ≡ true → 34 ≡ firstOf (recordRules T t r n s)
   unfolding firstOf recordRules
   record-base q = rw (← eb, q)
 
   module _ (base : b ≡ false) where
-    pub record-first : (r .a ≡ n → ⊥) → 35 ≡ firstOf (recordRules T t r n)
+    pub record-first : (r .a ≡ n → ⊥) → 35 ≡ firstOf (recordRules T t r n s)
     unfolding firstOf recordRules
     record-first h = rw (← eb, base, ne-eqb (r .a) n h)
 
     module _ (first : r .a ≡ n) where
-      pub record-empty : r .e ≡ 0 → 37 ≡ firstOf (recordRules T t r n)
+      pub record-empty : r .e ≡ 0 → 37 ≡ firstOf (recordRules T t r n s)
       unfolding firstOf recordRules
       record-empty z = rw (← eb, base, eq-eqb (r .a) n first, eq-eqb (r .e) 0 z)
 
       module _ (some : r .e ≡ 0 → ⊥) where
-        pub record-long : 255 < r .e → 37 ≡ firstOf (recordRules T t r n)
+        pub record-long : 255 < r .e → 37 ≡ firstOf (recordRules T t r n s)
         unfolding firstOf recordRules
         record-long h = rw (← eb, base, eq-eqb (r .a) n first, ne-eqb (r .e) 0 some, lt-ltb 255 (r .e) h)
 
         module _ (short : r .e ≤ 255) (k : ℕ) (ek : k ≡ names T) where
-          pub record-outside : k < r .d + r .e → 37 ≡ firstOf (recordRules T t r n)
+          pub record-outside : k < r .d + r .e → 37 ≡ firstOf (recordRules T t r n s)
           unfolding firstOf recordRules
           record-outside h = rw (← eb, base, eq-eqb (r .a) n first, ne-eqb (r .e) 0 some, le-ltb 255 (r .e) short, ← ek, lt-ltb k (r .d + r .e) h)
 
-          module _ (within : r .d + r .e ≤ k) (s : Bool) (es : s ≡ alike T t) where
-            pub record-alike : s ≡ true → 37 ≡ firstOf (recordRules T t r n)
+          module _ (within : r .d + r .e ≤ k) (a : Bool) (ea : a ≡ s) where
+            pub record-alike : a ≡ true → 37 ≡ firstOf (recordRules T t r n s)
             unfolding firstOf recordRules
-            record-alike q = rw (← eb, base, eq-eqb (r .a) n first, ne-eqb (r .e) 0 some, le-ltb 255 (r .e) short, ← ek, le-ltb k (r .d + r .e) within, ← es, q)
+            record-alike q = rw (← eb, base, eq-eqb (r .a) n first, ne-eqb (r .e) 0 some, le-ltb 255 (r .e) short, ← ek, le-ltb k (r .d + r .e) within, ← ea, q)
 
-            pub record-fine : s ≡ false → 0 ≡ firstOf (recordRules T t r n)
+            pub record-fine : a ≡ false → 0 ≡ firstOf (recordRules T t r n s)
             unfolding firstOf recordRules
-            record-fine q = rw (← eb, base, eq-eqb (r .a) n first, ne-eqb (r .e) 0 some, le-ltb 255 (r .e) short, ← ek, le-ltb k (r .d + r .e) within, ← es, q)
+            record-fine q = rw (← eb, base, eq-eqb (r .a) n first, ne-eqb (r .e) 0 some, le-ltb 255 (r .e) short, ← ek, le-ltb k (r .d + r .e) within, ← ea, q)
 
-module _ (T : List ℕ) (t : ℕ) (r : TypeRow) (n c : ℕ) where
-  pub kind-enum : r .kind ≡ 8 → c ≡ firstOf (enumRules r) → c ≡ firstOf (kindRules T t r n)
+module _ (T : List ℕ) (t : ℕ) (r : TypeRow) (n c : ℕ) (s : Bool) where
+  pub kind-enum : r .kind ≡ 8 → c ≡ firstOf (enumRules r) → c ≡ firstOf (kindRules T t r n s)
   unfolding kindRules enumRules
   kind-enum e h = rw e h
 
-  pub kind-struct : r .kind ≡ 9 → c ≡ firstOf (structRules r n) → c ≡ firstOf (kindRules T t r n)
+  pub kind-struct : r .kind ≡ 9 → c ≡ firstOf (structRules r n) → c ≡ firstOf (kindRules T t r n s)
   unfolding kindRules structRules
   kind-struct e h = rw e h
 
-  pub kind-seq : r .kind ≡ 10 → c ≡ firstOf (seqRules T t r) → c ≡ firstOf (kindRules T t r n)
+  pub kind-seq : r .kind ≡ 10 → c ≡ firstOf (seqRules T t r) → c ≡ firstOf (kindRules T t r n s)
   unfolding kindRules seqRules
   kind-seq e h = rw e h
 
-  pub kind-dict : r .kind ≡ 11 → c ≡ firstOf (dictRules T t r) → c ≡ firstOf (kindRules T t r n)
+  pub kind-dict : r .kind ≡ 11 → c ≡ firstOf (dictRules T t r) → c ≡ firstOf (kindRules T t r n s)
   unfolding kindRules dictRules
   kind-dict e h = rw e h
 
-  pub kind-list : r .kind ≡ 15 → c ≡ firstOf (listRules r n) → c ≡ firstOf (kindRules T t r n)
+  pub kind-list : r .kind ≡ 15 → c ≡ firstOf (listRules r n) → c ≡ firstOf (kindRules T t r n s)
   unfolding kindRules listRules
   kind-list e h = rw e h
 
-  module _ (e8 : r .kind ≡ 8 → ⊥) (e9 : r .kind ≡ 9 → ⊥) (e10 : r .kind ≡ 10 → ⊥) (e11 : r .kind ≡ 11 → ⊥) (s : Bool) (es : s ≡ isRecord (r .kind)) where
-    pub kind-record : s ≡ true → c ≡ firstOf (recordRules T t r n) → c ≡ firstOf (kindRules T t r n)
+  module _ (e8 : r .kind ≡ 8 → ⊥) (e9 : r .kind ≡ 9 → ⊥) (e10 : r .kind ≡ 10 → ⊥) (e11 : r .kind ≡ 11 → ⊥) (b : Bool) (eb : b ≡ isRecord (r .kind)) where
+    pub kind-record : b ≡ true → c ≡ firstOf (recordRules T t r n s) → c ≡ firstOf (kindRules T t r n s)
     unfolding kindRules
-    kind-record q h = rw (ne-eqb (r .kind) 8 e8, ne-eqb (r .kind) 9 e9, ne-eqb (r .kind) 10 e10, ne-eqb (r .kind) 11 e11, sym es ∙ q) h
+    kind-record q h = rw (ne-eqb (r .kind) 8 e8, ne-eqb (r .kind) 9 e9, ne-eqb (r .kind) 10 e10, ne-eqb (r .kind) 11 e11, sym eb ∙ q) h
 
-    pub kind-plain : s ≡ false → (r .kind ≡ 15 → ⊥) → 0 ≡ firstOf (kindRules T t r n)
+    pub kind-plain : b ≡ false → (r .kind ≡ 15 → ⊥) → 0 ≡ firstOf (kindRules T t r n s)
     unfolding kindRules firstOf
-    kind-plain q e = rw (ne-eqb (r .kind) 8 e8, ne-eqb (r .kind) 9 e9, ne-eqb (r .kind) 10 e10, ne-eqb (r .kind) 11 e11, sym es ∙ q, ne-eqb (r .kind) 15 e)
+    kind-plain q e = rw (ne-eqb (r .kind) 8 e8, ne-eqb (r .kind) 9 e9, ne-eqb (r .kind) 10 e10, ne-eqb (r .kind) 11 e11, sym eb ∙ q, ne-eqb (r .kind) 15 e)
 
-module _ (T : List ℕ) (t : ℕ) (r : TypeRow) (n : ℕ) where
-  pub row-spare : (r .spare ≡ 0 → ⊥) → 32 ≡ firstOf (rowRules T t r n)
+module _ (T : List ℕ) (t : ℕ) (r : TypeRow) (n : ℕ) (s : Bool) where
+  pub row-spare : (r .spare ≡ 0 → ⊥) → 32 ≡ firstOf (rowRules T t r n s)
   unfolding firstOf rowRules
   row-spare h = rw (ne-eqb (r .spare) 0 h)
 
   module _ (spare : r .spare ≡ 0) (u : Bool) (eu : u ≡ isSetFrom r (used (r .kind))) where
-    pub row-unused : u ≡ true → 32 ≡ firstOf (rowRules T t r n)
+    pub row-unused : u ≡ true → 32 ≡ firstOf (rowRules T t r n s)
     unfolding firstOf rowRules
     row-unused q = rw (eq-eqb (r .spare) 0 spare, ← eu, q)
 
     module _ (none : u ≡ false) where
-      pub row-unknown : 15 < r .kind → 33 ≡ firstOf (rowRules T t r n)
+      pub row-unknown : 15 < r .kind → 33 ≡ firstOf (rowRules T t r n s)
       unfolding firstOf rowRules
       row-unknown h = rw (eq-eqb (r .spare) 0 spare, ← eu, none, lt-ltb 15 (r .kind) h)
 
-      pub row-known : r .kind ≤ 15 → (c : ℕ) → c ≡ firstOf (kindRules T t r n) → c ≡ firstOf (rowRules T t r n)
+      pub row-known : r .kind ≤ 15 → (c : ℕ) → c ≡ firstOf (kindRules T t r n s) → c ≡ firstOf (rowRules T t r n s)
       unfolding firstOf rowRules
       row-known h c e = e ∙ sym (rw (eq-eqb (r .spare) 0 spare, ← eu, none, le-ltb 15 (r .kind) h))
 
@@ -503,14 +579,17 @@ module _ (T : List ℕ) (t : ℕ) (basic : isBasic T t ≡ true) where
       let d = zero-parts T 2 (p + 4 + 2 + 2) (c .1) in
       rw (basic-field 0 _ (omega arith) a, basic-field 1 _ (omega arith) (b .0), basic-field 2 _ (omega arith) (c .0), basic-field 3 _ (omega arith) (d .0), basic-field 4 _ (omega arith) (d .1))
 
+  basic-plain : isRecord (kind T t) ≡ false
+  basic-plain =
+      let z = either-false (eqb (kind T t) 9) _ (low-owns (kind T t) basic-kind) in
+      either-false (isRecord (kind T t)) _ (z .1) .0
+
   basic-rules : 0 ≡ firstOf (typeRules T t)
   basic-rules =
       let l = basic-kind in
       let r = typeRowOf T t in
-      let z = either-false (eqb (kind T t) 9) _ (low-owns (kind T t) l) in
-      let y = either-false (isRecord (kind T t)) _ (z .1) in
-      row-known T t r (taken T t) basic-spare false (unused-low r (kind T t) false l basic-clear) refl (omega arith) 0
-      (kind-plain T t r (taken T t) 0 (λ e. omega arith) (λ e. omega arith) (λ e. omega arith) (λ e. omega arith) (isRecord (kind T t)) refl (y .0) (λ e. omega arith))
+      row-known T t r (taken T t) (alike T t) basic-spare false (unused-low r (kind T t) false l basic-clear) refl (omega arith) 0
+      (kind-plain T t r (taken T t) 0 (alike T t) (λ e. omega arith) (λ e. omega arith) (λ e. omega arith) (λ e. omega arith) (isRecord (kind T t)) refl basic-plain (λ e. omega arith))
       ∙ row-rules T t
 
   basic-share : 0 ≡ share (typeRowOf T t)
@@ -547,17 +626,18 @@ is-fine fine e = refl
 is-fine (fault c p) e = let z : _≡_ {A = ℕ} 0 1 = cc in absurd (omega arith)
 
 -- over the type rows, and the member sum
-pub record Types (T : List ℕ) (n t prior : ℕ) : Type 0 where
+pub record Types (T : List ℕ) (n t prior from : ℕ) : Type 0 where
   pub within : t ≤ n
   pub few : n < 65536
   pub sum : Sum T t prior
+  pub plain : Plain T t from
   pub rest : verdictOf (typePass T) ≡ verdictOf (pass (rowAt T) (typeRules T) (range t (n - t)))
 
-pub types-begin : (T : List ℕ) (n : ℕ) → n ≡ types T → n < 65536 → Types T n 0 0
-unfolding typePass
-types-begin T n e h = let z : n - 0 ≡ types T = omega arith in record { within = omega arith; few = h; sum = sum-begin T; rest = rw z }
+pub types-begin : (T : List ℕ) → ((i : ℕ) → getD T i 0 < 256) → (n : ℕ) → n ≡ types T → Types T n 0 0 0
+unfolding typePass types
+types-begin T small n e = let z : n - 0 ≡ types T = omega arith in record { within = omega arith; few = omega (arith, at-below T small 2 5); sum = sum-begin T; plain = plain-begin T; rest = rw z }
 
-module _ (T : List ℕ) (n t prior : ℕ) (inv : Types T n t prior) where
+module _ (T : List ℕ) (n t prior from : ℕ) (inv : Types T n t prior from) where
   module _ (e : n ≡ types T) (h : n ≤ t) (m : ℕ) (em : m ≡ members T) where
     rows-fine : verdictOf (orElse (typePass T) (sumRules T)) ≡ verdictOf (sumRules T)
     unfolding verdictOf pass
@@ -574,29 +654,33 @@ module _ (T : List ℕ) (n t prior : ℕ) (inv : Types T n t prior) where
     unfolding sumRules faultAt verdictOf
     types-end z = sym (rows-fine ∙ rw (← sum-is, ← em, eq-eqb prior m z))
 
-  pub types-basic : t < n → (b : Bool) → b ≡ isBasic T t → b ≡ true → Types T n (t + 1) prior
-  types-basic h b e q =
+  pub types-basic : t < n → (b : Bool) → b ≡ isBasic T t → b ≡ true → (f : ℕ) → f ≡ past from t true → Types T n (t + 1) prior f
+  types-basic h b e q f ef =
       let basic = sym e ∙ q in
       record {
         within = omega arith;
         few = inv .few;
         sum = rw add-zero at (sum-next T t prior 0 (inv .sum) (basic-share T t basic) (omega arith));
+        plain = rw ef (plain-next T t from (inv .plain) true (λ y. basic-plain T t basic));
         rest = inv .rest ∙ rw (range-more t n h) (ap verdictOf (pass-next (rowAt T) (typeRules T) t 0 (range (t + 1) (n - (t + 1))) (basic-rules T t basic) refl));
       }
 
-  module _ (h : t < n) (r : TypeRow) (er : IsTypeRow T t r) (c : ℕ) (e : c ≡ firstOf (rowRules T t r prior)) where
+  module _ (h : t < n) (r : TypeRow) (er : IsTypeRow T t r) (c : ℕ) (e : c ≡ firstOf (rowRules T t r prior (alikeFrom T from t))) where
     types-row : c ≡ firstOf (typeRules T t)
-    types-row = e ∙ ap₂ (λ (z : TypeRow) (y : ℕ). firstOf (rowRules T t z y)) (whole-type T t r er) (inv .sum .so-far) ∙ row-rules T t
+    types-row =
+        e ∙ ap₂ (λ (z : TypeRow) (y : ℕ). firstOf (rowRules T t z y (alikeFrom T from t))) (whole-type T t r er) (inv .sum .so-far)
+        ∙ ap (λ (b : Bool). firstOf (rowRules T t (typeRowOf T t) (taken T t) b)) (alike-from T t from (inv .plain)) ∙ row-rules T t
 
     pub types-fault : (c ≡ 0 → ⊥) → Broken c (12 + 12 * t) ≡ verdictOf (orElse (typePass T) (sumRules T))
     unfolding rowAt typesAt
     types-fault z = sym (or-broken (typePass T) (sumRules T) c (12 + 12 * t) (inv .rest ∙ rw (range-more t n h) (pass-fault (rowAt T) (typeRules T) t c (range (t + 1) (n - (t + 1))) types-row z)))
 
-    pub types-next : c ≡ 0 → (s : ℕ) → s ≡ share r → s ≤ r .b → Types T n (t + 1) (prior + s)
-    types-next z s es hs = record {
+    pub types-next : c ≡ 0 → (s : ℕ) → s ≡ share r → s ≤ r .b → (b : Bool) → b ≡ isRecord (r .kind) → (f : ℕ) → f ≡ past from t (not b) → Types T n (t + 1) (prior + s) f
+    types-next z s es hs b eb f ef = record {
       within = omega arith;
       few = inv .few;
       sum = sum-next T t prior s (inv .sum) (es ∙ ap share (whole-type T t r er)) (omega (arith, er .b-small));
+      plain = rw ef (plain-next T t from (inv .plain) (not b) (λ q. sym (eb ∙ ap isRecord (er .kind-is)) ∙ not-true b q));
       rest = inv .rest ∙ rw (range-more t n h) (ap verdictOf (pass-next (rowAt T) (typeRules T) t c (range (t + 1) (n - (t + 1))) types-row z));
     }
 
@@ -695,7 +779,10 @@ module _ (T : List ℕ) (o : ℕ) (own : TypeRow) (r : MemberRow) (s : Bool) whe
     member-optional h e = e ∙ sym (rw (eq-eqb (r .spare) 0 spare, ne-eqb (r .mark) 0 h))
 
 -- over the members of one owner; the tags before m are below `above`
-pub record Owner (T : List ℕ) (o m left above : ℕ) : Type 0 where
+pub record Owner (T : List ℕ) (o start : ℕ) (own : TypeRow) (left m above : ℕ) : Type 0 where
+  pub bytes : (i : ℕ) → getD T i 0 < 256
+  pub starts : start ≡ membersAt T
+  pub own-is : IsTypeRow T o own
   pub below : (i : ℕ) → field T o 0 ≤ i → i < m → tag T i < above
   pub rest : verdictOf (ownerPass T o) ≡ verdictOf (pass (memberAt T) (memberRulesOf T o) (range m left))
 
@@ -711,11 +798,95 @@ module _ (T : List ℕ) (o left : ℕ) (own : TypeRow) (eo : IsTypeRow T o own) 
   pub owner-short : (left ≡ 0 → ⊥) → (k : ℕ) → k ≡ members T → k < own .a + left → MembersThere T o → Broken 35 0 ≡ verdictOf (ownerPass T o)
   owner-short z k ek h all = absurd (omega (arith, all .there (omega (arith, left-is)), left-is, eo .a-is))
 
-  pub owner-begin : Owner T o (own .a) left 0
+  pub owner-begin : ((i : ℕ) → getD T i 0 < 256) → (n : ℕ) → n ≡ types T → Owner T o (12 + 12 * n) own left (own .a) 0
   unfolding ownerPass
-  owner-begin = record { below = λ i l h. absurd (omega (arith, eo .a-is)); rest = rw (eo .a-is, left-is) }
+  owner-begin small n en = record {
+    bytes = small;
+    starts = members-begin-at T n en;
+    own-is = eo;
+    below = λ i l h. absurd (omega (arith, eo .a-is));
+    rest = rw (eo .a-is, left-is);
+  }
 
-module _ (T : List ℕ) (o m left above : ℕ) (inv : Owner T o m left above) where
+-- the tests of a usual row
+module _ (x above : ℕ) (u : Bool) where
+  pub usual-small : x < 65536 → true ≡ isUsual x u above
+  unfolding isUsual
+  usual-small h = rw (lt-ltb x 65536 h)
+
+  module _ (great : 65536 ≤ x) where
+    pub usual-struct : not u ≡ true → false ≡ isUsual x u above
+    unfolding isUsual
+    usual-struct q = rw (le-ltb x 65536 great, not-true u q)
+
+    module _ (optional : not u ≡ false) where
+      pub usual-mark : (x / 65536 % 65536 ≡ 1 → ⊥) → false ≡ isUsual x u above
+      unfolding isUsual
+      usual-mark h = rw (le-ltb x 65536 great, not-false u optional, ne-eqb (x / 65536 % 65536) 1 h)
+
+      module _ (marked : x / 65536 % 65536 ≡ 1) where
+        pub usual-below : x / 4294967296 < above → false ≡ isUsual x u above
+        unfolding isUsual
+        usual-below h = rw (le-ltb x 65536 great, not-false u optional, eq-eqb (x / 65536 % 65536) 1 marked, lt-leb above (x / 4294967296) h)
+
+        pub usual-last : above ≤ x / 4294967296 → ltb (x / 4294967296) 2147483648 ≡ isUsual x u above
+        unfolding isUsual
+        usual-last h = rw (le-ltb x 65536 great, not-false u optional, eq-eqb (x / 65536 % 65536) 1 marked, le-leb above (x / 4294967296) h)
+
+-- the eight bytes of a member row as one number: its fields, each below its bound
+record Fields (r : MemberRow) (x : ℕ) : Type 0 where
+  whole : x ≡ r .of + 65536 * r .mark + 16777216 * r .spare + 4294967296 * r .tag
+  of-small : r .of < 65536
+  mark-small : r .mark < 256
+  spare-small : r .spare < 256
+
+fields : (T : List ℕ) → ((i : ℕ) → getD T i 0 < 256) → (m x : ℕ) → x ≡ at T 8 (memberAt T m) → Fields (memberRowOf T m) x
+unfolding memberType mark tag
+fields T small m x e =
+    let p = memberAt T m in
+    let z : at T 1 (p + 2 + 1) ≡ at T 1 (p + 3) = ap (at T 1) (omega arith) in
+    record {
+      whole = omega (arith, at-split T 4 4 p, at-split T 2 2 p, at-split T 1 1 (p + 2));
+      of-small = at-below T small 2 p;
+      mark-small = at-below T small 1 (p + 2);
+      spare-small = at-below T small 1 (p + 3);
+    }
+
+tag-of : (r : MemberRow) (x : ℕ) → Fields r x → x / 4294967296 ≡ r .tag
+tag-of r x parts = omega (arith, parts .whole, parts .of-small, parts .mark-small, parts .spare-small)
+
+-- a member row that is usual breaks no rule but perhaps that of its type
+module _ (T : List ℕ) (o : ℕ) (own : TypeRow) (r : MemberRow) (x above : ℕ) (parts : Fields r x) (s : Bool) (new : above ≤ r .tag → s ≡ false) (b : Bool) (eb : b ≡ noPart T o (r .of)) where
+  usual-required : x < 65536 → pick b 34 0 ≡ firstOf (memberRulesBy T o own r s)
+  unfolding firstOf requiredRules
+  usual-required h =
+      let z : r .tag ≡ 0 = omega (arith, parts .whole) in
+      member-required T o own r s (omega (arith, parts .whole)) (pick b 34 0) (omega (arith, parts .whole)) (rw (eq-eqb (r .tag) 0 z, ← eb))
+
+  usual-optional : (own .kind ≡ 9 → ⊥) → x / 65536 % 65536 ≡ 1 → above ≤ x / 4294967296 → x / 4294967296 < 2147483648 → pick b 34 0 ≡ firstOf (memberRulesBy T o own r s)
+  usual-optional other h l k =
+      let g = tag-of r x parts in
+      let z : r .mark + 256 * r .spare ≡ 1 = omega (arith, parts .whole, parts .of-small, parts .mark-small, parts .spare-small) in
+      member-optional T o own r s (omega (arith, parts .mark-small)) (pick b 34 0) (λ q. omega arith) (go b eb (omega arith) (omega arith) (new (omega arith)))
+    where
+      go : (b : Bool) → b ≡ noPart T o (r .of) → r .mark ≤ 1 → r .tag < 2147483648 → s ≡ false → pick b 34 0 ≡ firstOf (optionalRules T o own r s)
+      go true e y w q = optional-part T o own r true e s refl
+      go false e y w q = optional-fine T o own r false e s refl y other w s refl q
+
+  usual-rules : (u : Bool) → u ≡ not (eqb (own .kind) 9) → isUsual x u above ≡ true → pick b 34 0 ≡ firstOf (memberRulesBy T o own r s)
+  unfolding isUsual
+  usual-rules u eu h = go (ltb x 65536) refl h
+    where
+      go : (t : Bool) → ltb x 65536 ≡ t → t || (u && (eqb (x / 65536 % 65536) 1 && (leb above (x / 4294967296) && ltb (x / 4294967296) 2147483648))) ≡ true
+          → pick b 34 0 ≡ firstOf (memberRulesBy T o own r s)
+      go true e q = usual-required (ltb-true _ _ e)
+      go false e q =
+          let a = both-true u _ q in
+          let d = both-true (eqb (x / 65536 % 65536) 1) _ (a .1) in
+          let f = both-true (leb above (x / 4294967296)) _ (d .1) in
+          usual-optional (eqb-false _ _ (not-true _ (sym eu ∙ a .0))) (eqb-true _ _ (d .0)) (leb-true _ _ (f .0)) (ltb-true _ _ (f .1))
+
+module _ (T : List ℕ) (o start : ℕ) (own : TypeRow) (left m above : ℕ) (inv : Owner T o start own left m above) where
   pub owner-end : left ≤ 0 → Fine ≡ verdictOf (ownerPass T o)
   unfolding verdictOf pass
   owner-end h = sym (inv .rest ∙ rw (range-empty m left h))
@@ -742,25 +913,57 @@ module _ (T : List ℕ) (o m left above : ℕ) (inv : Owner T o m left above) wh
       go true e = refl
       go false e = sym (tag-new g (ltb-false g above e))
 
-  module _ (h : 0 < left) (own : TypeRow) (eo : IsTypeRow T o own) (n : ℕ) (en : n ≡ types T) (r : MemberRow) (at : IsMemberAt T (12 + 12 * n + 8 * m) r) (c : ℕ) (e : c ≡ firstOf (memberRulesBy T o own r (isTagAlike T (own .a) m above (r .tag)))) where
-    er : IsMemberRow T m r
-    er = member-placed T m (12 + 12 * n) r (members-begin-at T n en) at
+  module _ (h : 0 < left) where
+    -- a row of class c
+    module _ (c : ℕ) (e : c ≡ firstOf (memberRulesOf T o m)) where
+      class-fault : (c ≡ 0 → ⊥) → Broken c (start + 8 * m) ≡ verdictOf (ownerPass T o)
+      unfolding memberAt
+      class-fault z = rw (inv .starts) (sym (inv .rest ∙ rw (range-left m left h) (pass-fault (memberAt T) (memberRulesOf T o) m c (range (m + 1) (left - 1)) e z)))
 
-    owner-row : c ≡ firstOf (memberRulesOf T o m)
-    unfolding memberRulesOf
-    owner-row =
-        e ∙ ap₂ (λ (y : TypeRow) (z : MemberRow). firstOf (memberRulesBy T o y z (isTagAlike T (y .a) m above (z .tag)))) (whole-type T o own eo) (whole-member T m r er)
-        ∙ ap (λ (b : Bool). firstOf (memberRulesBy T o (typeRowOf T o) (memberRowOf T m) b)) (tag-alike (tag T m))
+      class-next : c ≡ 0 → (a : ℕ) → a ≡ max above (tag T m + 1) → Owner T o start own (left - 1) (m + 1) a
+      class-next z a ea = record {
+        bytes = inv .bytes;
+        starts = inv .starts;
+        own-is = inv .own-is;
+        below = λ i l k. ⊎-elim (λ q. omega (arith, ap (tag T) q)) (λ q. omega (arith, inv .below i l q)) (eq-or-lt-of-le {n = i} {m = m} (omega arith));
+        rest = inv .rest ∙ rw (range-left m left h) (ap verdictOf (pass-next (memberAt T) (memberRulesOf T o) m c (range (m + 1) (left - 1)) e z));
+      }
 
-    pub owner-fault : (c ≡ 0 → ⊥) → Broken c (12 + 12 * n + 8 * m) ≡ verdictOf (ownerPass T o)
-    unfolding memberAt membersAt rowAt typesAt
-    owner-fault z = rw en (sym (inv .rest ∙ rw (range-left m left h) (pass-fault (memberAt T) (memberRulesOf T o) m c (range (m + 1) (left - 1)) owner-row z)))
+    -- a row read whole
+    module _ (r : MemberRow) (at : IsMemberAt T (start + 8 * m) r) (c : ℕ) (e : c ≡ firstOf (memberRulesBy T o own r (isTagAlike T (own .a) m above (r .tag)))) where
+      er : IsMemberRow T m r
+      er = member-placed T m start r (inv .starts) at
 
-    pub owner-next : c ≡ 0 → (a : ℕ) → a ≡ max above (r .tag + 1) → Owner T o (m + 1) (left - 1) a
-    owner-next z a ea = record {
-      below = λ i l k. ⊎-elim (λ q. omega (arith, er .tag-is, ap (tag T) q)) (λ q. omega (arith, inv .below i l q)) (eq-or-lt-of-le {n = i} {m = m} (omega arith));
-      rest = inv .rest ∙ rw (range-left m left h) (ap verdictOf (pass-next (memberAt T) (memberRulesOf T o) m c (range (m + 1) (left - 1)) owner-row z));
-    }
+      owner-row : c ≡ firstOf (memberRulesOf T o m)
+      unfolding memberRulesOf
+      owner-row =
+          e ∙ ap₂ (λ (y : TypeRow) (z : MemberRow). firstOf (memberRulesBy T o y z (isTagAlike T (y .a) m above (z .tag)))) (whole-type T o own (inv .own-is)) (whole-member T m r er)
+          ∙ ap (λ (b : Bool). firstOf (memberRulesBy T o (typeRowOf T o) (memberRowOf T m) b)) (tag-alike (tag T m))
+
+      pub owner-fault : (c ≡ 0 → ⊥) → Broken c (start + 8 * m) ≡ verdictOf (ownerPass T o)
+      owner-fault z = class-fault c owner-row z
+
+      pub owner-next : c ≡ 0 → (a : ℕ) → a ≡ max above (r .tag + 1) → Owner T o start own (left - 1) (m + 1) a
+      owner-next z a ea = class-next c owner-row z a (ea ∙ ap (λ (g : ℕ). max above (g + 1)) (er .tag-is))
+
+    -- a row as one number, which is usual
+    module _ (x : ℕ) (ex : x ≡ at T 8 (start + 8 * m)) (u : Bool) (eu : u ≡ isUsual x (not (eqb (own .kind) 9)) above) (usual : not u ≡ false) (b : Bool) (eb : b ≡ noPart T o (x % 65536)) where
+      parts : Fields (memberRowOf T m) x
+      unfolding memberAt
+      parts = fields T (inv .bytes) m x (ex ∙ ap (λ (p : ℕ). at T 8 (p + 8 * m)) (inv .starts))
+
+      usual-class : (s : Bool) → b ≡ s → pick s 34 0 ≡ firstOf (memberRulesOf T o m)
+      unfolding memberRulesOf
+      usual-class s q =
+          let z : x % 65536 ≡ memberType T m = omega (arith, parts .whole, parts .of-small) in
+          usual-rules T o (typeRowOf T o) (memberRowOf T m) x above parts (isTagBefore T (field T o 0) m (tag T m)) (tag-new (tag T m)) s (sym q ∙ eb ∙ ap (noPart T o) z)
+          (not (eqb (own .kind) 9)) (ap (λ (k : ℕ). not (eqb k 9)) (inv .own-is .kind-is)) (sym eu ∙ not-false u usual)
+
+      pub usual-fault : b ≡ true → Broken 34 (start + 8 * m) ≡ verdictOf (ownerPass T o)
+      usual-fault q = class-fault 34 (usual-class true q) (λ z. omega arith)
+
+      pub usual-next : b ≡ false → (a : ℕ) → a ≡ max above (x / 4294967296 + 1) → Owner T o start own (left - 1) (m + 1) a
+      usual-next q a ea = class-next 0 (usual-class false q) refl a (ea ∙ ap (λ (g : ℕ). max above (g + 1)) (tag-of (memberRowOf T m) x parts))
 
 -- over the owners
 pub record Owners (T : List ℕ) (n o : ℕ) : Type 0 where
@@ -802,12 +1005,13 @@ module _ (T : List ℕ) (h : ℕ) (eh : faultAt 0 h ≡ headerRules T) where
       go zero z = absurd (z refl)
       go (suc c) z = refl
 
-  pub check-all-rows : h ≡ 0 → 12 + 12 * types T + 8 * members T ≤ length T
-  unfolding faultAt
-  check-all-rows z = omega (arith, table-length T (sym eh ∙ rw z))
+  module _ (head : h ≡ 0) (n : ℕ) (en : n ≡ types T) where
+    pub check-all-rows : (k : ℕ) → k ≡ members T → 12 + 12 * n + 8 * k ≤ length T
+    unfolding faultAt
+    check-all-rows k ek = omega (arith, table-length T (sym eh ∙ rw head))
 
-  pub check-rows : h ≡ 0 → 12 + 12 * types T ≤ length T
-  check-rows z = omega (arith, check-all-rows z)
+    pub check-rows : 12 + 12 * n ≤ length T
+    check-rows = omega (arith, check-all-rows (members T) refl)
 
   module _ (head : h ≡ 0) (v : Verdict) (ev : v ≡ verdictOf (orElse (typePass T) (sumRules T))) where
     past-header : verdictOf (faults T) ≡ verdictOf (orElse (orElse (typePass T) (sumRules T)) (orElse (memberPass T) fine))

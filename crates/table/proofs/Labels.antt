@@ -1,6 +1,6 @@
 -- Names as parts of the table, and their comparison. Assumes nothing.
 --
---   Same, same-.., long-stop   the loops that compare two strings, eight bytes at a time and then one
+--   Same, same-.., long-stop   the loops that compare two strings, eight bytes at a time, then the last eight or single ones
 --   name-here ..               where a name begins, and how many bytes it has within the table
 --   named-part                 the part of the table that is compared is the name
 --   record-named ..            a row is a record of a name
@@ -15,7 +15,7 @@ use native.Mathlib.Omega.{arith}
 use lib.ListN.{length, take, drop, getD, drop-of-length-le}
 use lib.Seq.{drop-cons}
 use lib.Dec.{eqb, leb}
-use borrow.Author.Tests.{leb-true, leb-false, eq-eqb}
+use borrow.Author.Tests.{leb-true, leb-false, eqb-true, eqb-false, eq-eqb}
 use Rattle.encoding.specs.Result.{pick, sameBytes}
 use Rattle.encoding.specs.ResultLaws.{sameBytes-ok}
 use Rattle.encoding.specs.Table.{at, types, members, typesAt, rowAt, membersAt, memberAt, namesAt, kind, field, isRecord, nameOf, range, search as find, named}
@@ -63,18 +63,37 @@ module _ (a b : List ℕ) (i : ℕ) (inv : Same a b i) where
 
 -- bytes are the same where their numbers are
 module _ (a b : List ℕ) (sa : (j : ℕ) → getD a j 0 < 256) (sb : (j : ℕ) → getD b j 0 < 256) where
-  same-number : (k i : ℕ) → Same a b i → i + k ≤ length a → at a k i ≡ at b k i → Same a b (i + k)
-  same-number zero i inv h e = rw (add-zero i) inv
-  same-number (suc k) i inv h e =
+  number-bytes : (k i : ℕ) → at a k i ≡ at b k i → (j : ℕ) → i ≤ j → j < i + k → getD a j 0 ≡ getD b j 0
+  number-bytes zero i e j h l = absurd (omega arith)
+  number-bytes (suc k) i e j h l =
       let x = at-more a k i in
       let y = at-more b k i in
       let p : getD a i 0 ≡ getD b i 0 = omega (arith, sa i, sb i) in
       let q : at a k (suc i) ≡ at b k (suc i) = omega (arith, sa i, sb i) in
+      go (eqb i j) refl p (number-bytes k (suc i) q)
+    where
+      go : (t : Bool) → eqb i j ≡ t → getD a i 0 ≡ getD b i 0 → ((j : ℕ) → suc i ≤ j → j < suc i + k → getD a j 0 ≡ getD b j 0) → getD a j 0 ≡ getD b j 0
+      go true z p again = let y : i ≡ j = eqb-true i j z in rw y at p
+      go false z p again = let y = eqb-false i j z in again j (omega arith) (omega arith)
+
+  same-run : (k i : ℕ) → Same a b i → i + k ≤ length a → ((j : ℕ) → i ≤ j → j < i + k → getD a j 0 ≡ getD b j 0) → Same a b (i + k)
+  same-run zero i inv h e = rw (add-zero i) inv
+  same-run (suc k) i inv h e =
       let z : i + suc k ≡ suc i + k = omega arith in
-      rw z (same-number k (suc i) (rw add-one at (same-turn a b i inv (omega arith) p)) (omega arith) q)
+      rw z (same-run k (suc i) (rw add-one at (same-turn a b i inv (omega arith) (e i (omega arith) (omega arith)))) (omega arith) (λ j m l. e j (omega arith) (omega arith)))
 
   pub same-long : (i : ℕ) → Same a b i → 8 ≤ length a - i → (x y : ℕ) → x ≡ at a 8 i → y ≡ at b 8 i → x ≡ y → Same a b (i + 8)
-  same-long i inv h x y ex ey e = same-number 8 i inv (omega arith) (sym ex ∙ e ∙ ey)
+  same-long i inv h x y ex ey e = same-run 8 i inv (omega arith) (number-bytes 8 i (sym ex ∙ e ∙ ey))
+
+  -- the last eight, where fewer are left
+  pub same-last : (i : ℕ) → Same a b i → length a - i < 8 → (k : ℕ) → k ≡ length a - 8 → 8 ≤ length a → (x y : ℕ) → x ≡ at a 8 k → y ≡ at b 8 k → eqb x y ≡ sameBytes a b
+  same-last i inv h k ek l x y ex ey = go (eqb x y) refl
+    where
+      go : (t : Bool) → eqb x y ≡ t → t ≡ sameBytes a b
+      go true e =
+          let r = same-run (length a - i) i inv (omega (arith, inv .0)) (λ j m o. number-bytes 8 k (sym ex ∙ eqb-true x y e ∙ ey) j (omega arith) (omega (arith, inv .0))) in
+          same-end a b (i + (length a - i)) r (omega (arith, inv .0))
+      go false e = long-stop a b k x y ex ey (eqb-false x y e)
 
 -- ---- the part of the table that a name is
 

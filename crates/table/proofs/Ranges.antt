@@ -3,6 +3,7 @@
 --   range-more, range-none             the first of the numbers left
 --   any-here, any-next, any-none       whether some number left passes a test
 --   any-never                          none passes where each fails
+--   any-past                           the first numbers, where each fails, are passed over
 --   range-left, range-empty            the same where the numbers left are counted down
 --   find-here, find-next, find-none    the first number left that passes a test
 use Prim.Native.Nat.{ℕ, zero, suc, _+_, _-_, _≤_, _<_}
@@ -60,3 +61,7 @@ pub any-never : (f : ℕ → Bool) (k i : ℕ) → ((r : ℕ) → i ≤ r → r 
 unfolding any range
 any-never f zero i h = refl
 any-never f (suc k) i h = rw (h i (omega arith) (omega arith), any-never f k (suc i) (λ r a b. h r (omega arith) (omega arith)))
+
+pub any-past : (f : ℕ → Bool) (from t : ℕ) → from ≤ t → ((r : ℕ) → r < from → f r ≡ false) → any f (range 0 t) ≡ any f (range from (t - from))
+any-past f zero t h fails = let z : t - 0 ≡ t = omega arith in rw z
+any-past f (suc from) t h fails = any-past f from t (omega arith) (λ r l. fails r (omega arith)) ∙ rw add-one at (any-next f from t h (fails from (omega arith)))

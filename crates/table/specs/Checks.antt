@@ -3,25 +3,29 @@
 --   verdictOf                 fine, or the class and the place of the first rule that is broken
 --   isSetFrom                 a field of a row, from field i on, is not 0
 --   noBaseOf                  row b - 1 is no base of row t of kind k
---   enumRules .. listRules    the rules that a kind has, of row t by its fields r; n is the number of member rows taken before
+--   alikeFrom                 the name of row t is that of a record from a row on and before it
+--   enumRules .. listRules    the rules that a kind has, of row t by its fields r; n is the number of member rows taken before; b: its name is alike
 --   kindRules, rowRules       those of its kind; all of a type row
 --   share                     how many member rows a row takes
 --   isBasic                   a type row's kind is below 8 and every other byte is 0
+--   past                      the row before which none is a record, once row t is passed: where it stands at t and t is plain, that is no record, it moves on
 --   typePass, memberPass      the passes over type rows and over member rows
 --   isOptionalOf              a member row is optional and has a tag
 --   isTagBefore               a member row from a first one on, before m, is one
 --   isTagAlike                the same, of a tag below `above`
 --   requiredRules, optionalRules   the rules of a member row with mark 0, or with another mark, by its owner's fields and its own; b: its tag is alike
 --   memberRulesBy             the rules of a member row by these; memberRulesOf of member row m of owner o
+--   isUsual                   the eight bytes of a member row as a number: all but its type is fine, where the tags before it are below `above`
 --   ownerPass, ownersPass     the member rows of one owner; of several in turn
 --   MembersThere, OwnersThere      the member rows that a row takes are all there; those of each row are
-use Prim.Native.Nat.{ℕ, zero, suc, _+_, _-_, _*_, _≤_, _<_}
+use Prim.Native.Nat.{ℕ, zero, suc, _+_, _-_, _*_, _/_, _%_, _≤_, _<_}
 use mathlib.Core.Bool.{Bool, false, _&&_, _||_, not}
 use mathlib.Core.List.{List, [], _∷_}
 use lib.ListN.{drop}
 use lib.Dec.{eqb, leb, ltb}
 use Rattle.encoding.specs.Result.{pick}
-use Rattle.encoding.specs.Table.{at, types, members, names, rowAt, memberAt, kind, field, mark, tag, isRecord, owns, range, any, great, used, noPart, alike, typeRules, memberRules, Fault, fine, fault, orElse, pass}
+use Rattle.encoding.specs.Table.{at, types, members, names, rowAt, memberAt, kind, field, mark, tag, isRecord, owns, nameOf, range, any, great, used, noPart, typeRules, memberRules, Fault, fine, fault, orElse, pass}
+use Rattle.table.specs.Names.{isNamed}
 use Rattle.table.specs.Rows.{typeRowOf, memberRowOf}
 use Rattle.table.specs.declared.TypeRow.{TypeRow}
 use Rattle.table.specs.declared.MemberRow.{MemberRow}
@@ -41,6 +45,9 @@ unfoldable pub noBaseOf : List ℕ → ℕ → ℕ → ℕ → Bool
 noBaseOf T t k zero = false
 noBaseOf T t k (suc r) = leb t r || not (eqb (kind T r) k)
 
+unfoldable pub alikeFrom : List ℕ → ℕ → ℕ → Bool
+alikeFrom T from t = any (isNamed T (nameOf T t)) (range from (t - from))
+
 unfoldable pub enumRules : TypeRow → List (ℕ × Bool)
 enumRules r = (38, great (r .a + 65536 * r .b)) ∷ []
 
@@ -53,39 +60,42 @@ seqRules T t r = (34, noPart T t (r .a)) ∷ []
 unfoldable pub dictRules : List ℕ → ℕ → TypeRow → List (ℕ × Bool)
 dictRules T t r = (34, noPart T t (r .a)) ∷ (34, noPart T t (r .b)) ∷ []
 
-unfoldable pub recordRules : List ℕ → ℕ → TypeRow → ℕ → List (ℕ × Bool)
-recordRules T t r n =
+unfoldable pub recordRules : List ℕ → ℕ → TypeRow → ℕ → Bool → List (ℕ × Bool)
+recordRules T t r n b =
     (34, noBaseOf T t (r .kind) (r .c))
     ∷ (35, not (eqb (r .a) n))
     ∷ (37, eqb (r .e) 0 || ltb 255 (r .e))
     ∷ (37, ltb (names T) (r .d + r .e))
-    ∷ (37, alike T t)
+    ∷ (37, b)
     ∷ []
 
 unfoldable pub listRules : TypeRow → ℕ → List (ℕ × Bool)
 listRules r n = (35, not (eqb (r .a) n)) ∷ []
 
-unfoldable pub kindRules : List ℕ → ℕ → TypeRow → ℕ → List (ℕ × Bool)
-kindRules T t r n =
+unfoldable pub kindRules : List ℕ → ℕ → TypeRow → ℕ → Bool → List (ℕ × Bool)
+kindRules T t r n b =
     pick (eqb (r .kind) 8) (enumRules r)
     (pick (eqb (r .kind) 9) (structRules r n)
     (pick (eqb (r .kind) 10) (seqRules T t r)
     (pick (eqb (r .kind) 11) (dictRules T t r)
-    (pick (isRecord (r .kind)) (recordRules T t r n)
+    (pick (isRecord (r .kind)) (recordRules T t r n b)
     (pick (eqb (r .kind) 15) (listRules r n) [])))))
 
-unfoldable pub rowRules : List ℕ → ℕ → TypeRow → ℕ → List (ℕ × Bool)
-rowRules T t r n =
+unfoldable pub rowRules : List ℕ → ℕ → TypeRow → ℕ → Bool → List (ℕ × Bool)
+rowRules T t r n b =
     (32, not (eqb (r .spare) 0))
     ∷ (32, isSetFrom r (used (r .kind)))
     ∷ (33, ltb 15 (r .kind))
-    ∷ kindRules T t r n
+    ∷ kindRules T t r n b
 
 unfoldable pub share : TypeRow → ℕ
 share r = pick (owns (r .kind)) (r .b) 0
 
 unfoldable pub isBasic : List ℕ → ℕ → Bool
 isBasic T t = ltb (at T 4 (rowAt T t)) 8 && eqb (at T 8 (rowAt T t + 4)) 0
+
+unfoldable pub past : ℕ → ℕ → Bool → ℕ
+past from t plain = pick (eqb from t && plain) (t + 1) from
 
 unfoldable pub typePass : List ℕ → Fault
 typePass T = pass (rowAt T) (typeRules T) (range 0 (types T))
@@ -118,6 +128,10 @@ optionalRules T o own r b =
 
 unfoldable pub memberRulesBy : List ℕ → ℕ → TypeRow → MemberRow → Bool → List (ℕ × Bool)
 memberRulesBy T o own r b = (32, not (eqb (r .spare) 0)) ∷ pick (eqb (r .mark) 0) (requiredRules T o r) (optionalRules T o own r b)
+
+unfoldable pub isUsual : ℕ → Bool → ℕ → Bool
+isUsual x optional above =
+    ltb x 65536 || (optional && (eqb (x / 65536 % 65536) 1 && (leb above (x / 4294967296) && ltb (x / 4294967296) 2147483648)))
 
 unfoldable pub memberRulesOf : List ℕ → ℕ → ℕ → List (ℕ × Bool)
 memberRulesOf T o m = memberRulesBy T o (typeRowOf T o) (memberRowOf T m) (isTagBefore T (field T o 0) m (tag T m))

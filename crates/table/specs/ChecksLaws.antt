@@ -17,7 +17,7 @@ use lib.Dec.{eqb}
 use borrow.Author.Tests.{eqb-true, eqb-false, not-false, lt-leb, le-leb, lt-ltb}
 use Rattle.encoding.specs.Result.{pick, firstOf}
 use Rattle.encoding.specs.Number.{negative}
-use Rattle.encoding.specs.Table.{types, members, names, typesAt, rowAt, membersAt, memberAt, namesAt, kind, field, mark, tag, owns, range, any, used, noBase, taken, takes, ownerOf, tagAlike, typeRules, memberRules, headerTests, headerRules, sumRules, faultAt, Fault, fine, fault, orElse, pass}
+use Rattle.encoding.specs.Table.{types, members, names, typesAt, rowAt, membersAt, memberAt, namesAt, kind, field, mark, tag, owns, range, any, used, noBase, alike, taken, takes, ownerOf, tagAlike, typeRules, memberRules, headerTests, headerRules, sumRules, faultAt, Fault, fine, fault, orElse, pass}
 use Rattle.table.specs.Rows.{typeRowOf}
 use Rattle.table.specs.Checks.{isSetFrom, noBaseOf, enumRules, structRules, seqRules, dictRules, recordRules, listRules, kindRules, rowRules, share, typePass, memberPass, isTagBefore, requiredRules, optionalRules, memberRulesBy, memberRulesOf, ownerPass, ownersPass, OwnersThere}
 
@@ -48,7 +48,7 @@ module _ (T : List ℕ) (t : ℕ) where
   set-from (suc (suc (suc (suc zero)))) = refl
   set-from (suc (suc (suc (suc (suc i))))) = let z : 5 - suc (suc (suc (suc (suc i)))) ≡ 0 = omega arith in rw (z, drop-of-length-le {A = ℕ} [] {i = i} (omega arith))
 
-  kind-rules : firstOf (kindRules T t (typeRowOf T t) (taken T t)) ≡ firstOf (drop 3 (typeRules T t))
+  kind-rules : firstOf (kindRules T t (typeRowOf T t) (taken T t) (alike T t)) ≡ firstOf (drop 3 (typeRules T t))
   unfolding firstOf typeRules kindRules enumRules structRules seqRules dictRules recordRules listRules
   kind-rules =
       rw (no-base (field T t 2)) (
@@ -60,7 +60,7 @@ module _ (T : List ℕ) (t : ℕ) where
       either (kind T t) 14 (λ e. rw e) (λ e14.
       either (kind T t) 15 (λ e. rw e) (λ e15. rw (e8, e9, e10, e11, e13, e14, e15)))))))))
 
-  pub row-rules : firstOf (rowRules T t (typeRowOf T t) (taken T t)) ≡ firstOf (typeRules T t)
+  pub row-rules : firstOf (rowRules T t (typeRowOf T t) (taken T t) (alike T t)) ≡ firstOf (typeRules T t)
   unfolding firstOf rowRules typeRules
   row-rules = rw (set-from (used (kind T t)), kind-rules)
 

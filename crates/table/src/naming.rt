@@ -31,7 +31,7 @@ pub fn name_length(table: &[u8], t: usize) -> usize
     table.len() - a
 }
 
-// Two strings are the same bytes, compared eight at a time.
+// Two strings are the same bytes, compared eight at a time; the last eight are compared as they stand.
 pub fn same(a: &[u8], b: &[u8]) -> bool
     ensures { λ r. ⌜ r ≡ sameBytes (now (a .entry)) (now (b .entry)) ⌝ }
 {
@@ -45,6 +45,9 @@ pub fn same(a: &[u8], b: &[u8]) -> bool
             return false;
         }
         i += 8;
+    }
+    if 8 <= n {
+        return wire::long_in(a, n - 8) == wire::long_in(b, n - 8);
     }
     while i < n {
         if a[i] != b[i] {

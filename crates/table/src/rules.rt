@@ -4,12 +4,12 @@ use crate::TypeRow;
 use crate::Verdict;
 ghost use mathlib.Core.Path.{_≡_};
 ghost use mathlib.Core.List.{[], _∷_};
-ghost use Prim.Native.Nat.{_+_, _*_, _≤_, _<_, max};
+ghost use Prim.Native.Nat.{_+_, _-_, _*_, _≤_, _<_, max};
 ghost use lib.ListN.{length, take};
 ghost use Rattle.encoding.specs.Result.{firstOf, sameBytes};
-ghost use Rattle.encoding.specs.Table.{any, range, types, members, headerRules, sumRules, orElse, used, noPart, alike, faultAt, faults};
+ghost use Rattle.encoding.specs.Table.{any, range, types, members, headerRules, sumRules, orElse, used, noPart, faultAt, faults};
 ghost use Rattle.table.specs.Names.{isNamed};
-ghost use Rattle.table.specs.Checks.{verdictOf, isSetFrom, noBaseOf, enumRules, structRules, seqRules, dictRules, recordRules, listRules, kindRules, rowRules, share, isBasic, typePass, isOptionalOf, isTagBefore, isTagAlike, requiredRules, optionalRules, memberRulesBy, ownerPass, ownersPass, MembersThere, OwnersThere};
+ghost use Rattle.table.specs.Checks.{verdictOf, isSetFrom, noBaseOf, alikeFrom, enumRules, structRules, seqRules, dictRules, recordRules, listRules, kindRules, rowRules, share, isBasic, past, typePass, isOptionalOf, isTagBefore, isTagAlike, requiredRules, optionalRules, memberRulesBy, isUsual, ownerPass, ownersPass, MembersThere, OwnersThere};
 
 // The mark FGT and version 1 stand in front: four bytes as an int, then a 0.
 fn is_marked(table: &[u8]) -> bool
@@ -140,27 +140,34 @@ fn no_base(table: &[u8], t: usize, k: usize, b: usize) -> bool
     crate::kind_in(table, b - 1) != k
 }
 
-// A record among the first t rows has this name.
-fn is_name_before(table: &[u8], name: &[u8], t: usize) -> bool
-    ensures { λ r. ⌜ r ≡ any (isNamed (now (table .entry)) (now (name .entry))) (range 0 t) ⌝ }
+// A record from row `from` on and before row t has this name. A name longer than a row says is another, whatever its bytes.
+fn is_name_before(table: &[u8], name: &[u8], from: usize, t: usize) -> bool
+    requires { ⌜ 12 + 12 * t ≤ length (now table) ⌝ }
+    ensures { λ r. ⌜ r ≡ any (isNamed (now (table .entry)) (now (name .entry))) (range from (t - from)) ⌝ }
 {
-    let mut r = 0;
+    let mut r = from;
     while r < t {
-        if crate::naming::is_record_named(table, r, name) {
-            return true;
+        let row = crate::type_row_in(table, r);
+        if crate::is_record(row.kind) {
+            if name.len() <= row.e {
+                if crate::naming::is_named(table, r, name) {
+                    return true;
+                }
+            }
         }
         r += 1;
     }
     false
 }
 
-// The name of record row t is that of a record before it.
-fn alike(table: &[u8], t: usize) -> bool
-    ensures { λ r. ⌜ r ≡ alike (now (table .entry)) t ⌝ }
+// The name of row t is that of a record from row `from` on and before it.
+fn alike(table: &[u8], from: usize, t: usize) -> bool
+    requires { ⌜ 12 + 12 * t ≤ length (now table) ⌝ }
+    ensures { λ r. ⌜ r ≡ alikeFrom (now (table .entry)) from t ⌝ }
 {
     let a = crate::naming::name_start(table, t);
     let e = a + crate::naming::name_length(table, t);
-    is_name_before(table, &table[a..e], t)
+    is_name_before(table, &table[a..e], from, t)
 }
 
 // An enum's own rule.
@@ -212,11 +219,11 @@ fn dict_row(table: &[u8], t: usize, row: TypeRow) -> usize
     0
 }
 
-// The own rules of an exception or a class, row t.
-fn record_row(table: &[u8], t: usize, row: TypeRow, prior: usize) -> usize
+// The own rules of an exception or a class, row t; its name is looked for from row `from` on.
+fn record_row(table: &[u8], t: usize, row: TypeRow, prior: usize, from: usize) -> usize
     requires { ⌜ 12 + 12 * t ≤ length (now table) ⌝ }
     requires { ⌜ row .d < 65536 ⌝ }
-    ensures { λ r. ⌜ r ≡ firstOf (recordRules (now (table .entry)) t row prior) ⌝ }
+    ensures { λ r. ⌜ r ≡ firstOf (recordRules (now (table .entry)) t row prior (alikeFrom (now (table .entry)) from t)) ⌝ }
 {
     if no_base(table, t, row.kind, row.c) {
         return 34;
@@ -233,7 +240,7 @@ fn record_row(table: &[u8], t: usize, row: TypeRow, prior: usize) -> usize
     if crate::names(table) < row.d + row.e {
         return 37;
     }
-    if alike(table, t) {
+    if alike(table, from, t) {
         return 37;
     }
     0
@@ -250,10 +257,10 @@ fn list_row(row: TypeRow, prior: usize) -> usize
 }
 
 // The rules of row t that its kind has.
-fn kind_row(table: &[u8], t: usize, row: TypeRow, prior: usize) -> usize
+fn kind_row(table: &[u8], t: usize, row: TypeRow, prior: usize, from: usize) -> usize
     requires { ⌜ 12 + 12 * t ≤ length (now table) ⌝ }
     requires { ⌜ (row .a < 65536) × (row .b < 65536) × (row .d < 65536) ⌝ }
-    ensures { λ r. ⌜ r ≡ firstOf (kindRules (now (table .entry)) t row prior) ⌝ }
+    ensures { λ r. ⌜ r ≡ firstOf (kindRules (now (table .entry)) t row prior (alikeFrom (now (table .entry)) from t)) ⌝ }
 {
     let k = row.kind;
     if k == 8 {
@@ -269,7 +276,7 @@ fn kind_row(table: &[u8], t: usize, row: TypeRow, prior: usize) -> usize
         return dict_row(table, t, row);
     }
     if crate::is_record(k) {
-        return record_row(table, t, row, prior);
+        return record_row(table, t, row, prior, from);
     }
     if k == 15 {
         return list_row(row, prior);
@@ -278,10 +285,10 @@ fn kind_row(table: &[u8], t: usize, row: TypeRow, prior: usize) -> usize
 }
 
 // The class of type row t, or 0.
-fn type_class(table: &[u8], t: usize, row: TypeRow, prior: usize) -> usize
+fn type_class(table: &[u8], t: usize, row: TypeRow, prior: usize, from: usize) -> usize
     requires { ⌜ 12 + 12 * t ≤ length (now table) ⌝ }
     requires { ⌜ (row .a < 65536) × (row .b < 65536) × (row .d < 65536) ⌝ }
-    ensures { λ r. ⌜ r ≡ firstOf (rowRules (now (table .entry)) t row prior) ⌝ }
+    ensures { λ r. ⌜ r ≡ firstOf (rowRules (now (table .entry)) t row prior (alikeFrom (now (table .entry)) from t)) ⌝ }
 {
     if row.spare != 0 {
         return 32;
@@ -292,7 +299,7 @@ fn type_class(table: &[u8], t: usize, row: TypeRow, prior: usize) -> usize
     if 15 < row.kind {
         return 33;
     }
-    kind_row(table, t, row, prior)
+    kind_row(table, t, row, prior, from)
 }
 
 // How many member rows a row takes.
@@ -319,25 +326,41 @@ fn is_basic(table: &[u8], t: usize) -> bool
     false
 }
 
-// The pass over the type rows, then the member sum. A basic row breaks no rule and takes no member rows.
-fn type_rows(table: &[u8]) -> Verdict
-    requires { ⌜ 12 + 12 * types (now table) ≤ length (now table) ⌝ }
+// `from`, before which no row is a record, once row t is passed: where it stands at t and t is plain, that is no record, it moves on.
+fn past(from: usize, t: usize, plain: bool) -> usize
+    requires { ⌜ t < 65536 ⌝ }
+    ensures { λ r. ⌜ r ≡ past from t plain ⌝ }
+{
+    if from == t {
+        if plain {
+            return t + 1;
+        }
+    }
+    from
+}
+
+// The pass over the n type rows, then the member sum. A basic row breaks no rule and takes no member rows. No row before `from` is a record.
+fn type_rows(table: &[u8], n: usize) -> Verdict
+    requires { ⌜ n ≡ types (now table) ⌝ }
+    requires { ⌜ 12 + 12 * n ≤ length (now table) ⌝ }
     ensures { λ r. ⌜ r ≡ verdictOf (orElse (typePass (now (table .entry))) (sumRules (now (table .entry)))) ⌝ }
 {
-    let n = crate::types(table);
     let mut prior = 0;
+    let mut from = 0;
     let mut t = 0;
     while t < n {
         if is_basic(table, t) {
+            from = past(from, t, true);
             t += 1;
             continue;
         }
         let row = crate::type_row_in(table, t);
-        let c = type_class(table, t, row, prior);
+        let c = type_class(table, t, row, prior, from);
         if c != 0 {
             return Verdict::Broken(c, 12 + 12 * t);
         }
         prior += share(row);
+        from = past(from, t, !crate::is_record(row.kind));
         t += 1;
     }
     if prior != crate::members(table) {
@@ -454,23 +477,58 @@ fn raised(above: usize, tag: usize) -> usize
     if above <= tag { tag + 1 } else { above }
 }
 
-// The member rows of owner o, where they are all there; the tags before m are below `above`. Behind the member sum they are.
-fn owner(table: &[u8], o: usize) -> Verdict
+// A member row, as one number, breaks no rule but perhaps that of its type: a required one with tag 0, or an optional one of no struct with a tag not below `above`.
+fn is_usual(x: usize, optional: bool, above: usize) -> bool
+    ensures { λ r. ⌜ r ≡ isUsual x optional above ⌝ }
+{
+    if x < 65536 {
+        return true;
+    }
+    if !optional {
+        return false;
+    }
+    if x / 65536 % 65536 != 1 {
+        return false;
+    }
+    let tag = x / 4294967296;
+    if tag < above {
+        return false;
+    }
+    tag < 2147483648
+}
+
+// The member rows of owner o in a table of n type rows and k member rows, where they are all there: behind the member sum they are. The tags before m are below `above`.
+// Usual rows are passed as one number each; from the first other row on, each is read whole.
+fn owner(table: &[u8], o: usize, n: usize, k: usize) -> Verdict
     requires { ⌜ 24 + 12 * o ≤ length (now table) ⌝ }
-    requires { ⌜ 12 + 12 * types (now table) + 8 * members (now table) ≤ length (now table) ⌝ }
+    requires { ⌜ (n ≡ types (now table)) × (k ≡ members (now table)) ⌝ }
+    requires { ⌜ 12 + 12 * n + 8 * k ≤ length (now table) ⌝ }
     ensures { λ r. ⌜ (MembersThere (now (table .entry)) o → r ≡ verdictOf (ownerPass (now (table .entry)) o)) ⌝ }
 {
-    let start = 12 + 12 * crate::types(table);
+    let start = 12 + 12 * n;
     let own = crate::type_row_in(table, o);
     let mut left = share(own);
     if left == 0 {
         return Verdict::Fine;
     }
-    if crate::members(table) < own.a + left {
+    if k < own.a + left {
         return Verdict::Broken(35, 0);
     }
     let mut m = own.a;
     let mut above = 0;
+    let optional = own.kind != 9;
+    while left > 0 {
+        let x = wire::long_in(table, start + 8 * m);
+        if !is_usual(x, optional, above) {
+            break;
+        }
+        if no_part(table, o, x % 65536) {
+            return Verdict::Broken(34, start + 8 * m);
+        }
+        above = raised(above, x / 4294967296);
+        m += 1;
+        left -= 1;
+    }
     while left > 0 {
         let row = crate::member_row_in(table, start + 8 * m);
         let c = member_class(table, o, own, m, row, above);
@@ -484,15 +542,15 @@ fn owner(table: &[u8], o: usize) -> Verdict
     Verdict::Fine
 }
 
-// The pass over the member rows, owner by owner, where those of each are all there.
-fn member_rows(table: &[u8]) -> Verdict
-    requires { ⌜ 12 + 12 * types (now table) + 8 * members (now table) ≤ length (now table) ⌝ }
+// The pass over the k member rows, by each of the n type rows as owner, where those of each are all there.
+fn member_rows(table: &[u8], n: usize, k: usize) -> Verdict
+    requires { ⌜ (n ≡ types (now table)) × (k ≡ members (now table)) ⌝ }
+    requires { ⌜ 12 + 12 * n + 8 * k ≤ length (now table) ⌝ }
     ensures { λ r. ⌜ (OwnersThere (now (table .entry)) → r ≡ verdictOf (ownersPass (now (table .entry)) (range 0 (types (now (table .entry)))))) ⌝ }
 {
-    let n = crate::types(table);
     let mut o = 0;
     while o < n {
-        let v = owner(table, o);
+        let v = owner(table, o, n, k);
         match v {
             Verdict::Fine => {}
             Verdict::Broken(c, p) => {
@@ -512,12 +570,13 @@ pub fn check(table: &[u8]) -> Verdict
     if h != 0 {
         return Verdict::Broken(h, 0);
     }
-    let v = type_rows(table);
+    let n = crate::types(table);
+    let v = type_rows(table, n);
     match v {
         Verdict::Broken(c, p) => {
             return Verdict::Broken(c, p);
         }
         Verdict::Fine => {}
     }
-    member_rows(table)
+    member_rows(table, n, crate::members(table))
 }

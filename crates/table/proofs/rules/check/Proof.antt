@@ -10,9 +10,11 @@ check-spec =
     (tie.spec
     (λ c κs. search needs)  -- header-requires
     (λ c. search check-header)  -- returns
-    (λ c κs. search check-rows)  -- type-rows-requires
+    (λ c κs. search needs)  -- types-requires
+    (λ c κs. search (needs, check-rows))  -- type-rows-requires
     (λ c. search needs)  -- enum-known-v
     (λ c. search check-types)  -- returns-2
     (λ c. search needs)  -- enum-told
-    (λ c κs. search check-all-rows)  -- member-rows-requires
+    (λ c κs. search needs)  -- members-requires
+    (λ c κs. search (needs, check-all-rows))  -- member-rows-requires
     (λ c. search check-members))  -- returns-3
