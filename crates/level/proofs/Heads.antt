@@ -181,60 +181,60 @@ module _ (ms : List Member) (least : ℕ) (s : List ℕ) (long : Bool) (tag k n 
   unfolding header must judged front
   header-wrong c z e = rw (F .is, e, ne-eqb c 0 z)
 
-module _ (T : List ℕ) (t from least : ℕ) (s : List ℕ) (f : Front) (e : f ≡ frontOf (front s)) where
-  pub head-none : (c p : ℕ) → f ≡ Isnt c p → Wrong c p ≡ headOf T (optionalFrom T t from) (header (optionalFrom T t from) least s)
+module _ (T : List ℕ) (end from least : ℕ) (s : List ℕ) (f : Front) (e : f ≡ frontOf (front s)) where
+  pub head-none : (c p : ℕ) → f ≡ Isnt c p → Wrong c p ≡ headOf T (optionalFrom T end from) (header (optionalFrom T end from) least s)
   unfolding header must judged front headOf
   head-none c p q = rw (frontless (front s) c p (sym q ∙ e))
 
   module _ (long : Bool) (tag k n : ℕ) (q : f ≡ Is long tag k n) (c : ℕ) (ec : c ≡ early least long tag k) where
-    pub head-early : (c ≡ 0 → ⊥) → Wrong c 0 ≡ headOf T (optionalFrom T t from) (header (optionalFrom T t from) least s)
+    pub head-early : (c ≡ 0 → ⊥) → Wrong c 0 ≡ headOf T (optionalFrom T end from) (header (optionalFrom T end from) least s)
     unfolding headOf
     head-early z = go (fronted (front s) long tag k n (sym q ∙ e))
       where
-        go : Fronted (front s) long tag k n → Wrong c 0 ≡ headOf T (optionalFrom T t from) (header (optionalFrom T t from) least s)
+        go : Fronted (front s) long tag k n → Wrong c 0 ≡ headOf T (optionalFrom T end from) (header (optionalFrom T end from) least s)
         go F =
-            let g = early-same (optionalFrom T t from) least s long tag k n F c ec in
-            sym (ap (headOf T (optionalFrom T t from)) (header-wrong (optionalFrom T t from) least s long tag k n F c z (form-early (optionalFrom T t from) least (F .head) c g z)))
+            let g = early-same (optionalFrom T end from) least s long tag k n F c ec in
+            sym (ap (headOf T (optionalFrom T end from)) (header-wrong (optionalFrom T end from) least s long tag k n F c z (form-early (optionalFrom T end from) least (F .head) c g z)))
 
-    module _ (z : c ≡ 0) (found : FoundMember) (ef : found ≡ memberFound T (lookup tag (optionalFrom T t from))) where
-      pub head-unknown : found ≡ Nothing → Unknown tag k n ≡ headOf T (optionalFrom T t from) (header (optionalFrom T t from) least s)
+    module _ (z : c ≡ 0) (found : FoundMember) (ef : found ≡ memberFound T (lookup tag (optionalFrom T end from))) where
+      pub head-unknown : found ≡ Nothing → Unknown tag k n ≡ headOf T (optionalFrom T end from) (header (optionalFrom T end from) least s)
       unfolding headOf headFor wrongType
       head-unknown qf = go (fronted (front s) long tag k n (sym q ∙ e))
         where
-          go : Fronted (front s) long tag k n → Unknown tag k n ≡ headOf T (optionalFrom T t from) (header (optionalFrom T t from) least s)
+          go : Fronted (front s) long tag k n → Unknown tag k n ≡ headOf T (optionalFrom T end from) (header (optionalFrom T end from) least s)
           go F =
-              let g = early-same (optionalFrom T t from) least s long tag k n F c ec in
-              let lost : lookup (F .head .tag) (optionalFrom T t from) ≡ none = ap (λ (x : ℕ). lookup x (optionalFrom T t from)) (F .tag-is) ∙ unmet T t from tag (sym qf ∙ ef) in
-              let fine : headerForm (optionalFrom T t from) least (F .head) ≡ 0 = form-late (optionalFrom T t from) least (F .head) c g z ∙ rw lost in
-              sym (ap (headOf T (optionalFrom T t from)) (header-fine (optionalFrom T t from) least s long tag k n F fine) ∙ rw (lost, F .tag-is, F .bits-is))
+              let g = early-same (optionalFrom T end from) least s long tag k n F c ec in
+              let lost : lookup (F .head .tag) (optionalFrom T end from) ≡ none = ap (λ (x : ℕ). lookup x (optionalFrom T end from)) (F .tag-is) ∙ unmet T end from tag (sym qf ∙ ef) in
+              let fine : headerForm (optionalFrom T end from) least (F .head) ≡ 0 = form-late (optionalFrom T end from) least (F .head) c g z ∙ rw lost in
+              sym (ap (headOf T (optionalFrom T end from)) (header-fine (optionalFrom T end from) least s long tag k n F fine) ∙ rw (lost, F .tag-is, F .bits-is))
 
       module _ (row of : ℕ) (qf : found ≡ At row of) (all : ℕ) (en : all ≡ members T) (ty : ℕ) (et : ty ≡ typeOf all row of) (shapes : List ℕ) (ea : shapes ≡ shapesOf T)
           (g : ℕ) (eg : g ≡ formIn shapes ty) (b : ℕ) (eb : b ≡ bits (bitsOf (formNamed g))) where
-        row-is : Met T t from tag row of → ty ≡ typeRow T row
+        row-is : Met T end from tag row of → ty ≡ typeRow T row
         row-is M = typed T row all of ty en (M .of-is) et
 
         -- the judgement of the type
-        type-form : (F : Fronted (front s) long tag k n) (M : Met T t from tag row of)
-            → headerForm (optionalFrom T t from) least (F .head) ≡ pick (not (eqb k b)) 12 0
+        type-form : (F : Fronted (front s) long tag k n) (M : Met T end from tag row of)
+            → headerForm (optionalFrom T end from) least (F .head) ≡ pick (not (eqb k b)) 12 0
         unfolding wrongType
         type-form F M =
-            let there : lookup (F .head .tag) (optionalFrom T t from) ≡ some (M .member) = ap (λ (x : ℕ). lookup x (optionalFrom T t from)) (F .tag-is) ∙ M .there in
-            let same : b ≡ bits (bitsOf (formOf (M .member .ty))) = eb ∙ ap (λ (x : Form). bits (bitsOf x)) (met-form T shapes t from tag row of ty g M ea (row-is M) eg) in
-            form-late (optionalFrom T t from) least (F .head) c (early-same (optionalFrom T t from) least s long tag k n F c ec) z ∙ rw (there, F .bits-is, ← same)
+            let there : lookup (F .head .tag) (optionalFrom T end from) ≡ some (M .member) = ap (λ (x : ℕ). lookup x (optionalFrom T end from)) (F .tag-is) ∙ M .there in
+            let same : b ≡ bits (bitsOf (formOf (M .member .ty))) = eb ∙ ap (λ (x : Form). bits (bitsOf x)) (met-form T shapes end from tag row of ty g M ea (row-is M) eg) in
+            form-late (optionalFrom T end from) least (F .head) c (early-same (optionalFrom T end from) least s long tag k n F c ec) z ∙ rw (there, F .bits-is, ← same)
 
-        pub head-known : k ≡ b → Known row ty tag n ≡ headOf T (optionalFrom T t from) (header (optionalFrom T t from) least s)
+        pub head-known : k ≡ b → Known row ty tag n g ≡ headOf T (optionalFrom T end from) (header (optionalFrom T end from) least s)
         unfolding headOf headFor
-        head-known y = go (fronted (front s) long tag k n (sym q ∙ e)) (met T t from tag row of (sym qf ∙ ef))
+        head-known y = go (fronted (front s) long tag k n (sym q ∙ e)) (met T end from tag row of (sym qf ∙ ef))
           where
-            go : Fronted (front s) long tag k n → Met T t from tag row of → Known row ty tag n ≡ headOf T (optionalFrom T t from) (header (optionalFrom T t from) least s)
+            go : Fronted (front s) long tag k n → Met T end from tag row of → Known row ty tag n g ≡ headOf T (optionalFrom T end from) (header (optionalFrom T end from) least s)
             go F M =
-                let there : lookup (F .head .tag) (optionalFrom T t from) ≡ some (M .member) = ap (λ (x : ℕ). lookup x (optionalFrom T t from)) (F .tag-is) ∙ M .there in
-                let fine : headerForm (optionalFrom T t from) least (F .head) ≡ 0 = type-form F M ∙ rw (eq-eqb k b y) in
-                sym (ap (headOf T (optionalFrom T t from)) (header-fine (optionalFrom T t from) least s long tag k n F fine) ∙ rw (there, F .tag-is, M .is, ← row-is M))
+                let there : lookup (F .head .tag) (optionalFrom T end from) ≡ some (M .member) = ap (λ (x : ℕ). lookup x (optionalFrom T end from)) (F .tag-is) ∙ M .there in
+                let fine : headerForm (optionalFrom T end from) least (F .head) ≡ 0 = type-form F M ∙ rw (eq-eqb k b y) in
+                sym (ap (headOf T (optionalFrom T end from)) (header-fine (optionalFrom T end from) least s long tag k n F fine) ∙ rw (there, F .tag-is, M .is, ← row-is M, ← ea, ← eg))
 
-        pub head-other : (k ≡ b → ⊥) → Wrong 12 0 ≡ headOf T (optionalFrom T t from) (header (optionalFrom T t from) least s)
+        pub head-other : (k ≡ b → ⊥) → Wrong 12 0 ≡ headOf T (optionalFrom T end from) (header (optionalFrom T end from) least s)
         unfolding headOf
-        head-other y = go (fronted (front s) long tag k n (sym q ∙ e)) (met T t from tag row of (sym qf ∙ ef))
+        head-other y = go (fronted (front s) long tag k n (sym q ∙ e)) (met T end from tag row of (sym qf ∙ ef))
           where
-            go : Fronted (front s) long tag k n → Met T t from tag row of → Wrong 12 0 ≡ headOf T (optionalFrom T t from) (header (optionalFrom T t from) least s)
-            go F M = sym (ap (headOf T (optionalFrom T t from)) (header-wrong (optionalFrom T t from) least s long tag k n F 12 (λ i. omega arith) (type-form F M ∙ rw (ne-eqb k b y))))
+            go : Fronted (front s) long tag k n → Met T end from tag row of → Wrong 12 0 ≡ headOf T (optionalFrom T end from) (header (optionalFrom T end from) least s)
+            go F M = sym (ap (headOf T (optionalFrom T end from)) (header-wrong (optionalFrom T end from) least s long tag k n F 12 (λ i. omega arith) (type-form F M ∙ rw (ne-eqb k b y))))

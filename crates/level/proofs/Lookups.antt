@@ -22,7 +22,7 @@ use Rattle.table.specs.declared.FoundMember.the-variants.{At, Nothing}
 use Rattle.table.specs.Found.{memberFound}
 use Rattle.table.specs.Shapes.{shapesOf, formIn}
 use Rattle.table.specs.ShapesLaws.{form-row}
-use Rattle.table.specs.Tags.{ownFrom, optionalFrom}
+use Rattle.table.specs.Tags.{optionalFrom}
 use Rattle.table.specs.TagsLaws.{found-own}
 use Rattle.table.proofs.Places.{member-row, no-member}
 use Rattle.level.specs.Forms.{formNamed}
@@ -52,38 +52,38 @@ pub typed : (T : List ℕ) (m all i r : ℕ) → all ≡ members T → i ≡ mem
 unfolding typeRow
 typed T m all i r ea ei e = rw (← ea, ← ei) e
 
-pub optional-of : (T : List ℕ) (t from k : ℕ) (m : Member) → lookup k (optionalFrom T t from) ≡ some m → m .ty ≡ memberTy T (trees T) (m .row)
-unfolding optionalFrom ownFrom
-optional-of T t from k m h = found-own T (trees T) k _ _ m h .type-is
+pub optional-of : (T : List ℕ) (end from k : ℕ) (m : Member) → lookup k (optionalFrom T end from) ≡ some m → m .ty ≡ memberTy T (trees T) (m .row)
+unfolding optionalFrom
+optional-of T end from k m h = found-own T (trees T) k _ _ m h .type-is
 
-pub record Met (T : List ℕ) (t from k row of : ℕ) : Type 0 where
+pub record Met (T : List ℕ) (end from k row of : ℕ) : Type 0 where
   pub member : Member
-  pub there : lookup k (optionalFrom T t from) ≡ some member
+  pub there : lookup k (optionalFrom T end from) ≡ some member
   pub is : member .row ≡ row
   pub of-is : of ≡ memberType T row
   pub type : member .ty ≡ memberTy T (trees T) row
 
-pub met : (T : List ℕ) (t from k row of : ℕ) → At row of ≡ memberFound T (lookup k (optionalFrom T t from)) → Met T t from k row of
+pub met : (T : List ℕ) (end from k row of : ℕ) → At row of ≡ memberFound T (lookup k (optionalFrom T end from)) → Met T end from k row of
 unfolding memberFound
-met T t from k row of h = go (lookup k (optionalFrom T t from)) refl h
+met T end from k row of h = go (lookup k (optionalFrom T end from)) refl h
   where
-    go : (o : Option Member) → lookup k (optionalFrom T t from) ≡ o → At row of ≡ memberFound T o → Met T t from k row of
+    go : (o : Option Member) → lookup k (optionalFrom T end from) ≡ o → At row of ≡ memberFound T o → Met T end from k row of
     go none e h = let z : _≡_ {A = ℕ} 0 1 = cc in absurd (omega arith)
     go (some m) e h =
         let q : m .row ≡ row = cc in
-        record { member = m; there = e; is = q; of-is = cc; type = optional-of T t from k m e ∙ ap (memberTy T (trees T)) q }
+        record { member = m; there = e; is = q; of-is = cc; type = optional-of T end from k m e ∙ ap (memberTy T (trees T)) q }
 
-pub unmet : (T : List ℕ) (t from k : ℕ) → Nothing ≡ memberFound T (lookup k (optionalFrom T t from)) → lookup k (optionalFrom T t from) ≡ none
+pub unmet : (T : List ℕ) (end from k : ℕ) → Nothing ≡ memberFound T (lookup k (optionalFrom T end from)) → lookup k (optionalFrom T end from) ≡ none
 unfolding memberFound
-unmet T t from k h = go (lookup k (optionalFrom T t from)) refl h
+unmet T end from k h = go (lookup k (optionalFrom T end from)) refl h
   where
-    go : (o : Option Member) → lookup k (optionalFrom T t from) ≡ o → Nothing ≡ memberFound T o → lookup k (optionalFrom T t from) ≡ none
+    go : (o : Option Member) → lookup k (optionalFrom T end from) ≡ o → Nothing ≡ memberFound T o → lookup k (optionalFrom T end from) ≡ none
     go none e h = e
     go (some m) e h = let z : _≡_ {A = ℕ} 0 1 = cc in absurd (omega arith)
 
 pub row-form : (T shapes : List ℕ) (ty g : ℕ) → shapes ≡ shapesOf T → g ≡ formIn shapes ty → formNamed g ≡ formOf (tyOf T ty)
 row-form T shapes ty g ef eg = ap formNamed (eg ∙ form-row T ty shapes ef) ∙ named-form (tyOf T ty)
 
-pub met-form : (T shapes : List ℕ) (t from k row of ty g : ℕ) (M : Met T t from k row of) → shapes ≡ shapesOf T → ty ≡ typeRow T row → g ≡ formIn shapes ty
+pub met-form : (T shapes : List ℕ) (end from k row of ty g : ℕ) (M : Met T end from k row of) → shapes ≡ shapesOf T → ty ≡ typeRow T row → g ≡ formIn shapes ty
     → formNamed g ≡ formOf (M .member .ty)
-met-form T shapes t from k row of ty g M ef et eg = row-form T shapes ty g ef eg ∙ ap formOf (row-type T row ty et ∙ sym (M .type))
+met-form T shapes end from k row of ty g M ef et eg = row-form T shapes ty g ef eg ∙ ap formOf (row-type T row ty et ∙ sym (M .type))

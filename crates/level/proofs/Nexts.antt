@@ -36,142 +36,151 @@ use Rattle.level.proofs.Parts.{used-within, used-placed, used-sum}
 
 -- ---- what a header's answer tells
 
-record HeadKnown (T : List ℕ) (t from least : ℕ) (s : List ℕ) (row ty tag n : ℕ) : Type 0 where
+record HeadKnown (T : List ℕ) (end from least : ℕ) (s : List ℕ) (row ty tag n g : ℕ) : Type 0 where
   head : Header
   member : Member
-  is : header (optionalFrom T t from) least s ≡ ok head n
-  there : lookup (head .tag) (optionalFrom T t from) ≡ some member
+  is : header (optionalFrom T end from) least s ≡ ok head n
+  there : lookup (head .tag) (optionalFrom T end from) ≡ some member
   row-is : member .row ≡ row
   tag-is : head .tag ≡ tag
   type : tyOf T ty ≡ member .ty
+  form-is : g ≡ formIn (shapesOf T) ty
 
-record HeadLost (T : List ℕ) (t from least : ℕ) (s : List ℕ) (tag k n : ℕ) : Type 0 where
+record HeadLost (T : List ℕ) (end from least : ℕ) (s : List ℕ) (tag k n : ℕ) : Type 0 where
   head : Header
-  is : header (optionalFrom T t from) least s ≡ ok head n
-  there : lookup (head .tag) (optionalFrom T t from) ≡ none
+  is : header (optionalFrom T end from) least s ≡ ok head n
+  there : lookup (head .tag) (optionalFrom T end from) ≡ none
   tag-is : head .tag ≡ tag
   bits-is : bits (head .type) ≡ k
 
-module _ (T : List ℕ) (t from least : ℕ) (s : List ℕ) (h : Head) (e : h ≡ headOf T (optionalFrom T t from) (header (optionalFrom T t from) least s)) where
-  head-known : (row ty tag n : ℕ) → h ≡ Knows row ty tag n → HeadKnown T t from least s row ty tag n
+module _ (T : List ℕ) (end from least : ℕ) (s : List ℕ) (h : Head) (e : h ≡ headOf T (optionalFrom T end from) (header (optionalFrom T end from) least s)) where
+  head-known : (row ty tag n g : ℕ) → h ≡ Knows row ty tag n g → HeadKnown T end from least s row ty tag n g
   unfolding headOf headFor
-  head-known row ty tag n q = go (header (optionalFrom T t from) least s) refl (sym q ∙ e)
+  head-known row ty tag n g q = go (header (optionalFrom T end from) least s) refl (sym q ∙ e)
     where
-      told : (x : Header) (l : ℕ) → header (optionalFrom T t from) least s ≡ ok x l → (o : Option Member) → lookup (x .tag) (optionalFrom T t from) ≡ o
-          → Knows row ty tag n ≡ headFor T o x l → HeadKnown T t from least s row ty tag n
-      told x l f none g z = let w : _≡_ {A = ℕ} 0 1 = cc in absurd (omega arith)
-      told x l f (some m) g z =
+      told : (x : Header) (l : ℕ) → header (optionalFrom T end from) least s ≡ ok x l → (o : Option Member) → lookup (x .tag) (optionalFrom T end from) ≡ o
+          → Knows row ty tag n g ≡ headFor T o x l → HeadKnown T end from least s row ty tag n g
+      told x l f none y z = let w : _≡_ {A = ℕ} 0 1 = cc in absurd (omega arith)
+      told x l f (some m) y z =
           let el : l ≡ n = cc in
           let ey : ty ≡ typeRow T (m .row) = cc in
-          record { head = x; member = m; is = f ∙ ap (ok x) el; there = g; row-is = cc; tag-is = cc; type = row-type T (m .row) ty ey ∙ sym (optional-of T t from (x .tag) m g) }
+          record {
+            head = x;
+            member = m;
+            is = f ∙ ap (ok x) el;
+            there = y;
+            row-is = cc;
+            tag-is = cc;
+            type = row-type T (m .row) ty ey ∙ sym (optional-of T end from (x .tag) m y);
+            form-is = cc;
+          }
 
-      go : (x : Res Header) → header (optionalFrom T t from) least s ≡ x → Knows row ty tag n ≡ headOf T (optionalFrom T t from) x → HeadKnown T t from least s row ty tag n
-      go (ok x l) f z = told x l f (lookup (x .tag) (optionalFrom T t from)) refl z
+      go : (x : Res Header) → header (optionalFrom T end from) least s ≡ x → Knows row ty tag n g ≡ headOf T (optionalFrom T end from) x → HeadKnown T end from least s row ty tag n g
+      go (ok x l) f z = told x l f (lookup (x .tag) (optionalFrom T end from)) refl z
       go (bad c p) f z = let w : _≡_ {A = ℕ} 0 1 = cc in absurd (omega arith)
 
-  head-lost : (tag k n : ℕ) → h ≡ Unknows tag k n → HeadLost T t from least s tag k n
+  head-lost : (tag k n : ℕ) → h ≡ Unknows tag k n → HeadLost T end from least s tag k n
   unfolding headOf headFor
-  head-lost tag k n q = go (header (optionalFrom T t from) least s) refl (sym q ∙ e)
+  head-lost tag k n q = go (header (optionalFrom T end from) least s) refl (sym q ∙ e)
     where
-      told : (x : Header) (l : ℕ) → header (optionalFrom T t from) least s ≡ ok x l → (o : Option Member) → lookup (x .tag) (optionalFrom T t from) ≡ o
-          → Unknows tag k n ≡ headFor T o x l → HeadLost T t from least s tag k n
+      told : (x : Header) (l : ℕ) → header (optionalFrom T end from) least s ≡ ok x l → (o : Option Member) → lookup (x .tag) (optionalFrom T end from) ≡ o
+          → Unknows tag k n ≡ headFor T o x l → HeadLost T end from least s tag k n
       told x l f none g z = let el : l ≡ n = cc in record { head = x; is = f ∙ ap (ok x) el; there = g; tag-is = cc; bits-is = cc }
       told x l f (some m) g z = let w : _≡_ {A = ℕ} 0 1 = cc in absurd (omega arith)
 
-      go : (x : Res Header) → header (optionalFrom T t from) least s ≡ x → Unknows tag k n ≡ headOf T (optionalFrom T t from) x → HeadLost T t from least s tag k n
-      go (ok x l) f z = told x l f (lookup (x .tag) (optionalFrom T t from)) refl z
+      go : (x : Res Header) → header (optionalFrom T end from) least s ≡ x → Unknows tag k n ≡ headOf T (optionalFrom T end from) x → HeadLost T end from least s tag k n
+      go (ok x l) f z = told x l f (lookup (x .tag) (optionalFrom T end from)) refl z
       go (bad c p) f z = let w : _≡_ {A = ℕ} 0 1 = cc in absurd (omega arith)
 
-  pub next-wrong : (c p : ℕ) → h ≡ Errs c p → Wrong c p ≡ optionalAnswer (optionalFrom T t from) (optionalOf (optionalFrom T t from) least s)
+  pub next-wrong : (c p : ℕ) → h ≡ Errs c p → Wrong c p ≡ optionalAnswer (optionalFrom T end from) (optionalOf (optionalFrom T end from) least s)
   unfolding headOf headFor optionalOf _>>=_ after optionalAnswer
-  next-wrong c p q = go (header (optionalFrom T t from) least s) refl (sym q ∙ e)
+  next-wrong c p q = go (header (optionalFrom T end from) least s) refl (sym q ∙ e)
     where
       told : (x : Header) (l : ℕ) (o : Option Member) → Errs c p ≡ headFor T o x l → _≡_ {A = ℕ} 0 1
       told x l none z = cc
       told x l (some m) z = cc
 
-      go : (x : Res Header) → header (optionalFrom T t from) least s ≡ x → Errs c p ≡ headOf T (optionalFrom T t from) x
-          → Wrong c p ≡ optionalAnswer (optionalFrom T t from) (optionalOf (optionalFrom T t from) least s)
-      go (ok x l) f z = let w = told x l (lookup (x .tag) (optionalFrom T t from)) z in absurd (omega arith)
-      go (bad d y) f z = let g : header (optionalFrom T t from) least s ≡ bad c p = f ∙ cc in rw g
+      go : (x : Res Header) → header (optionalFrom T end from) least s ≡ x → Errs c p ≡ headOf T (optionalFrom T end from) x
+          → Wrong c p ≡ optionalAnswer (optionalFrom T end from) (optionalOf (optionalFrom T end from) least s)
+      go (ok x l) f z = let w = told x l (lookup (x .tag) (optionalFrom T end from)) z in absurd (omega arith)
+      go (bad d y) f z = let g : header (optionalFrom T end from) least s ≡ bad c p = f ∙ cc in rw g
 
-  pub head-fits : (row ty tag n : ℕ) → h ≡ Knows row ty tag n → n ≤ length s
-  head-fits row ty tag n q = held-took (header (optionalFrom T t from) least) (held-header (optionalFrom T t from) least) s (head-known row ty tag n q .is)
+  pub head-fits : (row ty tag n g : ℕ) → h ≡ Knows row ty tag n g → n ≤ length s
+  head-fits row ty tag n g q = held-took (header (optionalFrom T end from) least) (held-header (optionalFrom T end from) least) s (head-known row ty tag n g q .is)
 
   pub lost-fits : (tag k n : ℕ) → h ≡ Unknows tag k n → n ≤ length s
-  lost-fits tag k n q = held-took (header (optionalFrom T t from) least) (held-header (optionalFrom T t from) least) s (head-lost tag k n q .is)
+  lost-fits tag k n q = held-took (header (optionalFrom T end from) least) (held-header (optionalFrom T end from) least) s (head-lost tag k n q .is)
 
   -- ---- a known value
 
-  module _ (row ty tag n : ℕ) (q : h ≡ Knows row ty tag n) (shapes : List ℕ) (ef : shapes ≡ shapesOf T)
-      (f : ℕ) (eg : f ≡ formIn shapes ty) (p : Part) (ep : p ≡ partOf (inside (part (formNamed f)) (bytes (value (tyOf T ty))) (take (length s - n) (drop n s)))) where
+  module _ (row ty tag n g : ℕ) (q : h ≡ Knows row ty tag n g) (p : Part) (ep : p ≡ partOf (inside (part (formNamed g)) (bytes (value (tyOf T ty))) (take (length s - n) (drop n s)))) where
     -- the part, as the definition has it
-    known-part : (K : HeadKnown T t from least s row ty tag n) → p ≡ partOf (inside (part (formOf (K .member .ty))) (bytes (value (K .member .ty))) (drop n s))
+    known-part : (K : HeadKnown T end from least s row ty tag n g) → p ≡ partOf (inside (part (formOf (K .member .ty))) (bytes (value (K .member .ty))) (drop n s))
     known-part K =
-        let g : formNamed f ≡ formOf (K .member .ty) = row-form T shapes ty f ef eg ∙ ap formOf (K .type) in
-        ep ∙ ap₂ (λ (a : Form) (b : Ty). partOf (inside (part a) (bytes (value b)) (take (length s - n) (drop n s)))) g (K .type)
+        let f : formNamed g ≡ formOf (K .member .ty) = row-form T (shapesOf T) ty g refl (K .form-is) ∙ ap formOf (K .type) in
+        ep ∙ ap₂ (λ (a : Form) (b : Ty). partOf (inside (part a) (bytes (value b)) (take (length s - n) (drop n s)))) f (K .type)
         ∙ ap (λ (l : List ℕ). partOf (inside (part (formOf (K .member .ty))) (bytes (value (K .member .ty))) l)) (rest-is s n)
 
-    known-is : (K : HeadKnown T t from least s row ty tag n) → optionalOf (optionalFrom T t from) least s
+    known-is : (K : HeadKnown T end from least s row ty tag n g) → optionalOf (optionalFrom T end from) least s
         ≡ shift n (made (λ x _. (x, suc (K .head .tag))) (made (λ b _. optional (K .head .tag) (formOf (K .member .ty)) b) (inside (part (formOf (K .member .ty))) (bytes (value (K .member .ty))) (drop n s))))
     unfolding optionalOf _>>=_ after mapc content
     known-is K = rw (K .is, K .there)
 
     pub known-end : (a e : ℕ) → p ≡ Is a e → Fits w64 (length s) → Fits w64 (n + e)
-    known-end a e z l = go (head-known row ty tag n q)
+    known-end a e z l = go (head-known row ty tag n g q)
       where
-        go : HeadKnown T t from least s row ty tag n → Fits w64 (n + e)
+        go : HeadKnown T end from least s row ty tag n g → Fits w64 (n + e)
         go K =
             let D = part-is (inside (part (formOf (K .member .ty))) (bytes (value (K .member .ty))) (drop n s)) a e (sym z ∙ known-part K) in
-            omega (arith, used-within (formOf (K .member .ty)) (K .member .ty) (drop n s) (D .0) e (D .1), length-drop n s, head-fits row ty tag n q)
+            omega (arith, used-within (formOf (K .member .ty)) (K .member .ty) (drop n s) (D .0) e (D .1), length-drop n s, head-fits row ty tag n g q)
 
     pub known-from : (a e : ℕ) → p ≡ Is a e → Fits w64 (length s) → Fits w64 (n + a)
-    known-from a e z l = go (head-known row ty tag n q)
+    known-from a e z l = go (head-known row ty tag n g q)
       where
-        go : HeadKnown T t from least s row ty tag n → Fits w64 (n + a)
+        go : HeadKnown T end from least s row ty tag n g → Fits w64 (n + a)
         go K =
             let D = part-is (inside (part (formOf (K .member .ty))) (bytes (value (K .member .ty))) (drop n s)) a e (sym z ∙ known-part K) in
-            omega (arith, used-within (formOf (K .member .ty)) (K .member .ty) (drop n s) (D .0) e (D .1), length-drop n s, head-fits row ty tag n q, D .2)
+            omega (arith, used-within (formOf (K .member .ty)) (K .member .ty) (drop n s) (D .0) e (D .1), length-drop n s, head-fits row ty tag n g q, D .2)
 
     pub known-place : (c k : ℕ) → p ≡ Isnt c k → Fits w64 (length s) → Fits w64 (n + k)
-    known-place c k z l = go (head-known row ty tag n q)
+    known-place c k z l = go (head-known row ty tag n g q)
       where
-        go : HeadKnown T t from least s row ty tag n → Fits w64 (n + k)
+        go : HeadKnown T end from least s row ty tag n g → Fits w64 (n + k)
         go K =
             let D = part-isnt (inside (part (formOf (K .member .ty))) (bytes (value (K .member .ty))) (drop n s)) c k (sym z ∙ known-part K) in
-            omega (arith, used-placed (formOf (K .member .ty)) (K .member .ty) (drop n s) c k D, length-drop n s, head-fits row ty tag n q)
+            omega (arith, used-placed (formOf (K .member .ty)) (K .member .ty) (drop n s) c k D, length-drop n s, head-fits row ty tag n g q)
 
-    pub next-known : (a e : ℕ) → p ≡ Is a e → Known row tag (n + a) (n + e) ≡ optionalAnswer (optionalFrom T t from) (optionalOf (optionalFrom T t from) least s)
+    pub next-known : (a e : ℕ) → p ≡ Is a e → Known row tag (n + a) (n + e) ≡ optionalAnswer (optionalFrom T end from) (optionalOf (optionalFrom T end from) least s)
     unfolding shift made optionalAnswer pieceAnswer rowOr
-    next-known a e z = go (head-known row ty tag n q)
+    next-known a e z = go (head-known row ty tag n g q)
       where
-        go : HeadKnown T t from least s row ty tag n → Known row tag (n + a) (n + e) ≡ optionalAnswer (optionalFrom T t from) (optionalOf (optionalFrom T t from) least s)
+        go : HeadKnown T end from least s row ty tag n g → Known row tag (n + a) (n + e) ≡ optionalAnswer (optionalFrom T end from) (optionalOf (optionalFrom T end from) least s)
         go K = more (part-is (inside (part (formOf (K .member .ty))) (bytes (value (K .member .ty))) (drop n s)) a e (sym z ∙ known-part K))
           where
             more : (d : List ℕ) × (inside (part (formOf (K .member .ty))) (bytes (value (K .member .ty))) (drop n s) ≡ ok d e) × (a ≡ e - length d)
-                → Known row tag (n + a) (n + e) ≡ optionalAnswer (optionalFrom T t from) (optionalOf (optionalFrom T t from) least s)
+                → Known row tag (n + a) (n + e) ≡ optionalAnswer (optionalFrom T end from) (optionalOf (optionalFrom T end from) least s)
             more D =
                 let l : n + e - length (D .0) ≡ n + a = omega (arith, D .2, used-sum (formOf (K .member .ty)) (K .member .ty) (drop n s) (D .0) e (D .1)) in
-                sym (ap (optionalAnswer (optionalFrom T t from)) (known-is K) ∙ rw (D .1, K .there, K .row-is, K .tag-is, l))
+                sym (ap (optionalAnswer (optionalFrom T end from)) (known-is K) ∙ rw (D .1, K .there, K .row-is, K .tag-is, l))
 
-    pub next-refused : (c k : ℕ) → p ≡ Isnt c k → Wrong c (n + k) ≡ optionalAnswer (optionalFrom T t from) (optionalOf (optionalFrom T t from) least s)
+    pub next-refused : (c k : ℕ) → p ≡ Isnt c k → Wrong c (n + k) ≡ optionalAnswer (optionalFrom T end from) (optionalOf (optionalFrom T end from) least s)
     unfolding shift made optionalAnswer
-    next-refused c k z = go (head-known row ty tag n q)
+    next-refused c k z = go (head-known row ty tag n g q)
       where
-        go : HeadKnown T t from least s row ty tag n → Wrong c (n + k) ≡ optionalAnswer (optionalFrom T t from) (optionalOf (optionalFrom T t from) least s)
+        go : HeadKnown T end from least s row ty tag n g → Wrong c (n + k) ≡ optionalAnswer (optionalFrom T end from) (optionalOf (optionalFrom T end from) least s)
         go K =
-            sym (ap (optionalAnswer (optionalFrom T t from)) (known-is K)
+            sym (ap (optionalAnswer (optionalFrom T end from)) (known-is K)
             ∙ rw (part-isnt (inside (part (formOf (K .member .ty))) (bytes (value (K .member .ty))) (drop n s)) c k (sym z ∙ known-part K)))
 
   -- ---- a skipped one
 
   module _ (tag k n : ℕ) (q : h ≡ Unknows tag k n) (p : Part) (ep : p ≡ partOf (extent (bitsAt k) (take (length s - n) (drop n s)))) where
-    skipped-part : (L : HeadLost T t from least s tag k n) → p ≡ partOf (extent (L .head .type) (drop n s))
+    skipped-part : (L : HeadLost T end from least s tag k n) → p ≡ partOf (extent (L .head .type) (drop n s))
     skipped-part L =
         ep ∙ ap (λ (l : List ℕ). partOf (extent (bitsAt k) l)) (rest-is s n)
         ∙ ap (λ (b : Bits). partOf (extent b (drop n s))) (ap bitsAt (sym (L .bits-is)) ∙ bits-back (L .head .type))
 
-    skipped-is : (L : HeadLost T t from least s tag k n) → optionalOf (optionalFrom T t from) least s
+    skipped-is : (L : HeadLost T end from least s tag k n) → optionalOf (optionalFrom T end from) least s
         ≡ shift n (made (λ x _. (x, suc (L .head .tag))) (made (λ b _. skipped (L .head .tag) (L .head .type) b) (bytes (extent (L .head .type)) (drop n s))))
     unfolding optionalOf _>>=_ after mapc content
     skipped-is L = rw (L .is, L .there)
@@ -179,7 +188,7 @@ module _ (T : List ℕ) (t from least : ℕ) (s : List ℕ) (h : Head) (e : h �
     pub skipped-end : (a e : ℕ) → p ≡ Is a e → Fits w64 (length s) → Fits w64 (n + e)
     skipped-end a e z l = go (head-lost tag k n q)
       where
-        go : HeadLost T t from least s tag k n → Fits w64 (n + e)
+        go : HeadLost T end from least s tag k n → Fits w64 (n + e)
         go L =
             let D = part-is (extent (L .head .type) (drop n s)) a e (sym z ∙ skipped-part L) in
             omega (arith, held-took (extent (L .head .type)) (held-extent (L .head .type)) (drop n s) (D .1), length-drop n s, lost-fits tag k n q)
@@ -187,26 +196,26 @@ module _ (T : List ℕ) (t from least : ℕ) (s : List ℕ) (h : Head) (e : h �
     pub skipped-place : (c y : ℕ) → p ≡ Isnt c y → Fits w64 (length s) → Fits w64 (n + y)
     skipped-place c y z l = go (head-lost tag k n q)
       where
-        go : HeadLost T t from least s tag k n → Fits w64 (n + y)
+        go : HeadLost T end from least s tag k n → Fits w64 (n + y)
         go L =
             let D = part-isnt (extent (L .head .type) (drop n s)) c y (sym z ∙ skipped-part L) in
             omega (arith, held-refused (extent (L .head .type)) (held-extent (L .head .type)) (drop n s) D, length-drop n s, lost-fits tag k n q)
 
-    pub next-skipped : (a e : ℕ) → p ≡ Is a e → Skipped tag (n + e) ≡ optionalAnswer (optionalFrom T t from) (optionalOf (optionalFrom T t from) least s)
+    pub next-skipped : (a e : ℕ) → p ≡ Is a e → Skipped tag (n + e) ≡ optionalAnswer (optionalFrom T end from) (optionalOf (optionalFrom T end from) least s)
     unfolding shift made bytes optionalAnswer pieceAnswer
     next-skipped a e z = go (head-lost tag k n q)
       where
-        go : HeadLost T t from least s tag k n → Skipped tag (n + e) ≡ optionalAnswer (optionalFrom T t from) (optionalOf (optionalFrom T t from) least s)
+        go : HeadLost T end from least s tag k n → Skipped tag (n + e) ≡ optionalAnswer (optionalFrom T end from) (optionalOf (optionalFrom T end from) least s)
         go L = more (part-is (extent (L .head .type) (drop n s)) a e (sym z ∙ skipped-part L))
           where
-            more : (d : List ℕ) × (extent (L .head .type) (drop n s) ≡ ok d e) × (a ≡ e - length d) → Skipped tag (n + e) ≡ optionalAnswer (optionalFrom T t from) (optionalOf (optionalFrom T t from) least s)
-            more D = sym (ap (optionalAnswer (optionalFrom T t from)) (skipped-is L) ∙ rw (D .1, L .tag-is))
+            more : (d : List ℕ) × (extent (L .head .type) (drop n s) ≡ ok d e) × (a ≡ e - length d) → Skipped tag (n + e) ≡ optionalAnswer (optionalFrom T end from) (optionalOf (optionalFrom T end from) least s)
+            more D = sym (ap (optionalAnswer (optionalFrom T end from)) (skipped-is L) ∙ rw (D .1, L .tag-is))
 
-    pub next-cut : (c y : ℕ) → p ≡ Isnt c y → Wrong c (n + y) ≡ optionalAnswer (optionalFrom T t from) (optionalOf (optionalFrom T t from) least s)
+    pub next-cut : (c y : ℕ) → p ≡ Isnt c y → Wrong c (n + y) ≡ optionalAnswer (optionalFrom T end from) (optionalOf (optionalFrom T end from) least s)
     unfolding shift made bytes optionalAnswer
     next-cut c y z = go (head-lost tag k n q)
       where
-        go : HeadLost T t from least s tag k n → Wrong c (n + y) ≡ optionalAnswer (optionalFrom T t from) (optionalOf (optionalFrom T t from) least s)
+        go : HeadLost T end from least s tag k n → Wrong c (n + y) ≡ optionalAnswer (optionalFrom T end from) (optionalOf (optionalFrom T end from) least s)
         go L =
-            sym (ap (optionalAnswer (optionalFrom T t from)) (skipped-is L)
+            sym (ap (optionalAnswer (optionalFrom T end from)) (skipped-is L)
             ∙ rw (part-isnt (extent (L .head .type) (drop n s)) c y (sym z ∙ skipped-part L)))

@@ -4,33 +4,40 @@
 --   used-none               the declared bytes are refused
 --   used-all, used-less     the value takes all of them, or fewer
 --   used-wide               it may be any bytes, and there are as many as its type has
+--   used-text               it is a string, declared by its own size
 --   used-bad, used-place    it is refused, and where
 --   used-within, used-placed, used-sum    bytes taken and places of the whole
 use mathlib.Core.Path.{_≡_, refl, sym, ap, _∙_}
+use mathlib.Core.Bool.{Bool, true}
 use mathlib.Core.List.{List}
 use Prim.Native.Nat.{ℕ, _+_, _-_, _≤_, _<_}
 use native.Mathlib.Omega.{arith}
 use mir.Syntax.{w64}
 use mir.Val.{Fits}
 use lib.ListN.{length, take, drop}
-use lib.Seq.{take-length}
+use lib.Seq.{take-length, length-take-le}
 use borrow.Author.Tests.{eq-eqb, ne-eqb}
-use Rattle.encoding.specs.Result.{ok, bad, made, bytes, leave, enter, inside}
-use Rattle.encoding.specs.ResultLaws.{inside-ok, bytes-ok, held-took, held-refused, held-bytes, held-inside}
-use Rattle.encoding.specs.Types.{Ty, Form}
+use Rattle.encoding.specs.Result.{ok, bad, _>>=_, chunk, item, made, mapc, bytes, leave, enter, inside}
+use Rattle.encoding.specs.ResultLaws.{framed, framed-part, must-step, inside-ok, bytes-ok, held-took, held-refused, held-bytes, held-inside}
+use Rattle.encoding.specs.Number.{Content, string}
+use Rattle.encoding.specs.Number
+use Rattle.encoding.specs.NumberLaws.{closed-string}
+use Rattle.encoding.specs.Proxy.{text}
+use Rattle.encoding.specs.Types.{Ty, Form, own, vsize}
 use Rattle.encoding.specs.Value.{value}
 use Rattle.encoding.specs.ValueLaws.{held-value}
 use Rattle.encoding.specs.Table.{tyOf}
-use Rattle.encoding.specs.Optional.{part}
+use Rattle.encoding.specs.Optional.{extent, part}
 use Rattle.encoding.specs.OptionalLaws.{held-part, ends-part}
-use Rattle.table.specs.Shapes.{shapesOf, widthIn}
-use Rattle.value.proofs.CycleLaws.{row-wide}
+use Rattle.table.specs.Shapes.{shapesOf, widthIn, isTextIn}
+use Rattle.value.proofs.CycleLaws.{row-wide, row-text}
 use Rattle.wire.specs.declared.Step.{Step}
 use Rattle.wire.specs.declared.Step.the-variants.{Took, Fault}
 use Rattle.wire.specs.Steps.{stepOf}
 use Rattle.wire.specs.StepLaws.{step-took, step-fault}
 use Rattle.level.specs.declared.Part.{Part}
 use Rattle.level.specs.declared.Part.the-variants.{Is, Isnt}
+use Rattle.level.specs.Forms.{formNamed}
 use Rattle.level.specs.Answers.{partOf}
 use Rattle.level.proofs.Told.{part-is, part-isnt}
 
@@ -122,6 +129,25 @@ pub used-wide : (f : Form) (s : List ℕ) (p : Part) → p ≡ partOf (part f s)
 used-wide f s p ep a e h T shapes ef t w ew l q =
     used-all f s p ep a e h (tyOf T t) (Took w)
     (row-wide T shapes ef t (take (e - a) (drop a s)) w ew l (omega (arith, ap length (delivered f s p ep a e h .there), delivered f s p ep a e h .size))) w refl q
+
+-- a string is its own size and its bytes
+own-text : (s d : List ℕ) (e : ℕ) → part own s ≡ ok d e → (d ≡ take e s) × (Took e ≡ stepOf (text (take e s)))
+unfolding part extent string text mapc made Content stepOf
+own-text s d e h =
+    let B = bytes-ok (extent vsize) s h in
+    let g : string s ≡ ok (B .0) e = must-step (item (Number.size >>= λ n. chunk n (λ b. b))) s Content (B .1) refl in
+    (B .2, rw (framed-part string (closed-string framed) s g))
+
+pub used-text : (f : ℕ) (s : List ℕ) (p : Part) → p ≡ partOf (part (formNamed f) s) → (a e : ℕ) → p ≡ Is a e → f ≡ 8 → (T shapes : List ℕ) → shapes ≡ shapesOf T → (t : ℕ) (b : Bool) → b ≡ isTextIn shapes t
+    → b ≡ true → Is a e ≡ partOf (inside (part (formNamed f)) (bytes (value (tyOf T t))) s)
+unfolding formNamed
+used-text f s p ep a e h z T shapes ef t b eb y =
+    let D = delivered (formNamed f) s p ep a e h in
+    let w : formNamed f ≡ own = ap formNamed z in
+    let O = own-text s (D .bytes) e (ap (λ (x : Form). part x s) (sym w) ∙ D .is) in
+    let l : length (D .bytes) ≡ e = ap length (O .0) ∙ length-take-le e s (D .end) in
+    used-all (formNamed f) s p ep a e h (tyOf T t) (Took e)
+    (row-text T shapes ef t (take (e - a) (drop a s)) (Took e) b eb y (O .1 ∙ ap (λ (x : List ℕ). stepOf (text x)) (sym (D .there ∙ O .0)))) e refl (omega (arith, D .size))
 
 -- ---- the whole
 

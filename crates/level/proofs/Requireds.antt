@@ -9,7 +9,7 @@
 --   due-room, due-place      what is added fits
 use mathlib.Core.Path.{_≡_, refl, sym, ap, ap₂, _∙_, subst}
 use mathlib.Core.List.{List, [], _∷_}
-use Prim.Native.Nat.{ℕ, suc, _+_, _-_, _*_, _^_, _≤_, _<_}
+use Prim.Native.Nat.{ℕ, suc, _+_, _-_, _*_, _^_, _≤_, _<_, min}
 use native.Mathlib.Nat.{add-zero, zero-add, add-assoc}
 use native.Mathlib.Numerals.{add-one}
 use native.Mathlib.Omega.{arith}
@@ -17,7 +17,9 @@ use mir.Syntax.{w64}
 use mir.Val.{Fits}
 use lib.ListN.{length, take, drop, length-drop}
 use lib.Seq.{drop-drop, length-take-le}
-use Rattle.encoding.specs.Result.{Res, ok, bad, shift, _>>=_, pure, made, mapc, bytes}
+use lib.Dec.{eqb}
+use borrow.Author.Tests.{eq-eqb, ne-eqb}
+use Rattle.encoding.specs.Result.{Res, ok, bad, pick, shift, _>>=_, pure, made, mapc, bytes}
 use Rattle.encoding.specs.ResultLaws.{ok≢bad, Bound, bind-ok, bind-next, bind-bad, bytes-step, mapc-ok, held-took, held-refused}
 use Rattle.encoding.specs.Value.{value}
 use Rattle.encoding.specs.ValueLaws.{held-value}
@@ -30,6 +32,8 @@ use Rattle.wire.specs.declared.Step.the-variants.{Took, Fault}
 use Rattle.wire.specs.Steps.{stepOf}
 use Rattle.wire.specs.Put.{put}
 use Rattle.wire.specs.PutLaws.{put-length}
+use Rattle.table.specs.Tags.{firstOptional, optionalStart}
+use Rattle.table.specs.TagsLaws.{first-begun, first-most}
 use Rattle.table.proofs.Ranges.{range-left, range-empty}
 use Rattle.wire.specs.StepLaws.{rest-is, step-took, step-fault}
 use Rattle.level.specs.declared.Members.the-variants.{Read, Refused}
@@ -45,14 +49,17 @@ record Later (T : List ℕ) (t at : ℕ) (s : List ℕ) (ms : List Member) (pos 
   read : requireds ms (drop pos s) ≡ ok pieces taken
   made : last ≡ fill k (pieceRows T t (at + pos) pieces) out
 
-pub record Due (T : List ℕ) (t at count : ℕ) (s out₀ : List ℕ) (m left pos k : ℕ) (out : List ℕ) : Type 0 where
+pub record Due (T : List ℕ) (t at count : ℕ) (s out₀ : List ℕ) (m left pos k next : ℕ) (out : List ℕ) : Type 0 where
   pub seen : ℕ
   pub inside : pos ≤ length s
   pub few : m + left < 131072
+  pub ends : m + left ≡ field T t 0 + field T t 1
+  pub most : next ≤ m + left
+  pub start : optionalStart T t ≡ min next (firstOptional T (field T t 0 + field T t 1) m left)
   pub low : k + left < count + 65536
   pub same : length out ≡ length out₀
   pub ahead : Ahead T t seen (range m left)
-  pub says : membersOf count (requireds (Table.required T t) s) ≡ membersOf k (shift pos (requireds (requiredOf T (trees T) seen (range m left)) (drop pos s)))
+  pub says : membersOf count (optionalStart T t) (requireds (Table.required T t) s) ≡ membersOf k (optionalStart T t) (shift pos (requireds (requiredOf T (trees T) seen (range m left)) (drop pos s)))
   gives : (ps : List Piece) (n : ℕ) → requireds (Table.required T t) s ≡ ok ps n
       → Later T t at s (requiredOf T (trees T) seen (range m left)) pos k (fill count (pieceRows T t at ps) out₀) out
 
@@ -61,25 +68,45 @@ unfolding shift
 shift-none (ok a n) = ap (ok a) (sym (zero-add n))
 shift-none (bad c p) = ap (bad c) (sym (zero-add p))
 
+-- ---- one member's row
+
+module _ (k m at n : ℕ) (out o : List ℕ) (e : o ≡ put (12 * k) (rowBytes (record { member = m; place = at; len = n })) out) where
+  pub member-length : length o ≡ length out
+  member-length = ap length e ∙ put-length (12 * k) _ out
+
+  pub member-put : (i : ℕ) → Took n ≡ Took i → o ≡ put (12 * k) (rowBytes (record { member = m; place = at; len = i })) out
+  member-put i q = let z : n ≡ i = cc in e ∙ ap (λ (j : ℕ). put (12 * k) (rowBytes (record { member = m; place = at; len = j })) out) z
+
+pub member-told : (r x y : Step) → r ≡ x → r ≡ y → y ≡ x
+member-told r x y e q = sym q ∙ e
+
+pub member-none : (c p i : ℕ) {A : Type 0} → Fault c p ≡ Took i → A
+member-none c p i q = let z : _≡_ {A = ℕ} 0 1 = cc in absurd (omega arith)
+
+-- ---- the loop
+
 -- one member, and the rest behind it
-one-more : (k pos n : ℕ) (p : Piece) (r : Res (List Piece)) → membersOf k (shift pos (shift n (made (λ ps _. p ∷ ps) r))) ≡ membersOf (k + 1) (shift (pos + n) r)
+one-more : (k i pos n : ℕ) (p : Piece) (r : Res (List Piece)) → membersOf k i (shift pos (shift n (made (λ ps _. p ∷ ps) r))) ≡ membersOf (k + 1) i (shift (pos + n) r)
 unfolding membersOf shift made
-one-more k pos n p (ok ps l) = ap₂ Read (sym (add-assoc pos n l)) (omega arith)
-one-more k pos n p (bad c q) = ap (Refused c) (sym (add-assoc pos n q))
+one-more k i pos n p (ok ps l) = ap₂ (λ (x y : ℕ). Read x y i) (sym (add-assoc pos n l)) (omega arith)
+one-more k i pos n p (bad c q) = ap (Refused c) (sym (add-assoc pos n q))
 
 pub due-begin : (T : List ℕ) (t at count : ℕ) (s out : List ℕ) (m left : ℕ) → m ≡ field T t 0 → left ≡ field T t 1 → m < 65536 → left < 65536
-    → Due T t at count s out m left 0 count out
-unfolding ownRows Table.required
+    → Due T t at count s out m left 0 count (m + left) out
+unfolding ownRows Table.required optionalStart
 due-begin T t at count s out m left em el hm hl =
     let e : range m left ≡ ownRows T t = rw (em, el) in
     record {
       seen = 0;
       inside = omega arith;
       few = omega arith;
+      ends = ap₂ _+_ em el;
+      most = omega arith;
+      start = rw (← em, ← el) (omega (arith, first-most T (m + left) left m (omega arith)));
       low = omega arith;
       same = refl;
       ahead = rw e (ahead-begin T t);
-      says = rw e (ap (membersOf count) (shift-none (requireds (Table.required T t) s)));
+      says = rw e (ap (membersOf count (optionalStart T t)) (shift-none (requireds (Table.required T t) s)));
       gives = λ ps n h. record {
         pieces = ps;
         taken = n;
@@ -88,11 +115,14 @@ due-begin T t at count s out m left em el hm hl =
       };
     }
 
-module _ (T : List ℕ) (t at count : ℕ) (s out₀ : List ℕ) (m left pos k : ℕ) (out : List ℕ) (D : Due T t at count s out₀ m left pos k out) where
+module _ (T : List ℕ) (t at count : ℕ) (s out₀ : List ℕ) (m left pos k next : ℕ) (out : List ℕ) (D : Due T t at count s out₀ m left pos k next out) where
   -- ---- the end
-  pub due-says : left ≤ 0 → Read pos k ≡ membersOf count (requireds (Table.required T t) s)
-  unfolding requiredOf requireds pure shift membersOf
-  due-says h = sym (D .says ∙ rw (range-empty m left h, add-zero pos, add-zero k))
+  pub due-says : left ≤ 0 → Read pos k next ≡ membersOf count (optionalStart T t) (requireds (Table.required T t) s)
+  unfolding requiredOf requireds pure shift membersOf firstOptional
+  due-says h =
+      let z : left ≡ 0 = omega arith in
+      let i : optionalStart T t ≡ next = D .start ∙ rw z (omega (arith, D .ends, D .most)) in
+      sym (D .says ∙ rw (range-empty m left h, add-zero pos, add-zero k, i))
 
   pub due-gives : left ≤ 0 → (ps : List Piece) (n : ℕ) → requireds (Table.required T t) s ≡ ok ps n → out ≡ fill count (pieceRows T t at ps) out₀
   unfolding requiredOf requireds pure pieceRows fill
@@ -112,21 +142,31 @@ module _ (T : List ℕ) (t at count : ℕ) (s out₀ : List ℕ) (m left pos k :
     ahead-split : Ahead T t (D .seen) (m ∷ range (m + 1) (left - 1))
     ahead-split = rw split at (D .ahead)
 
-    pub due-past : (g : ℕ) → g ≡ mark T m → (g ≡ 0 → ⊥) → Due T t at count s out₀ (m + 1) (left - 1) pos k out
-    due-past g eg z =
-        let y : mark T m ≡ 0 → ⊥ = λ q. z (eg ∙ q) in
+    -- where the optional members begin, by the row at hand
+    start-split : firstOptional T (field T t 0 + field T t 1) m left ≡ pick (eqb (mark T m) 0) (firstOptional T (field T t 0 + field T t 1) (m + 1) (left - 1)) m
+    unfolding firstOptional
+    start-split = let e : left ≡ suc (left - 1) = omega arith in ap (firstOptional T (field T t 0 + field T t 1) m) e ∙ rw (add-one m)
+
+    pub due-past : (g : ℕ) → g ≡ mark T m → (g ≡ 0 → ⊥) → (i : ℕ) → i ≡ min next m
+        → {pos′ k′ next′ : ℕ} {out′ : List ℕ} → out′ ≡ out → pos′ ≡ pos → k′ ≡ k → next′ ≡ i → Due T t at count s out₀ (m + 1) (left - 1) pos′ k′ next′ out′
+    due-past g eg z i ei eo ep ek en = rw (eo, ep, ek, en)
+        (let y : mark T m ≡ 0 → ⊥ = λ q. z (eg ∙ q) in
         let e : requiredOf T (trees T) (D .seen) (range m left) ≡ requiredOf T (trees T) (D .seen) (range (m + 1) (left - 1)) =
         ap (requiredOf T (trees T) (D .seen)) split ∙ required-past T (D .seen) m (range (m + 1) (left - 1)) y in
         record {
           seen = D .seen;
           inside = D .inside;
           few = omega (arith, D .few);
+          ends = omega (arith, D .ends);
+          most = omega arith;
+          start = D .start ∙ rw (start-split, ne-eqb (mark T m) 0 y)
+              (omega (arith, D .ends, first-begun T (field T t 0 + field T t 1) (left - 1) (m + 1) (omega (arith, D .ends))));
           low = omega (arith, D .low);
           same = D .same;
           ahead = ahead-past T t (D .seen) m (range (m + 1) (left - 1)) ahead-split y;
-          says = D .says ∙ ap (λ (l : List Member). membersOf k (shift pos (requireds l (drop pos s)))) e;
+          says = D .says ∙ ap (λ (l : List Member). membersOf k (optionalStart T t) (shift pos (requireds l (drop pos s)))) e;
           gives = λ ps n q. subst (λ (l : List Member). Later T t at s l pos k (fill count (pieceRows T t at ps) out₀) out) e (D .gives ps n q);
-        }
+        })
 
     -- ---- a required member
     module _ (g : ℕ) (eg : g ≡ mark T m) (z : g ≡ 0) (ty : ℕ) (et : ty ≡ typeRow T m)
@@ -181,30 +221,37 @@ module _ (T : List ℕ) (t at count : ℕ) (s out₀ : List ℕ) (m left pos k :
                     ∙ ap₂ (λ (i j : ℕ). fill i (pieceRows T t j (M .0)) o) (sym (add-one k)) (add-assoc at pos n);
               }
 
-      pub due-next : (n : ℕ) → r ≡ Took n → (o : List ℕ) → o ≡ put (12 * k) (rowBytes (record { member = m; place = at + pos; len = n })) out
-          → Due T t at count s out₀ (m + 1) (left - 1) (pos + n) (k + 1) o
+      due-step : (n : ℕ) → r ≡ Took n → (o : List ℕ) → o ≡ put (12 * k) (rowBytes (record { member = m; place = at + pos; len = n })) out
+          → Due T t at count s out₀ (m + 1) (left - 1) (pos + n) (k + 1) next o
       unfolding mapc
-      due-next n q o eo = record {
+      due-step n q o eo = record {
         seen = suc (D .seen);
         inside = omega (arith, D .inside, value-held n q);
         few = omega (arith, D .few);
+        ends = omega (arith, D .ends);
+        most = omega (arith, D .most);
+        start = D .start ∙ rw (start-split, eq-eqb (mark T m) 0 (sym eg ∙ z));
         low = omega (arith, D .low);
         same = ap length eo ∙ put-length (12 * k) _ out ∙ D .same;
         ahead = ahead-next T t (D .seen) m (range (m + 1) (left - 1)) ahead-split (sym eg ∙ z);
-        says = D .says ∙ ap (λ (x : Res (List Piece)). membersOf k (shift pos x)) (requireds-split ∙ bind-next (bytes (value (memberTy T (trees T) m))) cont (drop pos s) (value-is n q))
-            ∙ one-more k pos n (required (D .seen) (take n (drop pos s))) (requireds rest (drop n (drop pos s)))
-            ∙ ap (λ (l : List ℕ). membersOf (k + 1) (shift (pos + n) (requireds rest l))) (drop-drop n pos s);
+        says = D .says ∙ ap (λ (x : Res (List Piece)). membersOf k (optionalStart T t) (shift pos x)) (requireds-split ∙ bind-next (bytes (value (memberTy T (trees T) m))) cont (drop pos s) (value-is n q))
+            ∙ one-more k (optionalStart T t) pos n (required (D .seen) (take n (drop pos s))) (requireds rest (drop n (drop pos s)))
+            ∙ ap (λ (l : List ℕ). membersOf (k + 1) (optionalStart T t) (shift (pos + n) (requireds rest l))) (drop-drop n pos s);
         gives = λ ps i h. next-later n q o eo _ (D .gives ps i h);
       }
 
-      pub due-fault : (c p : ℕ) → r ≡ Fault c p → Refused c (pos + p) ≡ membersOf count (requireds (Table.required T t) s)
+      pub due-next : (n : ℕ) → r ≡ Took n → (o : List ℕ) → ((n : ℕ) → r ≡ Took n → o ≡ put (12 * k) (rowBytes (record { member = m; place = at + pos; len = n })) out)
+          → {pos′ k′ next′ : ℕ} {out′ : List ℕ} → out′ ≡ o → pos′ ≡ pos + n → k′ ≡ k + 1 → next′ ≡ next → Due T t at count s out₀ (m + 1) (left - 1) pos′ k′ next′ out′
+      due-next n q o puts fo fp fk fn = rw (fo, fp, fk, fn) (due-step n q o (puts n q))
+
+      pub due-fault : (c p : ℕ) → r ≡ Fault c p → Refused c (pos + p) ≡ membersOf count (optionalStart T t) (requireds (Table.required T t) s)
       unfolding shift membersOf
       due-fault c p q =
-          sym (D .says ∙ ap (λ (x : Res (List Piece)). membersOf k (shift pos x)) (requireds-split ∙ bind-bad (bytes (value (memberTy T (trees T) m))) cont (drop pos s) (value-bad c p q)))
+          sym (D .says ∙ ap (λ (x : Res (List Piece)). membersOf k (optionalStart T t) (shift pos x)) (requireds-split ∙ bind-bad (bytes (value (memberTy T (trees T) m))) cont (drop pos s) (value-bad c p q)))
 
       -- then nothing is accepted
-      pub due-never : (c p : ℕ) → r ≡ Fault c p → (ps : List Piece) (n : ℕ) → requireds (Table.required T t) s ≡ ok ps n → out ≡ fill count (pieceRows T t at ps) out₀
-      due-never c p q ps n h =
+      pub due-never : (c p : ℕ) → r ≡ Fault c p → (o : List ℕ) (ps : List Piece) (n : ℕ) → requireds (Table.required T t) s ≡ ok ps n → o ≡ fill count (pieceRows T t at ps) out₀
+      due-never c p q o ps n h =
           absurd (ok≢bad (D .gives ps n h .read) (requireds-split ∙ bind-bad (bytes (value (memberTy T (trees T) m))) cont (drop pos s) (value-bad c p q)))
 
       -- ---- what is added fits

@@ -1,6 +1,6 @@
 -- What the code answers of the members of one owner.
 --
---   membersOf k r     required members that were read: the bytes taken, and how many rows there are, k before them
+--   membersOf k i r   required members that were read: the bytes taken, how many rows there are, k before them, and i, where the optional ones begin
 --   rowOr             a member's row, if there is one
 --   pieceAnswer       what is answered of a piece that took n bytes
 --   optionalAnswer    the next optional: a known one with its member row, its tag, where its bytes begin and the bytes taken; or a skipped one
@@ -8,7 +8,7 @@
 --   early             the judgements of a header before the last: 12 for form and order, 13; or 0
 --   typeOf all m i    the row of the type of member m, of `all` members, whose row says i; where there is no such member, a row without a tree
 --   typeRow T m       the same of the table's
---   headFor, headOf   a header: of a known tag with its member row and the row of its type, or of an unknown one
+--   headFor, headOf   a header: of a known tag with its member row, the row of its type and the number of its form, or of an unknown one
 --   partOf            declared bytes: where those delivered begin, and the bytes taken; wholePart all of them delivered
 use mathlib.Core.Bool.{Bool, _&&_}
 use mathlib.Core.Option.{Option, none, some}
@@ -22,6 +22,7 @@ use Rattle.encoding.specs.Types.{bits}
 use Rattle.encoding.specs.Table.{members, memberType, Member, lookup}
 use Rattle.encoding.specs.Table
 use Rattle.encoding.specs.Optional.{Piece, required, optional, skipped, Header, firstForm, headerTail}
+use Rattle.table.specs.Shapes.{shapesOf, formIn}
 use Rattle.level.specs.declared.Members.{Members}
 use Rattle.level.specs.declared.Members.the-variants.{Read, Refused}
 use Rattle.level.specs.declared.Optional.{Optional}
@@ -33,9 +34,9 @@ use Rattle.level.specs.declared.Head.the-variants.{Known as KnownHead, U
 use Rattle.level.specs.declared.Part.{Part}
 use Rattle.level.specs.declared.Part.the-variants.{Is, Isnt}
 
-unfoldable pub membersOf : ℕ → Res (List Piece) → Members
-membersOf k (ok ps n) = Read n (k + length ps)
-membersOf k (bad c p) = Refused c p
+unfoldable pub membersOf : ℕ → ℕ → Res (List Piece) → Members
+membersOf k i (ok ps n) = Read n (k + length ps) i
+membersOf k i (bad c p) = Refused c p
 
 unfoldable pub rowOr : Option Member → ℕ
 rowOr none = 0
@@ -70,7 +71,7 @@ typeRow T m = typeOf (members T) m (memberType T m)
 
 unfoldable pub headFor : List ℕ → Option Member → Header → ℕ → Head
 headFor T none h n = UnknownHead (h .tag) (bits (h .type)) n
-headFor T (some m) h n = KnownHead (m .row) (typeRow T (m .row)) (h .tag) n
+headFor T (some m) h n = KnownHead (m .row) (typeRow T (m .row)) (h .tag) n (formIn (shapesOf T) (typeRow T (m .row)))
 
 unfoldable pub headOf : List ℕ → List Member → Res Header → Head
 headOf T ms (ok h n) = headFor T (lookup (h .tag) ms) h n

@@ -6,7 +6,8 @@
 --   known-rows, skipped-rows                what the piece adds to the rows
 --   known-within, -start, -tag              all bytes are there, the value ends them, the tag is below 2 ^ 31
 --   skipped-some, -within, -tag             the same of a skipped one; wrong-within a refusal's place is there
---   members-read, members-refused           the pieces of the required members; or the refusal
+--   members-read, members-start             the pieces of the required members, and where the optional ones begin
+--   members-refused                         or the refusal
 --   members-within, refused-within          what they take, and where they are refused, is there
 use mathlib.Core.Path.{_≡_, refl, sym, ap, _∙_}
 use mathlib.Core.Bool.{Bool, true, false, _&&_}
@@ -216,25 +217,33 @@ module _ (T : List ℕ) (t least : ℕ) (s : List ℕ) (at : ℕ) (ps : List Pie
 
 -- ---- required members
 
-module _ (ms : List Member) (count : ℕ) (s : List ℕ) (r : Members) (e : r ≡ membersOf count (requireds ms s)) where
-  pub members-read : (n k : ℕ) → r ≡ Read n k → (ps : List Piece) × (requireds ms s ≡ ok ps n) × (k ≡ count + length ps)
+module _ (ms : List Member) (count start : ℕ) (s : List ℕ) (r : Members) (e : r ≡ membersOf count start (requireds ms s)) where
+  pub members-read : (n k i : ℕ) → r ≡ Read n k i → (ps : List Piece) × (requireds ms s ≡ ok ps n) × (k ≡ count + length ps)
   unfolding membersOf
-  members-read n k q = go (requireds ms s) refl (sym q ∙ e)
+  members-read n k i q = go (requireds ms s) refl (sym q ∙ e)
     where
-      go : (x : Res (List Piece)) → requireds ms s ≡ x → Read n k ≡ membersOf count x → (ps : List Piece) × (requireds ms s ≡ ok ps n) × (k ≡ count + length ps)
+      go : (x : Res (List Piece)) → requireds ms s ≡ x → Read n k i ≡ membersOf count start x → (ps : List Piece) × (requireds ms s ≡ ok ps n) × (k ≡ count + length ps)
       go (ok ps l) f h = let en : l ≡ n = cc in (ps, f ∙ ap (ok ps) en, cc)
       go (bad c p) f h = let z : _≡_ {A = ℕ} 0 1 = cc in absurd (omega arith)
+
+  pub members-start : (n k i : ℕ) → r ≡ Read n k i → i ≡ start
+  unfolding membersOf
+  members-start n k i q = go (requireds ms s) (sym q ∙ e)
+    where
+      go : (x : Res (List Piece)) → Read n k i ≡ membersOf count start x → i ≡ start
+      go (ok ps l) h = cc
+      go (bad c p) h = let z : _≡_ {A = ℕ} 0 1 = cc in absurd (omega arith)
 
   pub members-refused : (c p : ℕ) → r ≡ Refused c p → requireds ms s ≡ bad c p
   unfolding membersOf
   members-refused c p q = go (requireds ms s) refl (sym q ∙ e)
     where
-      go : (x : Res (List Piece)) → requireds ms s ≡ x → Refused c p ≡ membersOf count x → requireds ms s ≡ bad c p
+      go : (x : Res (List Piece)) → requireds ms s ≡ x → Refused c p ≡ membersOf count start x → requireds ms s ≡ bad c p
       go (ok ps l) f h = let z : _≡_ {A = ℕ} 0 1 = cc in absurd (omega arith)
       go (bad d y) f h = f ∙ cc
 
-  pub members-within : (n k : ℕ) → r ≡ Read n k → n ≤ length s
-  members-within n k q = held-took (requireds ms) (held-requireds ms) s (members-read n k q .1)
+  pub members-within : (n k i : ℕ) → r ≡ Read n k i → n ≤ length s
+  members-within n k i q = held-took (requireds ms) (held-requireds ms) s (members-read n k i q .1)
 
   pub refused-within : (c p : ℕ) → r ≡ Refused c p → p ≤ length s
   refused-within c p q = held-refused (requireds ms) (held-requireds ms) s (members-refused c p q)

@@ -3,7 +3,7 @@
 --   answer-alike     of members among which every tag from the least on is looked up alike
 --   passed-answer    of all optional members of a row, and of those behind the passed
 --   member-tag       the member of a known optional has its tag
---   member-within    it is one of the row's members
+--   member-begun, member-within   it is one of the row's members
 use mathlib.Core.Path.{_≡_, refl, sym, ap, _∙_}
 use mathlib.Core.Bool.{Bool, true, false, _&&_}
 use mathlib.Core.Option.{Option, none, some}
@@ -74,14 +74,17 @@ module _ (ms ns : List Member) (least : ℕ) (alike : (k : ℕ) → least ≤ k 
           rw (e, alike (h .tag) l) (content-alike h l n (lookup (h .tag) ns) (drop n s))
       go (bad c p) e = rw e
 
-pub passed-answer : (T : List ℕ) (t from least : ℕ) → Passed T t from least → (s : List ℕ)
-    → optionalAnswer (optionalFrom T t from) (optionalOf (optionalFrom T t from) least s) ≡ optionalAnswer (Table.optional T t) (optionalOf (Table.optional T t) least s)
-passed-answer T t from least P s = sym (answer-alike (Table.optional T t) (optionalFrom T t from) least (passed-lookup T t from least P) s)
+pub passed-answer : (T : List ℕ) (t end from least : ℕ) → Passed T t end from least → (s : List ℕ)
+    → optionalAnswer (optionalFrom T end from) (optionalOf (optionalFrom T end from) least s) ≡ optionalAnswer (Table.optional T t) (optionalOf (Table.optional T t) least s)
+passed-answer T t end from least P s = sym (answer-alike (Table.optional T t) (optionalFrom T end from) least (passed-lookup T t end from least P) s)
 
 -- the member of a known optional
 module _ (T : List ℕ) (t least : ℕ) (s : List ℕ) (m k a n : ℕ) (K : KnownRead (Table.optional T t) least s m k a n) where
   pub member-tag : tag T m ≡ k
   member-tag = ap (tag T) (sym (K .row)) ∙ optional-own T t k (K .member) (K .found) .tag-is
+
+  pub member-begun : field T t 0 ≤ m
+  member-begun = omega (arith, K .row, optional-own T t k (K .member) (K .found) .begun)
 
   pub member-within : m < field T t 0 + field T t 1
   member-within = omega (arith, K .row, optional-own T t k (K .member) (K .found) .within)

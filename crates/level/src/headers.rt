@@ -1,5 +1,6 @@
 // An optional's header: its first byte and a long tag, then judged.
 ghost use mathlib.Core.Path.{_≡_};
+ghost use Prim.Native.Nat.{_≤_};
 ghost use mathlib.Core.Bool.{_&&_};
 ghost use lib.Dec.{ltb};
 ghost use Rattle.encoding.specs.Types.{bits, bitsOf};
@@ -75,17 +76,18 @@ fn form_bits(f: usize) -> usize
     6
 }
 
-// A header, judged: 12 for form and order, 13, 12 for a known tag of another type. The tag is looked up from member row `from` on.
+// A header, judged: 12 for form and order, 13, 12 for a known tag of another type. The tag is looked up among the member rows from `from` on and before `end`.
 pub fn header(
     table: &[u8],
     shapes: &[u8; 256],
-    t: usize,
+    end: usize,
     from: usize,
     least: usize,
     s: &[u8],
 ) -> Head
     requires { ⌜ now shapes ≡ shapesOf (now table) ⌝ }
-    ensures { λ r. ⌜ r ≡ headOf (now (table .entry)) (optionalFrom (now (table .entry)) t from) (header (optionalFrom (now (table .entry)) t from) least (now (s .entry))) ⌝ }
+    requires { ⌜ end ≤ 131072 ⌝ }
+    ensures { λ r. ⌜ r ≡ headOf (now (table .entry)) (optionalFrom (now (table .entry)) end from) (header (optionalFrom (now (table .entry)) end from) least (now (s .entry))) ⌝ }
 {
     let f = front(s);
     match f {
@@ -94,12 +96,13 @@ pub fn header(
             if c != 0 {
                 return Head::Wrong(c, 0);
             }
-            let found = table::chain::tag_member(table, t, from, tag);
+            let found = table::chain::tag_member(table, end, from, tag);
             match found {
                 FoundMember::At(m, of) => {
                     let ty = crate::type_of(table::members(table), m, of);
-                    if k == form_bits(table::shapes::form(shapes, ty)) {
-                        Head::Known(m, ty, tag, n)
+                    let form = table::shapes::form(shapes, ty);
+                    if k == form_bits(form) {
+                        Head::Known(m, ty, tag, n, form)
                     } else {
                         Head::Wrong(12, 0)
                     }

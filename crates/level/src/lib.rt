@@ -15,14 +15,16 @@ ghost use Rattle.encoding.specs.Optional.{Piece, requireds};
 ghost use Rattle.encoding.specs.Message.{rowBytes, pieceRows};
 ghost use Rattle.wire.specs.Put.{put};
 ghost use Rattle.wire.specs.Steps.{stepOf};
+ghost use Rattle.wire.specs.declared.Step.the-variants.{Took};
 ghost use Rattle.table.specs.Shapes.{shapesOf};
+ghost use Rattle.table.specs.Tags.{optionalStart};
 ghost use Rattle.level.specs.Fill.{fill};
 ghost use Rattle.level.specs.Answers.{membersOf, typeOf};
 use wire::Step;
 
-// The bytes taken and the rows there are; or a refusal's number and place.
+// The bytes taken, the rows there are, and where the optional members begin; or a refusal's number and place.
 pub enum Members {
-    Read(usize, usize),
+    Read(usize, usize, usize),
     Refused(usize, usize),
 }
 
@@ -39,9 +41,9 @@ pub enum Front {
     Isnt(usize, usize),
 }
 
-// A header. Of a known tag: the member row, the row of its type, the tag, the bytes taken. Of an unknown one: the tag, the type bits, the bytes taken. Or a refusal's number and place.
+// A header. Of a known tag: the member row, the row of its type, the tag, the bytes taken, the number of its form. Of an unknown one: the tag, the type bits, the bytes taken. Or a refusal's number and place.
 pub enum Head {
-    Known(usize, usize, usize, usize),
+    Known(usize, usize, usize, usize, usize),
     Unknown(usize, usize, usize),
     Wrong(usize, usize),
 }
@@ -79,24 +81,33 @@ pub fn put_row(out: &mut [u8], k: usize, member: usize, place: usize, len: usize
     }
 }
 
-// A value of type row t; one that may be any bytes, and a string, is taken without a call.
-fn member_value(table: &[u8], shapes: &[u8; 256], t: usize, s: &[u8]) -> Step
+// Required member m of type row t: its value in front, and row k for it, where it stands `at` a place.
+fn put_member(
+    table: &[u8],
+    shapes: &[u8; 256],
+    t: usize,
+    s: &[u8],
+    at: usize,
+    k: usize,
+    m: usize,
+    out: &mut [u8],
+) -> Step
     requires { ⌜ now shapes ≡ shapesOf (now table) ⌝ }
     ensures { λ r. ⌜ r ≡ stepOf (value (tyOf (now (table .entry)) t) (now (s .entry))) ⌝ }
+    ensures { λ _. ⌜ length (now (out .exit)) ≡ length (now (out .entry)) ⌝ }
+    ensures { λ r. ⌜ ((n : ℕ) → r ≡ Took n → now (out .exit) ≡ put (12 * k) (rowBytes (record { member = m; place = at; len = n })) (now (out .entry))) ⌝ }
 {
-    let w = table::shapes::width(shapes, t);
-    if 0 < w {
-        if w <= s.len() {
-            return Step::Took(w);
+    let step = value::read_member(table, shapes, t, s);
+    match step {
+        Step::Took(n) => {
+            put_row(out, k, m, at, n);
+            Step::Took(n)
         }
+        Step::Fault(c, p) => Step::Fault(c, p),
     }
-    if table::shapes::is_text(shapes, t) {
-        return wire::read_string(s);
-    }
-    value::read_value(table, shapes, t, s)
 }
 
-// The required members of owner t, as declared: a row for each from row `count` on, its place counted from `at`.
+// The required members of owner t, as declared: a row for each from row `count` on, its place counted from `at`. Its first optional row is told too.
 pub fn required(
     table: &[u8],
     shapes: &[u8; 256],
@@ -108,7 +119,7 @@ pub fn required(
 ) -> Members
     requires { ⌜ now shapes ≡ shapesOf (now table) ⌝ }
     requires { ⌜ (at + length (now s) < 2 ^ 63) × (count < 2 ^ 63) ⌝ }
-    ensures { λ r. ⌜ r ≡ membersOf count (requireds (required (now (table .entry)) t) (now (s .entry))) ⌝ }
+    ensures { λ r. ⌜ r ≡ membersOf count (optionalStart (now (table .entry)) t) (requireds (required (now (table .entry)) t) (now (s .entry))) ⌝ }
     ensures { λ _. ⌜ length (now (out .exit)) ≡ length (now (out .entry)) ⌝ }
     ensures { λ _. ⌜ ((ps : List Piece) (n : ℕ) → requireds (required (now (table .entry)) t) (now (s .entry)) ≡ ok ps n → now (out .exit) ≡ fill count (pieceRows (now (table .entry)) t at ps) (now (out .entry))) ⌝ }
 {
@@ -119,26 +130,34 @@ pub fn required(
     let mut left = owner.b;
     let mut pos = 0;
     let mut k = count;
+    let mut next = owner.a + owner.b;
     while left > 0 {
         let row = table::member_row_from(table, first, m);
-        if row.mark != 0 {
-            m += 1;
-            left -= 1;
-            continue;
-        }
-        let step = member_value(table, shapes, type_of(all, m, row.of), &s[pos..]);
-        match step {
-            Step::Took(n) => {
-                put_row(out, k, m, at + pos, n);
-                k += 1;
-                pos += n;
-                m += 1;
-                left -= 1;
+        if row.mark == 0 {
+            let step = put_member(
+                table,
+                shapes,
+                type_of(all, m, row.of),
+                &s[pos..],
+                at + pos,
+                k,
+                m,
+                out,
+            );
+            match step {
+                Step::Took(n) => {
+                    k += 1;
+                    pos += n;
+                }
+                Step::Fault(c, p) => {
+                    return Members::Refused(c, pos + p);
+                }
             }
-            Step::Fault(c, p) => {
-                return Members::Refused(c, pos + p);
-            }
+        } else {
+            next = wire::least(next, m);
         }
+        m += 1;
+        left -= 1;
     }
-    Members::Read(pos, k)
+    Members::Read(pos, k, next)
 }

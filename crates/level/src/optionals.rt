@@ -1,5 +1,6 @@
 // The next optional of an owner.
 ghost use mathlib.Core.Path.{_≡_};
+ghost use Prim.Native.Nat.{_≤_};
 ghost use Rattle.encoding.specs.Result.{bytes, inside};
 ghost use Rattle.encoding.specs.Value.{value};
 ghost use Rattle.encoding.specs.Table.{tyOf};
@@ -13,7 +14,7 @@ use crate::Optional;
 use crate::Part;
 use wire::Step;
 
-// A value of type row t in the part of the form of number f: it uses up just the declared bytes. Bytes that may be any are as many as the type has.
+// A value of type row t in the part of the form of number f: it uses up just the declared bytes. Bytes that may be any are as many as the type has; a string uses up its own size.
 fn used_up(table: &[u8], shapes: &[u8; 256], t: usize, s: &[u8], f: usize) -> Part
     requires { ⌜ now shapes ≡ shapesOf (now table) ⌝ }
     ensures { λ r. ⌜ r ≡ partOf (inside (part (formNamed f)) (bytes (value (tyOf (now (table .entry)) t))) (now (s .entry))) ⌝ }
@@ -24,6 +25,11 @@ fn used_up(table: &[u8], shapes: &[u8; 256], t: usize, s: &[u8], f: usize) -> Pa
             let w = table::shapes::width(shapes, t);
             if 0 < w {
                 if w == e - a {
+                    return Part::Is(a, e);
+                }
+            }
+            if f == 8 {
+                if table::shapes::is_text(shapes, t) {
                     return Part::Is(a, e);
                 }
             }
@@ -43,22 +49,22 @@ fn used_up(table: &[u8], shapes: &[u8; 256], t: usize, s: &[u8], f: usize) -> Pa
     }
 }
 
-// The next optional of owner t, its tag at least `least` and looked up from member row `from` on: a known value in its declared bytes, or a skipped one.
+// The next optional, its tag at least `least` and looked up among the member rows from `from` on and before `end`: a known value in its declared bytes, or a skipped one.
 pub fn optional(
     table: &[u8],
     shapes: &[u8; 256],
-    t: usize,
+    end: usize,
     from: usize,
     least: usize,
     s: &[u8],
 ) -> Optional
     requires { ⌜ now shapes ≡ shapesOf (now table) ⌝ }
-    ensures { λ r. ⌜ r ≡ optionalAnswer (optionalFrom (now (table .entry)) t from) (optionalOf (optionalFrom (now (table .entry)) t from) least (now (s .entry))) ⌝ }
+    requires { ⌜ end ≤ 131072 ⌝ }
+    ensures { λ r. ⌜ r ≡ optionalAnswer (optionalFrom (now (table .entry)) end from) (optionalOf (optionalFrom (now (table .entry)) end from) least (now (s .entry))) ⌝ }
 {
-    let h = crate::headers::header(table, shapes, t, from, least, s);
+    let h = crate::headers::header(table, shapes, end, from, least, s);
     match h {
-        Head::Known(m, ty, tag, n) => {
-            let f = table::shapes::form(shapes, ty);
+        Head::Known(m, ty, tag, n, f) => {
             let p = used_up(table, shapes, ty, &s[n..], f);
             match p {
                 Part::Is(a, e) => Optional::Known(m, tag, n + a, n + e),

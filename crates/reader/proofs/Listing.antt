@@ -23,13 +23,13 @@ use Rattle.encoding.specs.Optional.{Piece, requireds, optionalOf}
 use Rattle.encoding.specs.Message.{rowBytes, pieceRows, parameters}
 use Rattle.wire.specs.Put.{put}
 use Rattle.wire.specs.StepLaws.{rest-is}
-use Rattle.table.specs.Tags.{optionalFrom, Passed}
+use Rattle.table.specs.Tags.{optionalFrom, optionalStart, Passed}
 use Rattle.table.specs.Tags
 use Rattle.table.specs.TagsLaws.{passed-none, passed-still, passed-behind}
 use Rattle.level.specs.Fill.{fill}
-use Rattle.level.specs.TagLaws.{passed-answer, member-tag, member-within}
+use Rattle.level.specs.TagLaws.{passed-answer, member-tag, member-begun, member-within}
 use Rattle.level.specs.Answers.{membersOf, optionalAnswer}
-use Rattle.level.specs.AnswersLaws.{KnownRead, known-read, skipped-read, wrong-read, known-within, known-start, known-tag, skipped-some, skipped-within, skipped-tag, wrong-within, members-read, members-refused, members-within, refused-within}
+use Rattle.level.specs.AnswersLaws.{KnownRead, known-read, skipped-read, wrong-read, known-within, known-start, known-tag, skipped-some, skipped-within, skipped-tag, wrong-within, members-read, members-start, members-refused, members-within, refused-within}
 use Rattle.level.specs.declared.Members.{Members}
 use Rattle.level.specs.declared.Members.the-variants.{Read, Refused}
 use Rattle.level.specs.declared.Optional.{Optional}
@@ -78,13 +78,13 @@ not-end m at h = go (drop at m) (omega (arith, length-drop at m))
     go [] h = absurd (omega arith)
     go (x ∷ l) h = refl
 
-pub record Listing (T : List ℕ) (top : ℕ) (m : List ℕ) (whole : Outcome) (at least row k o : ℕ) (out : List ℕ) : Type 0 where
+pub record Listing (T : List ℕ) (top : ℕ) (m : List ℕ) (whole : Outcome) (stop at least row k o : ℕ) (out : List ℕ) : Type 0 where
   pub small : Small T
   pub room : length m < 2 ^ 63
   pub inside : at ≤ length m
   pub few : 2 * k ≤ 131072 + at
   pub fewer : o ≤ at
-  pub passed : Passed T top row least
+  pub passed : Passed T top stop row least
   pub rest : whole ≡ listing T top m at least k o out
 
 -- what is left fits
@@ -93,21 +93,21 @@ list-asks m start h l = omega (arith, ap length (rest-is m start), length-drop s
 
 -- the required members
 module _ (T : List ℕ) (top : ℕ) (m : List ℕ) (start : ℕ) (h : start ≤ length m) (ms : Members)
-    (em : ms ≡ membersOf 0 (requireds (Table.required T top) (take (length m - start) (drop start m)))) where
-  reads : ms ≡ membersOf 0 (requireds (Table.required T top) (drop start m))
-  reads = em ∙ ap (λ (l : List ℕ). membersOf 0 (requireds (Table.required T top) l)) (rest-is m start)
+    (em : ms ≡ membersOf 0 (optionalStart T top) (requireds (Table.required T top) (take (length m - start) (drop start m)))) where
+  reads : ms ≡ membersOf 0 (optionalStart T top) (requireds (Table.required T top) (drop start m))
+  reads = em ∙ ap (λ (l : List ℕ). membersOf 0 (optionalStart T top) (requireds (Table.required T top) l)) (rest-is m start)
 
   list-refused : (c p : ℕ) → ms ≡ Refused c p → (out out′ : List ℕ) → Ends (inList T top start out (parameters T top (drop start m))) (Stop c (start + p)) out′
   list-refused c p q out out′ =
       ends-refused _ c (start + p) (Stop c (start + p)) out′
-      (parameters-refused T top (listClose top) refused (drop start m) c p (members-refused (Table.required T top) 0 (drop start m) ms reads c p q) start 0 0 out) refl
+      (parameters-refused T top (listClose top) refused (drop start m) c p (members-refused (Table.required T top) 0 (optionalStart T top) (drop start m) ms reads c p q) start 0 0 out) refl
 
   pub list-place : (c p : ℕ) → ms ≡ Refused c p → Fits w64 (length m) → Fits w64 (start + p)
-  list-place c p q l = omega (arith, refused-within (Table.required T top) 0 (drop start m) ms reads c p q, length-drop start m)
+  list-place c p q l = omega (arith, refused-within (Table.required T top) 0 (optionalStart T top) (drop start m) ms reads c p q, length-drop start m)
 
-  module _ (n j : ℕ) (q : ms ≡ Read n j) where
+  module _ (n j i : ℕ) (q : ms ≡ Read n j i) where
     list-within : start + n ≤ length m
-    list-within = omega (arith, members-within (Table.required T top) 0 (drop start m) ms reads n j q, length-drop start m)
+    list-within = omega (arith, members-within (Table.required T top) 0 (optionalStart T top) (drop start m) ms reads n j i q, length-drop start m)
 
     pub list-at : Fits w64 (length m) → Fits w64 (start + n)
     list-at l = omega (arith, list-within)
@@ -115,7 +115,7 @@ module _ (T : List ℕ) (top : ℕ) (m : List ℕ) (start : ℕ) (h : start ≤ 
     list-same : (out out′ : List ℕ) → ((ps : List Piece) (n : ℕ) → requireds (Table.required T top) (take (length m - start) (drop start m)) ≡ ok ps n → out′ ≡ fill 0 (pieceRows T top start ps) out)
         → inList T top start out (parameters T top (drop start m)) ≡ listing T top m (start + n) 0 j 0 out′
     unfolding listing
-    list-same out out′ fills = go (members-read (Table.required T top) 0 (drop start m) ms reads n j q)
+    list-same out out′ fills = go (members-read (Table.required T top) 0 (optionalStart T top) (drop start m) ms reads n j i q)
       where
         go : (ps : List Piece) × (requireds (Table.required T top) (drop start m) ≡ ok ps n) × (j ≡ 0 + length ps)
             → inList T top start out (parameters T top (drop start m)) ≡ finish T top (listClose top) refused false (start + n) j 0 out′ (optionalsFrom atEnd (Table.optional T top) 0 (drop (start + n) m))
@@ -130,21 +130,27 @@ pub told-both : (ms x y : Members) → ms ≡ x → ms ≡ y → x ≡ y
 told-both ms x y e h = sym e ∙ h
 
 -- at the first optional
-pub list-begin : (T : List ℕ) (top : ℕ) (m : List ℕ) (start n j row : ℕ) (out : List ℕ) → Read n j ≡ membersOf 0 (requireds (Table.required T top) (take (length m - start) (drop start m))) → row ≡ Table.field T top 0
-    → start ≤ length m → Small T → length m < 2 ^ 63 → Listing T top m (listing T top m (start + n) 0 j 0 out) (start + n) 0 row j 0 out
-list-begin T top m start n j row out em e h S l =
-    let R = members-read (Table.required T top) 0 (drop start m) (Read n j) (reads T top m start h (Read n j) em) n j refl in
+pub list-begin : (T : List ℕ) (top : ℕ) (m : List ℕ) (start n j i : ℕ) (out : List ℕ) → Read n j i ≡ membersOf 0 (optionalStart T top) (requireds (Table.required T top) (take (length m - start) (drop start m)))
+    → (stop : ℕ) → stop ≡ Table.field T top 0 + Table.field T top 1 → start ≤ length m → Small T → length m < 2 ^ 63
+    → Listing T top m (listing T top m (start + n) 0 j 0 out) stop (start + n) 0 i j 0 out
+list-begin T top m start n j i out em stop e h S l =
+    let told = reads T top m start h (Read n j i) em in
+    let R = members-read (Table.required T top) 0 (optionalStart T top) (drop start m) (Read n j i) told n j i refl in
     record {
       small = S;
       room = l;
-      inside = list-within T top m start h (Read n j) em n j refl;
+      inside = list-within T top m start h (Read n j i) em n j i refl;
       few = omega (arith, R .2, required-few T top (drop start m) (R .0) n (R .1), field-below T S top 1);
       fewer = omega arith;
-      passed = rw e (passed-none T top);
+      passed = passed-none T top stop i e (members-start (Table.required T top) 0 (optionalStart T top) (drop start m) (Read n j i) told n j i refl);
       rest = refl;
     }
 
-module _ {T : List ℕ} {top : ℕ} {m : List ℕ} {whole : Outcome} {at least row k o : ℕ} {out : List ℕ} (inv : Listing T top m whole at least row k o out) where
+module _ {T : List ℕ} {top : ℕ} {m : List ℕ} {whole : Outcome} {stop at least row k o : ℕ} {out : List ℕ} (inv : Listing T top m whole stop at least row k o out) where
+  -- the rows of the list's own members end before the bound of the look-ups
+  pub listing-bound : stop ≤ 131072
+  listing-bound = omega (arith, inv .passed .ends, field-below T (inv .small) top 0, field-below T (inv .small) top 1)
+
   -- the end of the list
   listing-end : length m ≤ at → Ends whole (Done top 1 k o 0 at) out
   unfolding listing listClose
@@ -152,10 +158,10 @@ module _ {T : List ℕ} {top : ℕ} {m : List ℕ} {whole : Outcome} {at least r
       ends-listed whole (Done top 1 k o 0 at) out
       (inv .rest ∙ finish-end T top (listClose top) refused atEnd false least (drop at m) at k o out 0 (at-end m at h) refl ∙ ap (λ (i : ℕ). listed (Done top 1 k o 0 i) out) (add-zero at))
 
-  module _ (on : at < length m) {r : Optional} (e : r ≡ optionalAnswer (optionalFrom T top row) (optionalOf (optionalFrom T top row) least (take (length m - at) (drop at m)))) where
+  module _ (on : at < length m) {r : Optional} (e : r ≡ optionalAnswer (optionalFrom T stop row) (optionalOf (optionalFrom T stop row) least (take (length m - at) (drop at m)))) where
     answers : r ≡ optionalAnswer (Table.optional T top) (optionalOf (Table.optional T top) least (drop at m))
     answers =
-        e ∙ passed-answer T top row least (inv .passed) (take (length m - at) (drop at m))
+        e ∙ passed-answer T top stop row least (inv .passed) (take (length m - at) (drop at m))
         ∙ ap (λ (l : List ℕ). optionalAnswer (Table.optional T top) (optionalOf (Table.optional T top) least l)) (rest-is m at)
 
     -- a known optional
@@ -191,7 +197,7 @@ module _ {T : List ℕ} {top : ℕ} {m : List ℕ} {whole : Outcome} {at least r
       listing-few = omega (arith, member-within T top least (drop at m) i tag a n reading, field-below T (inv .small) top 0, field-below T (inv .small) top 1)
 
       pub listing-known : {out′ : List ℕ} → out′ ≡ put (12 * k) (rowBytes (record { member = i; place = at + a; len = n - a })) out → {row′ : ℕ} → row′ ≡ Tags.behind T row i tag
-          → Listing T top m whole (at + n) (tag + 1) row′ (k + 1) o out′
+          → Listing T top m whole stop (at + n) (tag + 1) row′ (k + 1) o out′
       unfolding listing
       listing-known {out′} w {row′} p = record {
         small = inv .small;
@@ -199,7 +205,7 @@ module _ {T : List ℕ} {top : ℕ} {m : List ℕ} {whole : Outcome} {at least r
         inside = listing-within;
         few = omega (arith, inv .few, listing-two);
         fewer = omega (arith, inv .fewer);
-        passed = rw p (passed-behind T top row least (inv .passed) tag (reading .rises) i (member-tag T top least (drop at m) i tag a n reading));
+        passed = rw p (passed-behind T top stop row least (inv .passed) tag (reading .rises) i (member-begun T top least (drop at m) i tag a n reading) (member-tag T top least (drop at m) i tag a n reading));
         rest = inv .rest ∙ finish-known T top (listClose top) refused atEnd false least (drop at m) at k o out (not-end m at on) i tag a n reading
             ∙ ap₂ (λ (y : List ℕ) (l : List ℕ). finish T top (listClose top) refused false (at + n) (k + 1) o y (optionalsFrom atEnd (Table.optional T top) (suc tag) l)) (sym w) (drop-drop n at m)
             ∙ rw (add-one tag);
@@ -225,7 +231,7 @@ module _ {T : List ℕ} {top : ℕ} {m : List ℕ} {whole : Outcome} {at least r
       pub listing-past-tag : Fits w64 (tag + 1)
       listing-past-tag = omega (arith, skipped-tag (Table.optional T top) least (drop at m) r answers tag n q)
 
-      pub listing-skipped : Listing T top m whole (at + n) (tag + 1) row k (o + 1) out
+      pub listing-skipped : Listing T top m whole stop (at + n) (tag + 1) row k (o + 1) out
       unfolding listing
       listing-skipped = record {
         small = inv .small;
@@ -233,7 +239,7 @@ module _ {T : List ℕ} {top : ℕ} {m : List ℕ} {whole : Outcome} {at least r
         inside = listing-past;
         few = omega (arith, inv .few);
         fewer = omega (arith, inv .fewer, listing-some);
-        passed = passed-still T top row least (inv .passed) tag (skipped-read (Table.optional T top) least (drop at m) r answers tag n q .rises);
+        passed = passed-still T top stop row least (inv .passed) tag (skipped-read (Table.optional T top) least (drop at m) r answers tag n q .rises);
         rest = inv .rest
             ∙ finish-skipped T top (listClose top) refused atEnd false least (drop at m) at k o out (not-end m at on) tag n (skipped-read (Table.optional T top) least (drop at m) r answers tag n q)
             ∙ ap (λ (l : List ℕ). finish T top (listClose top) refused false (at + n) k (o + 1) out (optionalsFrom atEnd (Table.optional T top) (suc tag) l)) (drop-drop n at m)
@@ -262,16 +268,16 @@ listing-answer T top m at least k o out out′ = go (optionalsFrom atEnd (Table.
     go (ok ps n) = refl
     go (bad c p) = refl
 
-module _ (T : List ℕ) (top : ℕ) (m : List ℕ) (start n j : ℕ) (mid : List ℕ) (at least row k o : ℕ) (out : List ℕ) (inv : Listing T top m (listing T top m (start + n) 0 j 0 mid) at least row k o out)
-    (h : start ≤ length m) (ms : Members) (em : ms ≡ membersOf 0 (requireds (Table.required T top) (take (length m - start) (drop start m)))) (w : ms ≡ Read n j) where
+module _ (T : List ℕ) (top : ℕ) (m : List ℕ) (start n j i : ℕ) (mid : List ℕ) (stop at least row k o : ℕ) (out : List ℕ) (inv : Listing T top m (listing T top m (start + n) 0 j 0 mid) stop at least row k o out)
+    (h : start ≤ length m) (ms : Members) (em : ms ≡ membersOf 0 (optionalStart T top) (requireds (Table.required T top) (take (length m - start) (drop start m)))) (w : ms ≡ Read n j i) where
   -- the optionals decide
   same-answer : answerOf (listing T top m (start + n) 0 j 0 mid) ≡ listWalk T top start (parameters T top (drop start m))
-  same-answer = go (members-read (Table.required T top) 0 (drop start m) ms (reads T top m start h ms em) n j w)
+  same-answer = go (members-read (Table.required T top) 0 (optionalStart T top) (drop start m) ms (reads T top m start h ms em) n j i w)
     where
       go : (ps : List Piece) × (requireds (Table.required T top) (drop start m) ≡ ok ps n) × (j ≡ 0 + length ps) → answerOf (listing T top m (start + n) 0 j 0 mid) ≡ listWalk T top start (parameters T top (drop start m))
       go R =
           listing-answer T top m (start + n) 0 j 0 mid (fill 0 (pieceRows T top start (R .0)) mid)
-          ∙ sym (ap answerOf (list-same T top m start h ms em n j w mid (fill 0 (pieceRows T top start (R .0)) mid) (λ ps i e.
+          ∙ sym (ap answerOf (list-same T top m start h ms em n j i w mid (fill 0 (pieceRows T top start (R .0)) mid) (λ ps i e.
           let z : ok (R .0) n ≡ ok ps i = sym (ap (requireds (Table.required T top)) (rest-is m start) ∙ R .1) ∙ e in
           let y : R .0 ≡ ps = cc in ap (λ (l : List Piece). fill 0 (pieceRows T top start l) mid) y)))
           ∙ list-whole T top start mid (parameters T top (drop start m))
@@ -282,7 +288,7 @@ module _ (T : List ℕ) (top : ℕ) (m : List ℕ) (start n j : ℕ) (mid : List
 
   -- so are all of them where the walk accepts
   gives : (out₀ : List ℕ) → Fills out₀ → (v : Walk) → Ends (listing T top m (start + n) 0 j 0 mid) v out → (ps : List Piece) (n : ℕ) → parameters T top (drop start m) ≡ ok ps n → out ≡ fill 0 (pieceRows T top start ps) out₀
-  gives out₀ fills v E = list-gives T top start out₀ (parameters T top (drop start m)) v out (ends-same (list-same T top m start h ms em n j w out₀ mid fills) E)
+  gives out₀ fills v E = list-gives T top start out₀ (parameters T top (drop start m)) v out (ends-same (list-same T top m start h ms em n j i w out₀ mid fills) E)
 
   -- at the end of the list
   module _ (over : length m ≤ at) where
@@ -293,7 +299,7 @@ module _ (T : List ℕ) (top : ℕ) (m : List ℕ) (start n j : ℕ) (mid : List
     done-gives out₀ fills = gives out₀ fills (Done top 1 k o 0 at) (listing-end inv over)
 
   -- an optional is refused
-  module _ (on : at < length m) (r : Optional) (e : r ≡ optionalAnswer (optionalFrom T top row) (optionalOf (optionalFrom T top row) least (take (length m - at) (drop at m)))) (c p : ℕ) (q : r ≡ Wrong c p) where
+  module _ (on : at < length m) (r : Optional) (e : r ≡ optionalAnswer (optionalFrom T stop row) (optionalOf (optionalFrom T stop row) least (take (length m - at) (drop at m)))) (c p : ℕ) (q : r ≡ Wrong c p) where
     pub stopped-says : Stop c (at + p) ≡ listWalk T top start (parameters T top (drop start m))
     stopped-says = ends-answer (listing-wrong inv on e q out) ∙ same-answer
 
@@ -301,7 +307,7 @@ module _ (T : List ℕ) (top : ℕ) (m : List ℕ) (start n j : ℕ) (mid : List
     stopped-gives out₀ fills = gives out₀ fills (Stop c (at + p)) (listing-wrong inv on e q out)
 
 -- a required member is refused
-module _ (T : List ℕ) (top : ℕ) (m : List ℕ) (start : ℕ) (h : start ≤ length m) (ms : Members) (em : ms ≡ membersOf 0 (requireds (Table.required T top) (take (length m - start) (drop start m))))
+module _ (T : List ℕ) (top : ℕ) (m : List ℕ) (start : ℕ) (h : start ≤ length m) (ms : Members) (em : ms ≡ membersOf 0 (optionalStart T top) (requireds (Table.required T top) (take (length m - start) (drop start m))))
     (c p : ℕ) (w : ms ≡ Refused c p) where
   pub refused-says : Stop c (start + p) ≡ listWalk T top start (parameters T top (drop start m))
   refused-says = list-says T top start m (parameters T top (drop start m)) (Stop c (start + p)) m (list-refused T top m start h ms em c p w m m)

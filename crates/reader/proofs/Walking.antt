@@ -32,13 +32,13 @@ use Rattle.encoding.specs.SliceLaws.{held-slice, eats-slice}
 use Rattle.encoding.specs.Message.{pieceRows, rowBytes, sliceRows, skippedIn, passedIn}
 use Rattle.wire.specs.Put.{put}
 use Rattle.wire.specs.StepLaws.{rest-is}
-use Rattle.table.specs.Tags.{optionalFrom, Passed}
+use Rattle.table.specs.Tags.{optionalFrom, optionalStart, Passed}
 use Rattle.table.specs.Tags
 use Rattle.table.specs.TagsLaws.{passed-none, passed-still, passed-behind}
 use Rattle.level.specs.Fill.{fill}
-use Rattle.level.specs.TagLaws.{member-tag, member-within}
+use Rattle.level.specs.TagLaws.{member-tag, member-begun, member-within}
 use Rattle.level.specs.Answers.{membersOf}
-use Rattle.level.specs.AnswersLaws.{KnownRead, SkippedRead, members-read, members-refused, members-within, refused-within}
+use Rattle.level.specs.AnswersLaws.{KnownRead, SkippedRead, members-read, members-start, members-refused, members-within, refused-within}
 use Rattle.level.specs.declared.Members.{Members}
 use Rattle.level.specs.declared.Members.the-variants.{Read, Refused}
 use Rattle.reader.specs.declared.Stage.{Stage}
@@ -89,7 +89,7 @@ pub record Outer (T : List ℕ) (top : ℕ) (m : List ℕ) (whole : Outcome) (st
   pub rest : whole ≡ left T (stageOf stage) pos k o s fst out (onward T top (stageOf stage) (drop pos m))
 
 -- the outcome comes of the optionals ahead, where there may be more, or of what is behind the slice's members
-pub record Inner (T : List ℕ) (top : ℕ) (m : List ℕ) (whole : Outcome) (stage : Stage) (pos t : ℕ) (z : Bool) (from end s fst : ℕ) (at least row k o : ℕ) (more : Bool) (out : List ℕ) : Type 0 where
+pub record Inner (T : List ℕ) (top : ℕ) (m : List ℕ) (whole : Outcome) (stage : Stage) (pos t : ℕ) (z : Bool) (from end s fst stop : ℕ) (at least row k o : ℕ) (more : Bool) (out : List ℕ) : Type 0 where
   pub small : Small T
   pub room : length m < 2 ^ 63
   pub begun : pos < at
@@ -99,7 +99,7 @@ pub record Inner (T : List ℕ) (top : ℕ) (m : List ℕ) (whole : Outcome) (st
   pub fewer : o ≤ at
   pub fewest : s ≤ pos
   pub sized : z ≡ true → 4 ≤ from
-  pub passed : Passed T t row least
+  pub passed : Passed T t stop row least
   pub rest : whole ≡ amid T top m (stageOf stage) pos t z from end s fst at least k o more out
 
 module _ (T : List ℕ) (top : ℕ) (m : List ℕ) (at : ℕ) (out : List ℕ) where
@@ -212,20 +212,20 @@ module _ {T : List ℕ} {top : ℕ} {m : List ℕ} {whole : Outcome} {stage : St
         inv .rest ∙ left-known T top (stageOf stage) m pos t opt z a b opened (inv .on) k o s fst out
         ∙ ap (λ (l : List ℕ). finish T t close (recalling pos) false (pos + a) k o out (fields T t opt l)) same-part
 
-    module _ {ms : Members} (em : ms ≡ membersOf k (requireds (Table.required T t) part)) where
+    module _ {ms : Members} (em : ms ≡ membersOf k (optionalStart T t) (requireds (Table.required T t) part)) where
       known-refused : {c p : ℕ} → ms ≡ Refused c p → {v : Walk} → v ≡ answerOf (recalling pos c (pos + a + p)) → (out′ : List ℕ) → Ends whole v out′
       unfolding answerOf recalling
       known-refused {c} {p} w {v} h out′ =
           ends-refused whole c (recallTo c pos (pos + a + p)) v out′
-          (by-members ∙ fields-refused T t close (recalling pos) part c p (members-refused (Table.required T t) k part ms em c p w) (pos + a) k o out opt) h
+          (by-members ∙ fields-refused T t close (recalling pos) part c p (members-refused (Table.required T t) k (optionalStart T t) part ms em c p w) (pos + a) k o out opt) h
 
       pub refused-fits : {c p : ℕ} → ms ≡ Refused c p → Fits w64 (pos + a + p)
       refused-fits {c} {p} w =
-          omega (arith, inv .room, refused-within (Table.required T t) k part ms em c p w, part-length m (pos + a) (pos + b) known-order known-within, known-order, known-within)
+          omega (arith, inv .room, refused-within (Table.required T t) k (optionalStart T t) part ms em c p w, part-length m (pos + a) (pos + b) known-order known-within, known-order, known-within)
 
-      module _ {n j : ℕ} (w : ms ≡ Read n j) where
+      module _ {n j i : ℕ} (w : ms ≡ Read n j i) where
         at-within : pos + a + n ≤ pos + b
-        at-within = omega (arith, members-within (Table.required T t) k part ms em n j w, part-length m (pos + a) (pos + b) known-order known-within, known-order)
+        at-within = omega (arith, members-within (Table.required T t) k (optionalStart T t) part ms em n j i w, part-length m (pos + a) (pos + b) known-order known-within, known-order)
 
         pub at-fits : Fits w64 (pos + a + n)
         at-fits = omega (arith, inv .room, at-within, known-within)
@@ -234,7 +234,7 @@ module _ {T : List ℕ} {top : ℕ} {m : List ℕ} {whole : Outcome} {stage : St
           -- the members behind the required ones decide
           pub outer-same : whole ≡ amid T top m (stageOf stage) pos t z (pos + a) (pos + b) s fst (pos + a + n) 0 j o opt out′
           unfolding amid
-          outer-same = go (members-read (Table.required T t) k part ms em n j w)
+          outer-same = go (members-read (Table.required T t) k (optionalStart T t) part ms em n j i w)
             where
               go : (ps : List Piece) × (requireds (Table.required T t) part ≡ ok ps n) × (j ≡ k + length ps)
                   → whole ≡ amid T top m (stageOf stage) pos t z (pos + a) (pos + b) s fst (pos + a + n) 0 j o opt out′
@@ -244,10 +244,10 @@ module _ {T : List ℕ} {top : ℕ} {m : List ℕ} {whole : Outcome} {stage : St
                   (sym (R .2)) (sym (fills (R .0) n (R .1)))
                   ∙ ap (λ (l : List ℕ). pick opt (finish T t close (recalling pos) true (pos + a + n) j o out′ (optionalsFrom atMark (Table.optional T t) 0 l)) (close (pos + a + n) j o out′)) (part-on m (pos + a) n (pos + b))
 
-        pub outer-in : {row : ℕ} → row ≡ field T t 0 → (out′ : List ℕ)
-            → Inner T top m (amid T top m (stageOf stage) pos t z (pos + a) (pos + b) s fst (pos + a + n) 0 j o opt out′) stage pos t z (pos + a) (pos + b) s fst (pos + a + n) 0 row j o opt out′
-        outer-in e out′ =
-            let R = members-read (Table.required T t) k part ms em n j w in
+        pub outer-in : {stop : ℕ} → stop ≡ field T t 0 + field T t 1 → (out′ : List ℕ)
+            → Inner T top m (amid T top m (stageOf stage) pos t z (pos + a) (pos + b) s fst (pos + a + n) 0 j o opt out′) stage pos t z (pos + a) (pos + b) s fst stop (pos + a + n) 0 i j o opt out′
+        outer-in {stop} e out′ =
+            let R = members-read (Table.required T t) k (optionalStart T t) part ms em n j i w in
             let eats = opened-eats T top (stageOf stage) (drop pos m) t opt z a b opened in
             record {
               small = inv .small;
@@ -259,23 +259,27 @@ module _ {T : List ℕ} {top : ℕ} {m : List ℕ} {whole : Outcome} {stage : St
               fewer = omega (arith, inv .fewer);
               fewest = inv .fewest;
               sized = λ y. omega (arith, opened-sized T top (stageOf stage) (drop pos m) t opt z a b opened y);
-              passed = rw e (passed-none T t);
+              passed = passed-none T t stop i e (members-start (Table.required T t) k (optionalStart T t) part ms em n j i w);
               rest = refl;
             }
 
 -- ---- the loop over optionals
 
-module _ {T : List ℕ} {top : ℕ} {m : List ℕ} {whole : Outcome} {stage : Stage} {pos t : ℕ} {z : Bool} {from end s fst : ℕ} {at least row k o : ℕ} {more : Bool} {out : List ℕ}
-    (inv : Inner T top m whole stage pos t z from end s fst at least row k o more out) where
+module _ {T : List ℕ} {top : ℕ} {m : List ℕ} {whole : Outcome} {stage : Stage} {pos t : ℕ} {z : Bool} {from end s fst stop : ℕ} {at least row k o : ℕ} {more : Bool} {out : List ℕ}
+    (inv : Inner T top m whole stage pos t z from end s fst stop at least row k o more out) where
+  -- the rows of the owner's members end before the bound of the look-ups
+  pub inner-bound : stop ≤ 131072
+  inner-bound = omega (arith, inv .passed .ends, field-below T (inv .small) t 0, field-below T (inv .small) t 1)
+
   abbrev close-in : (at k o : ℕ) → List ℕ → Outcome
   close-in = closing T top m z (base T t) s (firstOr (stageOf stage) fst t) from end
 
   abbrev part-in : List ℕ
   part-in = take (end - at) (drop at m)
 
-  module _ (go-on : more ≡ true) {r : Turn} (e : r ≡ turnOf (optionalFrom T t row) least part-in) where
+  module _ (go-on : more ≡ true) {r : Turn} (e : r ≡ turnOf (optionalFrom T stop row) least part-in) where
     turns : r ≡ turnOf (Table.optional T t) least part-in
-    turns = e ∙ passed-turn T t row least (inv .passed) part-in
+    turns = e ∙ passed-turn T t stop row least (inv .passed) part-in
 
     ahead : whole ≡ finish T t close-in (recalling pos) (eqb least 0) at k o out (optionalsFrom atMark (Table.optional T t) least part-in)
     unfolding amid
@@ -295,7 +299,7 @@ module _ {T : List ℕ} {top : ℕ} {m : List ℕ} {whole : Outcome} {stage : St
       pub end-mark-fits : Fits w64 (at + 1)
       end-mark-fits = omega (arith, inv .room, end-within, inv .within)
 
-      pub inner-end : Inner T top m whole stage pos t z from end s fst (at + 1) least row k o false out
+      pub inner-end : Inner T top m whole stage pos t z from end s fst stop (at + 1) least row k o false out
       unfolding amid
       inner-end =
           let E = turn-end (Table.optional T t) least part-in r turns q in
@@ -346,7 +350,7 @@ module _ {T : List ℕ} {top : ℕ} {m : List ℕ} {whole : Outcome} {stage : St
       member-few = omega (arith, member-within T t least part-in i tag a n (known-told .1), field-below T (inv .small) t 0, field-below T (inv .small) t 1)
 
       pub inner-known : {out′ : List ℕ} → out′ ≡ put (12 * k) (rowBytes (record { member = i; place = at + a; len = n - a })) out → {row′ : ℕ} → row′ ≡ Tags.behind T row i tag
-          → Inner T top m whole stage pos t z from end s fst (at + n) (tag + 1) row′ (k + 1) o more out′
+          → Inner T top m whole stage pos t z from end s fst stop (at + n) (tag + 1) row′ (k + 1) o more out′
       unfolding amid
       inner-known {out′} w {row′} p = record {
         small = inv .small;
@@ -358,7 +362,7 @@ module _ {T : List ℕ} {top : ℕ} {m : List ℕ} {whole : Outcome} {stage : St
         fewer = omega (arith, inv .fewer);
         fewest = inv .fewest;
         sized = inv .sized;
-        passed = rw p (passed-behind T t row least (inv .passed) tag (known-told .1 .rises) i (member-tag T t least part-in i tag a n (known-told .1)));
+        passed = rw p (passed-behind T t stop row least (inv .passed) tag (known-told .1 .rises) i (member-begun T t least part-in i tag a n (known-told .1)) (member-tag T t least part-in i tag a n (known-told .1)));
         rest = ahead ∙ finish-known T t close-in (recalling pos) atMark (eqb least 0) least part-in at k o out (known-told .0) i tag a n (known-told .1)
             ∙ ap₂ (λ (y : List ℕ) (l : List ℕ). finish T t close-in (recalling pos) false (at + n) (k + 1) o y (optionalsFrom atMark (Table.optional T t) (suc tag) l)) (sym w) (part-on m at n end)
             ∙ rw (go-on, add-one tag, ne-eqb (suc tag) 0 (λ y. omega arith));
@@ -387,7 +391,7 @@ module _ {T : List ℕ} {top : ℕ} {m : List ℕ} {whole : Outcome} {stage : St
       pub skipped-count : Fits w64 (o + 1)
       skipped-count = omega (arith, inv .room, inv .fewer, skipped-some, skipped-ends, inv .within)
 
-      pub inner-skipped : Inner T top m whole stage pos t z from end s fst (at + n) (tag + 1) row k (o + 1) more out
+      pub inner-skipped : Inner T top m whole stage pos t z from end s fst stop (at + n) (tag + 1) row k (o + 1) more out
       unfolding amid
       inner-skipped = record {
         small = inv .small;
@@ -399,7 +403,7 @@ module _ {T : List ℕ} {top : ℕ} {m : List ℕ} {whole : Outcome} {stage : St
         fewer = omega (arith, inv .fewer, skipped-some);
         fewest = inv .fewest;
         sized = inv .sized;
-        passed = passed-still T t row least (inv .passed) tag (skipped-told .1 .rises);
+        passed = passed-still T t stop row least (inv .passed) tag (skipped-told .1 .rises);
         rest = ahead ∙ finish-skipped T t close-in (recalling pos) atMark (eqb least 0) least part-in at k o out (skipped-told .0) tag n (skipped-told .1)
             ∙ ap (λ (l : List ℕ). finish T t close-in (recalling pos) false (at + n) k (o + 1) out (optionalsFrom atMark (Table.optional T t) (suc tag) l)) (part-on m at n end)
             ∙ rw (go-on, add-one tag, ne-eqb (suc tag) 0 (λ y. omega arith));
@@ -492,7 +496,7 @@ module _ (T : List ℕ) (top : ℕ) (m : List ℕ) (start : ℕ) (out₀ : List 
     pub wrong-gives : (c : Chain) (n : ℕ) → slices T top (drop start m) ≡ ok c n → out ≡ fill 0 (chainRows T start c) out₀
     wrong-gives = ends-gives T start out₀ (slices T top (drop start m)) v out (outer-wrong inv e q h)
 
-  module _ (t : ℕ) (opt z : Bool) (a b : ℕ) (q : r ≡ KnownSlice t opt z a b) (ms : Members) (em : ms ≡ membersOf k (requireds (Table.required T t) (take (pos + b - (pos + a)) (drop (pos + a) m)))) where
+  module _ (t : ℕ) (opt z : Bool) (a b : ℕ) (q : r ≡ KnownSlice t opt z a b) (ms : Members) (em : ms ≡ membersOf k (optionalStart T t) (requireds (Table.required T t) (take (pos + b - (pos + a)) (drop (pos + a) m)))) where
     -- a required member is refused
     module _ (c p : ℕ) (w : ms ≡ Refused c p) (v : Walk) (h : v ≡ answerOf (recalling pos c (pos + a + p))) where
       pub refused-says : v ≡ sliceWalk T start (slices T top (drop start m))
@@ -502,10 +506,10 @@ module _ (T : List ℕ) (top : ℕ) (m : List ℕ) (start : ℕ) (out₀ : List 
       refused-gives out′ = ends-gives T start out₀ (slices T top (drop start m)) v out′ (known-refused inv e q em w h out′)
 
     -- the members behind the required ones decide
-    pub outer-answer : (n j : ℕ) → ms ≡ Read n j → (out′ : List ℕ)
+    pub outer-answer : (n j i : ℕ) → ms ≡ Read n j i → (out′ : List ℕ)
         → ((ps : List Piece) (n : ℕ) → requireds (Table.required T t) (take (pos + b - (pos + a)) (drop (pos + a) m)) ≡ ok ps n → out′ ≡ fill k (pieceRows T t (pos + a) ps) out)
         → sliceWalk T start (slices T top (drop start m)) ≡ answerOf (amid T top m (stageOf stage) pos t z (pos + a) (pos + b) s fst (pos + a + n) 0 j o opt out′)
-    outer-answer n j w out′ fills = sym (left-whole T start out₀ (slices T top (drop start m))) ∙ ap answerOf (outer-same inv e q em w fills)
+    outer-answer n j i w out′ fills = sym (left-whole T start out₀ (slices T top (drop start m))) ∙ ap answerOf (outer-same inv e q em w fills)
 
 -- a walk that stops accepts nothing
 stop-never : (T : List ℕ) (start : ℕ) (r : Res Chain) (c p : ℕ) → Stop c p ≡ sliceWalk T start r → (x : Chain) (n : ℕ) → r ≡ ok x n → (out l : List ℕ) → out ≡ l
@@ -514,10 +518,10 @@ stop-never T start (ok y i) c p h x n e out l = let z : _≡_ {A = ℕ} 0 1 = cc
 stop-never T start (bad d q) c p h x n e out l = let z : _≡_ {A = ℕ} 0 1 = cc in absurd (omega arith)
 
 -- inside a slice, where the answer is known to be that of the outcome
-module _ (T : List ℕ) (top : ℕ) (m : List ℕ) (start : ℕ) (whole : Outcome) (stage : Stage) (pos t : ℕ) (z : Bool) (from end s fst : ℕ) (at least row k o : ℕ) (more : Bool) (out : List ℕ)
-    (inv : Inner T top m whole stage pos t z from end s fst at least row k o more out) (answer : sliceWalk T start (slices T top (drop start m)) ≡ answerOf whole) where
+module _ (T : List ℕ) (top : ℕ) (m : List ℕ) (start : ℕ) (whole : Outcome) (stage : Stage) (pos t : ℕ) (z : Bool) (from end s fst stop : ℕ) (at least row k o : ℕ) (more : Bool) (out : List ℕ)
+    (inv : Inner T top m whole stage pos t z from end s fst stop at least row k o more out) (answer : sliceWalk T start (slices T top (drop start m)) ≡ answerOf whole) where
   -- an optional is refused
-  module _ (go-on : more ≡ true) (r : Turn) (e : r ≡ turnOf (optionalFrom T t row) least (take (end - at) (drop at m))) (c p : ℕ) (q : r ≡ Wrong c p) (v : Walk) (h : v ≡ answerOf (recalling pos c (at + p))) where
+  module _ (go-on : more ≡ true) (r : Turn) (e : r ≡ turnOf (optionalFrom T stop row) least (take (end - at) (drop at m))) (c p : ℕ) (q : r ≡ Wrong c p) (v : Walk) (h : v ≡ answerOf (recalling pos c (at + p))) where
     pub stopped-says : v ≡ sliceWalk T start (slices T top (drop start m))
     stopped-says = ends-answer (inner-wrong inv go-on e q h) ∙ sym answer
 

@@ -125,6 +125,6 @@ module _ (ms : List Member) (least : ℕ) (xs : List ℕ) (r : Turn) (e : r ≡ 
       go (inr W) = held-refused (optionalOf ms least) (held-optional ms least) xs (W .1)
 
 -- what stands next, where its tag is looked up behind the members that were passed
-pub passed-turn : (T : List ℕ) (t from least : ℕ) → Passed T t from least → (xs : List ℕ) → turnOf (optionalFrom T t from) least xs ≡ turnOf (Table.optional T t) least xs
+pub passed-turn : (T : List ℕ) (t end from least : ℕ) → Passed T t end from least → (xs : List ℕ) → turnOf (optionalFrom T end from) least xs ≡ turnOf (Table.optional T t) least xs
 unfolding turnOf
-passed-turn T t from least P xs = ap (λ (r : Optional). turnBy (atMark xs) least (turnAnswer r)) (passed-answer T t from least P xs)
+passed-turn T t end from least P xs = ap (λ (r : Optional). turnBy (atMark xs) least (turnAnswer r)) (passed-answer T t end from least P xs)

@@ -53,10 +53,11 @@ fn opening(table: &[u8], top: usize, stage: Stage, s: &[u8]) -> Opening
     }
 }
 
-// What stands next among the optionals of owner t, a tag looked up from member row `row` on: the end marker, 14 where none came before, or an optional.
-fn next(table: &[u8], shapes: &[u8; 256], t: usize, row: usize, least: usize, s: &[u8]) -> Turn
+// What stands next among optionals, a tag looked up among the member rows from `row` on and before `stop`: the end marker, 14 where none came before, or an optional.
+fn next(table: &[u8], shapes: &[u8; 256], stop: usize, row: usize, least: usize, s: &[u8]) -> Turn
     requires { ⌜ now shapes ≡ shapesOf (now table) ⌝ }
-    ensures { λ r. ⌜ r ≡ turnOf (optionalFrom (now (table .entry)) t row) least (now (s .entry)) ⌝ }
+    requires { ⌜ stop ≤ 131072 ⌝ }
+    ensures { λ r. ⌜ r ≡ turnOf (optionalFrom (now (table .entry)) stop row) least (now (s .entry)) ⌝ }
 {
     if wire::byte_at(s, 0) == 255 {
         if least == 0 {
@@ -64,7 +65,7 @@ fn next(table: &[u8], shapes: &[u8; 256], t: usize, row: usize, least: usize, s:
         }
         return Turn::End;
     }
-    let o = level::optionals::optional(table, shapes, t, row, least, s);
+    let o = level::optionals::optional(table, shapes, stop, row, least, s);
     match o {
         Optional::Known(m, tag, a, n) => Turn::Known(m, tag, a, n),
         Optional::Skipped(tag, n) => Turn::Skipped(tag, n),
@@ -145,14 +146,15 @@ pub fn slices(
                 let end = pos + e;
                 let members = level::required(table, shapes, t, &m[from..end], from, count, out);
                 match members {
-                    Members::Read(n, k) => {
+                    Members::Read(n, k, begin) => {
+                        let stop = table::chain::member_end(table, t);
                         count = k;
                         let mut at = from + n;
                         let mut least = 0;
-                        let mut row = table::type_row(table, t).a;
+                        let mut row = begin;
                         let mut more = has;
                         while more {
-                            let x = next(table, shapes, t, row, least, &m[at..end]);
+                            let x = next(table, shapes, stop, row, least, &m[at..end]);
                             match x {
                                 Turn::End => {
                                     at += 1;
@@ -228,14 +230,15 @@ pub fn list(
 {
     let members = level::required(table, shapes, top, &m[start..], start, 0, out);
     match members {
-        Members::Read(n, k) => {
+        Members::Read(n, k, begin) => {
+            let stop = table::chain::member_end(table, top);
             let mut at = start + n;
             let mut count = k;
             let mut optionals = 0;
             let mut least = 0;
-            let mut row = table::type_row(table, top).a;
+            let mut row = begin;
             while at < m.len() {
-                let o = level::optionals::optional(table, shapes, top, row, least, &m[at..]);
+                let o = level::optionals::optional(table, shapes, stop, row, least, &m[at..]);
                 match o {
                     Optional::Known(member, tag, b, l) => {
                         level::put_row(out, count, member, at + b, l - b);

@@ -2,12 +2,11 @@
 --
 --   base-is ..        the base of a row
 --   top-.., owner-..  the loop up a chain that looks for a row, or for the owner of a member
---   takes-.., above-..   whether a row takes a member, and whether a member's tag is above one
---   later-..          the greater of two rows
+--   takes-.., end-is  whether a row takes a member, and where its members end
 --   Optionals, optionals-..   the loop over a row's members that looks for a tag
 --   Passing, passing-..       the loop over the rows before a member that looks for a tag above its own
 use Prim.Native.Nat.{ℕ, zero, suc, _+_, _-_, _≤_, _<_}
-use mathlib.Core.Path.{_≡_, refl, sym, ap, _∙_}
+use mathlib.Core.Path.{_≡_, refl, sym, ap, ap₂, _∙_}
 use mathlib.Core.Bool.{Bool, true, false}
 use mathlib.Core.List.{List, _∷_}
 use native.Mathlib.Numerals.{add-one, sub-one}
@@ -19,7 +18,7 @@ use Rattle.encoding.specs.Table.{kind, field, isRecord, memberType, mark, tag, 
 use Rattle.encoding.specs.TableLaws.{chain-row}
 use Rattle.table.specs.Found.{memberFound}
 use Rattle.table.specs.Rows.{IsMemberRow}
-use Rattle.table.specs.Tags.{later, ownFrom, optionalFrom, isAbove, firstAbove, behind}
+use Rattle.table.specs.Tags.{optionalFrom, isAbove, firstAbove, behind}
 use Rattle.table.specs.declared.MemberRow.{MemberRow}
 use Rattle.table.specs.declared.FoundMember.{FoundMember}
 use Rattle.table.specs.declared.FoundMember.the-variants.{At, Nothing}
@@ -97,35 +96,21 @@ module _ (T : List ℕ) (t m a : ℕ) (ea : a ≡ field T t 0) where
   unfolding takes
   takes-is b eb h = let l : field T t 0 ≤ m = omega arith in rw (le-leb _ _ l, ea, eb)
 
-module _ (T : List ℕ) (m k : ℕ) (ek : k ≡ mark T m) where
-  pub above-none : (key : ℕ) → k ≡ 0 → false ≡ isAbove T key m
-  above-none key z = rw (eq-eqb (mark T m) 0 (sym ek ∙ z))
-
-  pub above-is : (key g : ℕ) → (k ≡ 0 → ⊥) → g ≡ tag T m → ltb key g ≡ isAbove T key m
-  above-is key g z e = rw (ne-eqb (mark T m) 0 (λ q. z (ek ∙ q)), e)
+pub end-is : (T : List ℕ) (t a b : ℕ) → a ≡ field T t 0 → b ≡ field T t 1 → a + b ≡ field T t 0 + field T t 1
+end-is T t a b ea eb = ap₂ _+_ ea eb
 
 -- ---- members from a row on
 
-module _ (a b : ℕ) where
-  pub later-other : a < b → b ≡ later a b
-  unfolding later
-  later-other h = rw (lt-ltb a b h)
-
-  pub later-same : b ≤ a → a ≡ later a b
-  unfolding later
-  later-same h = rw (le-ltb a b h)
-
 -- the rows left to look at decide
-abbrev pub Optionals : List ℕ → ℕ → ℕ → ℕ → ℕ → ℕ → Type 0
-Optionals T t from key end m = memberFound T (lookup key (optionalFrom T t from)) ≡ memberFound T (lookup key (optionalOf T (trees T) (range m (end - m))))
+abbrev pub Optionals : List ℕ → ℕ → ℕ → ℕ → ℕ → Type 0
+Optionals T end from key m = memberFound T (lookup key (optionalFrom T end from)) ≡ memberFound T (lookup key (optionalOf T (trees T) (range m (end - m))))
 
-module _ (T : List ℕ) (t from key a b m : ℕ) (ea : a ≡ field T t 0) (eb : b ≡ field T t 1) (em : m ≡ later from a) where
-  pub optionals-begin : Optionals T t from key (a + b) m
-  unfolding optionalFrom ownFrom
-  optionals-begin = rw (em, ea, eb)
+pub optionals-begin : (T : List ℕ) (end from key : ℕ) → Optionals T end from key from
+unfolding optionalFrom
+optionals-begin T end from key = refl
 
-module _ (T : List ℕ) (t from key end m : ℕ) (inv : Optionals T t from key end m) where
-  pub optionals-end : end ≤ m → Nothing ≡ memberFound T (lookup key (optionalFrom T t from))
+module _ (T : List ℕ) (end from key m : ℕ) (inv : Optionals T end from key m) where
+  pub optionals-end : end ≤ m → Nothing ≡ memberFound T (lookup key (optionalFrom T end from))
   unfolding optionalOf lookup memberFound
   optionals-end h = sym (inv ∙ rw (range-none m end h))
 
@@ -133,7 +118,7 @@ module _ (T : List ℕ) (t from key end m : ℕ) (inv : Optionals T t from key e
     rest : FoundMember
     rest = memberFound T (lookup key (optionalOf T (trees T) (range (m + 1) (end - (m + 1)))))
 
-    optionals-more : memberFound T (lookup key (optionalFrom T t from)) ≡ pick (eqb (r .mark) 0) rest (pick (eqb key (r .tag)) (At m (r .of)) rest)
+    optionals-more : memberFound T (lookup key (optionalFrom T end from)) ≡ pick (eqb (r .mark) 0) rest (pick (eqb key (r .tag)) (At m (r .of)) rest)
     unfolding optionalOf lookup memberFound rest
     optionals-more = inv ∙ rw (range-more m end h, is .mark-is, is .tag-is, is .of-is) (go (eqb (mark T m) 0) (eqb key (tag T m)) refl)
       where
@@ -146,15 +131,15 @@ module _ (T : List ℕ) (t from key end m : ℕ) (inv : Optionals T t from key e
         go false true e = rw e
         go false false e = rw e
 
-    pub optionals-required : r .mark ≡ 0 → Optionals T t from key end (m + 1)
+    pub optionals-required : r .mark ≡ 0 → Optionals T end from key (m + 1)
     unfolding rest
     optionals-required z = optionals-more ∙ rw (eq-eqb (r .mark) 0 z)
 
     module _ (o : r .mark ≡ 0 → ⊥) where
-      pub optionals-here : key ≡ r .tag → At m (r .of) ≡ memberFound T (lookup key (optionalFrom T t from))
+      pub optionals-here : key ≡ r .tag → At m (r .of) ≡ memberFound T (lookup key (optionalFrom T end from))
       optionals-here e = sym (optionals-more ∙ rw (ne-eqb (r .mark) 0 o, eq-eqb key (r .tag) e))
 
-      pub optionals-other : (key ≡ r .tag → ⊥) → Optionals T t from key end (m + 1)
+      pub optionals-other : (key ≡ r .tag → ⊥) → Optionals T end from key (m + 1)
       unfolding rest
       optionals-other e = optionals-more ∙ rw (ne-eqb (r .mark) 0 o, ne-eqb key (r .tag) e)
 
@@ -173,11 +158,19 @@ module _ (T : List ℕ) (from m key i : ℕ) (inv : Passing T from m key i) wher
   unfolding firstAbove
   passing-more h = let e : m - i ≡ suc (m - (i + 1)) = omega arith in rw (e, add-one i)
 
-  pub passing-here : (r : Bool) → i < m → r ≡ isAbove T key i → r ≡ true → i ≡ behind T from m key
-  passing-here r h e q = sym (inv ∙ passing-more h ∙ rw (sym e ∙ q))
+  module _ (h : i < m) (r : MemberRow) (is : IsMemberRow T i r) where
+    pub passing-required : r .mark ≡ 0 → Passing T from m key (i + 1)
+    passing-required z = inv ∙ passing-more h ∙ rw (eq-eqb (mark T i) 0 (sym (is .mark-is) ∙ z))
 
-  pub passing-next : (r : Bool) → i < m → r ≡ isAbove T key i → r ≡ false → Passing T from m key (i + 1)
-  passing-next r h e q = inv ∙ passing-more h ∙ rw (sym e ∙ q)
+    module _ (o : r .mark ≡ 0 → ⊥) where
+      passing-by : (b : Bool) → ltb key (r .tag) ≡ b → isAbove T key i ≡ b
+      passing-by b q = rw (ne-eqb (mark T i) 0 (λ z. o (is .mark-is ∙ z)), ← is .tag-is) q
+
+      pub passing-here : key < r .tag → i ≡ behind T from m key
+      passing-here l = sym (inv ∙ passing-more h ∙ rw (passing-by true (lt-ltb key (r .tag) l)))
+
+      pub passing-next : r .tag ≤ key → Passing T from m key (i + 1)
+      passing-next l = inv ∙ passing-more h ∙ rw (passing-by false (le-ltb key (r .tag) l))
 
   pub passing-end : m ≤ i → m + 1 ≡ behind T from m key
   unfolding firstAbove

@@ -5,7 +5,7 @@
 --   Shows                                           the first bytes of a part are those of the table from a place on
 --   rest-shows, row-shows                           the part from a place to the end; a type row's own bytes
 --   place-first, place-next                         a number of the 8 bytes at a place, the first or a later one
---   kind-direct, kind-byte                          a kind read at its place
+--   kind-direct, kind-byte, field-direct            a kind, a field read at its place
 --   kind-is .. tag-is                               a field of a row, read from a part that shows the row
 --   field-past                                      a field past the table's end
 --   members-begin-at                                where the member rows begin
@@ -85,6 +85,10 @@ kind-direct T t r h = h
 pub kind-byte : (T : List ℕ) (t r : ℕ) → r ≡ getD T (12 + 12 * t) 0 → r ≡ kind T t
 unfolding kind rowAt typesAt
 kind-byte T t r h = h ∙ sym (at-byte T (12 + 12 * t))
+
+pub field-direct : (T : List ℕ) (t i p r : ℕ) → p ≡ 14 + 2 * i + 12 * t → r ≡ at T 2 p → r ≡ field T t i
+unfolding field rowAt typesAt
+field-direct T t i p r e h = h ∙ ap (at T 2) (omega arith)
 
 module _ (T s : List ℕ) (t r : ℕ) where
   pub kind-is : Shows T s (rowAt T t) 1 → r ≡ at s 1 0 → r ≡ kind T t

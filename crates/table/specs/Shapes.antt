@@ -12,7 +12,9 @@
 --   Shaped l t           the array l has the shapes of the rows below t
 --   formCode, widthCode  the number of the form, and the width, that a shape stands for
 --   shapeIn l t          the shape that the array l has for row t; that of a broken type past its end
---   formIn, widthIn, isTextIn   its form's number, its width, whether it is a string's
+--   formIn, widthIn      its form's number, its width
+--   widthBelow l t i     the width of row i as row t may refer to it: 0 where i is not below
+--   isTextIn, isBoolIn, isEnumIn   whether it is a string's, a bool's, an enum's
 --   partTy t i           the tree of row i as row t may refer to it: broken where i is not below
 use Prim.Native.Nat.{ℕ, _+_, _-_, _/_, _<_}
 use mathlib.Core.Path.{_≡_}
@@ -101,5 +103,14 @@ formIn l t = formCode (shapeIn l t)
 abbrev pub widthIn : List ℕ → ℕ → ℕ
 widthIn l t = widthCode (shapeIn l t)
 
+abbrev pub widthBelow : List ℕ → ℕ → ℕ → ℕ
+widthBelow l t i = pick (leb t i) 0 (widthIn l i)
+
 abbrev pub isTextIn : List ℕ → ℕ → Bool
 isTextIn l t = eqb (shapeIn l t) 8
+
+abbrev pub isBoolIn : List ℕ → ℕ → Bool
+isBoolIn l t = eqb (shapeIn l t) 0
+
+abbrev pub isEnumIn : List ℕ → ℕ → Bool
+isEnumIn l t = eqb (shapeIn l t) 4

@@ -2,14 +2,15 @@
 --
 --   width-fixed     a type with a width is fixed-size
 --   width-takes     so many bytes of any content are one value
---   shape-form      a shape's form is that of the type; shape-width its width; shape-text only a string has shape 8
+--   shape-form      a shape's form is that of the type; shape-width its width
+--   shape-text, shape-bool, shape-enum   only a string has shape 8, only a bool 0, of all rows only an enum 4
 --   rows-below      at most 256 rows have a tree
 --   range-at        an element of a list made over a range
---   form-row, width-row, text-row   the same of row t, from the array of all shapes
-use Prim.Native.Nat.{ℕ, zero, suc, _+_, _-_, _≤_, _<_}
+--   form-row, width-row, text-row, bool-row, enum-row   the same of row t, from the array of all shapes
+use Prim.Native.Nat.{ℕ, zero, suc, _+_, _-_, _*_, _≤_, _<_}
 use mathlib.Core.Path.{_≡_, refl, sym, ap, _∙_}
 use mathlib.Core.Bool.{Bool, true, false, _&&_, false≢true}
-use mathlib.Core.List.{List, map}
+use mathlib.Core.List.{List, [], _∷_, map}
 use native.Mathlib.Nat.{add-zero}
 use native.Mathlib.Omega.{arith}
 use lib.ListN.{length, drop, getD, length-drop}
@@ -17,11 +18,11 @@ use lib.Dec.{eqb, leb, ltb}
 use borrow.Author.Tests.{ne-eqb, leb-true, eqb-true, eqb-false, ltb-true, ltb-false, le-ltb}
 use Rattle.encoding.specs.Result.{ok, pick, skip, pure}
 use Rattle.encoding.specs.ResultLaws.{bind-step, chunk-step}
-use Rattle.encoding.specs.Types.{short, int, long, float, double, Ty, Tys, nil, cons, broken, bool, byte, string, proxy, num, enum, struct, seq, dict, fixed, fixeds, single, Form, counted, sized, formOf}
+use Rattle.encoding.specs.Types.{upto, short, int, long, float, double, Ty, Tys, nil, cons, broken, bool, byte, string, proxy, num, enum, struct, seq, dict, fixed, fixeds, single, Form, counted, sized, formOf}
 use Rattle.encoding.specs.Value.{value, values}
-use Rattle.encoding.specs.Table.{types, range, typeRows, tyOf}
-use Rattle.encoding.specs.TableLaws.{ty-past}
-use Rattle.table.specs.Shapes.{formNumber, narrow, widthOf, widthsFrom, shapeOf, shapeAt, shapesOf, formCode, widthCode, shapeIn, formIn, widthIn, isTextIn}
+use Rattle.encoding.specs.Table.{types, kind, field, range, memberTys, ownRows, rowTy, tys, typeRows, tyOf}
+use Rattle.encoding.specs.TableLaws.{ty-row, ty-past}
+use Rattle.table.specs.Shapes.{formNumber, narrow, widthOf, widthsFrom, shapeOf, shapeAt, shapesOf, formCode, widthCode, shapeIn, formIn, widthIn, isTextIn, isBoolIn, isEnumIn}
 
 -- ---- a width
 
@@ -164,6 +165,33 @@ shape-width (dict k v) = go (fixed k && fixed v)
     go true = refl
     go false = refl
 
+-- a type with parts has the shape 7 or one above 8
+struct-shape : (ts : Tys) → 9 ≤ shapeOf (struct ts)
+unfolding shapeOf
+struct-shape ts = go (widthOf (struct ts)) (eqb (widthOf (struct ts)) 0) (fixeds ts)
+  where
+    go : (w : ℕ) (a b : Bool) → 9 ≤ pick a (pick b 9 10) (18 + w)
+    go w true true = omega arith
+    go w true false = omega arith
+    go w false b = omega arith
+
+seq-shape : (t : Ty) → (7 ≤ shapeOf (seq t)) × (shapeOf (seq t) ≡ 8 → ⊥)
+unfolding shapeOf
+seq-shape t = go (single t) (fixed t)
+  where
+    go : (a b : Bool) → (7 ≤ pick a 7 (pick b 9 10)) × (_≡_ {A = ℕ} (pick a 7 (pick b 9 10)) 8 → ⊥)
+    go true b = (omega arith, λ e. omega arith)
+    go false true = (omega arith, λ e. omega arith)
+    go false false = (omega arith, λ e. omega arith)
+
+dict-shape : (k v : Ty) → 9 ≤ shapeOf (dict k v)
+unfolding shapeOf
+dict-shape k v = go (fixed k && fixed v)
+  where
+    go : (b : Bool) → 9 ≤ pick b 9 10
+    go true = omega arith
+    go false = omega arith
+
 pub shape-text : (t : Ty) → shapeOf t ≡ 8 → t ≡ string
 unfolding shapeOf
 shape-text broken h = absurd (omega arith)
@@ -173,23 +201,60 @@ shape-text string h = refl
 shape-text proxy h = absurd (omega arith)
 shape-text (num w) h = absurd (omega arith)
 shape-text (enum g) h = absurd (omega arith)
-shape-text (struct ts) h = absurd (go (widthOf (struct ts)) (eqb (widthOf (struct ts)) 0) (fixeds ts) h)
+shape-text (struct ts) h = absurd (omega (arith, struct-shape ts))
+shape-text (seq t) h = absurd (seq-shape t .1 h)
+shape-text (dict k v) h = absurd (omega (arith, dict-shape k v))
+
+pub shape-bool : (t : Ty) → shapeOf t ≡ 0 → t ≡ bool
+unfolding shapeOf
+shape-bool broken h = absurd (omega arith)
+shape-bool bool h = refl
+shape-bool byte h = absurd (omega arith)
+shape-bool string h = absurd (omega arith)
+shape-bool proxy h = absurd (omega arith)
+shape-bool (num w) h = absurd (omega arith)
+shape-bool (enum g) h = absurd (omega arith)
+shape-bool (struct ts) h = absurd (omega (arith, struct-shape ts))
+shape-bool (seq t) h = absurd (omega (arith, seq-shape t .0))
+shape-bool (dict k v) h = absurd (omega (arith, dict-shape k v))
+
+-- a row of kind 0 to 7 is no enum
+plain-shape : (k : ℕ) → shapeOf (getD (bool ∷ byte ∷ num short ∷ num int ∷ num long ∷ num float ∷ num double ∷ string ∷ []) k broken) ≡ 4 → ⊥
+unfolding shapeOf
+plain-shape zero h = omega arith
+plain-shape (suc zero) h = omega arith
+plain-shape (suc (suc zero)) h = omega arith
+plain-shape (suc (suc (suc zero))) h = omega arith
+plain-shape (suc (suc (suc (suc zero)))) h = omega arith
+plain-shape (suc (suc (suc (suc (suc zero))))) h = omega arith
+plain-shape (suc (suc (suc (suc (suc (suc zero)))))) h = omega arith
+plain-shape (suc (suc (suc (suc (suc (suc (suc zero))))))) h = omega arith
+plain-shape (suc (suc (suc (suc (suc (suc (suc (suc k)))))))) h = omega arith
+
+pub shape-enum : (T : List ℕ) (l : List Ty) (t : ℕ) → shapeOf (rowTy T l t) ≡ 4 → rowTy T l t ≡ enum (upto (field T t 0 + 65536 * field T t 1))
+unfolding shapeOf rowTy
+shape-enum T l t = go (eqb (kind T t) 8) (eqb (kind T t) 9) (eqb (kind T t) 10) (eqb (kind T t) 11) (eqb (kind T t) 12)
   where
-    go : (w : ℕ) (a b : Bool) → pick a (pick b 9 10) (18 + w) ≡ 8 → ⊥
-    go w true true h = omega arith
-    go w true false h = omega arith
-    go w false b h = omega arith
-shape-text (seq t) h = absurd (go (single t) (fixed t) h)
-  where
-    go : (a b : Bool) → _≡_ {A = ℕ} (pick a 7 (pick b 9 10)) 8 → ⊥
-    go true b h = omega arith
-    go false true h = omega arith
-    go false false h = omega arith
-shape-text (dict k v) h = absurd (go (fixed k && fixed v) h)
-  where
-    go : (b : Bool) → _≡_ {A = ℕ} (pick b 9 10) 8 → ⊥
-    go true h = omega arith
-    go false h = omega arith
+    plain : Ty
+    plain = getD (bool ∷ byte ∷ num short ∷ num int ∷ num long ∷ num float ∷ num double ∷ string ∷ []) (kind T t) broken
+
+    a : Ty
+    a = getD l (field T t 0) broken
+
+    b : Ty
+    b = getD l (field T t 1) broken
+
+    rest : Bool → Bool → Bool → Bool → Ty
+    rest s q d p = pick s (struct (memberTys T l (ownRows T t))) (pick q (seq a) (pick d (dict a b) (pick p proxy plain)))
+
+    go : (e s q d p : Bool) → shapeOf (pick e (enum (upto (field T t 0 + 65536 * field T t 1))) (rest s q d p)) ≡ 4
+        → pick e (enum (upto (field T t 0 + 65536 * field T t 1))) (rest s q d p) ≡ enum (upto (field T t 0 + 65536 * field T t 1))
+    go true s q d p h = refl
+    go false true q d p h = absurd (omega (arith, struct-shape (memberTys T l (ownRows T t))))
+    go false false true d p h = absurd (omega (arith, seq-shape a .0))
+    go false false false true p h = absurd (omega (arith, dict-shape a b))
+    go false false false false true h = absurd (omega arith)
+    go false false false false false h = absurd (plain-shape (kind T t) h)
 
 -- ---- the array
 
@@ -223,5 +288,20 @@ module _ (T : List ℕ) (t : ℕ) where
     pub width-row : widthIn shapes t ≡ widthOf (tyOf T t)
     width-row = rw (e, shape-row) (shape-width (tyOf T t))
 
+    -- the shape that was found is the type's
+    shape-found : (x : ℕ) → eqb (shapeIn shapes t) x ≡ true → shapeOf (tyOf T t) ≡ x
+    shape-found x h = sym shape-row ∙ ap (λ (l : List ℕ). shapeIn l t) (sym e) ∙ eqb-true _ _ h
+
     pub text-row : isTextIn shapes t ≡ true → tyOf T t ≡ string
-    text-row h = shape-text (tyOf T t) (sym shape-row ∙ ap (λ (l : List ℕ). shapeIn l t) (sym e) ∙ eqb-true _ _ h)
+    text-row h = shape-text (tyOf T t) (shape-found 8 h)
+
+    pub bool-row : isBoolIn shapes t ≡ true → tyOf T t ≡ bool
+    bool-row h = shape-bool (tyOf T t) (shape-found 0 h)
+
+    pub enum-row : isEnumIn shapes t ≡ true → tyOf T t ≡ enum (upto (field T t 0 + 65536 * field T t 1))
+    unfolding shapeOf
+    enum-row h = go (ltb t (typeRows T)) refl
+      where
+        go : (b : Bool) → ltb t (typeRows T) ≡ b → tyOf T t ≡ enum (upto (field T t 0 + 65536 * field T t 1))
+        go true q = let r = ty-row T t (ltb-true _ _ q) in r ∙ shape-enum T (tys T t) t (sym (ap shapeOf r) ∙ shape-found 4 h)
+        go false q = absurd (let z = sym (shape-found 4 h) ∙ ap shapeOf (ty-past T t (ltb-false _ _ q)) in omega arith)

@@ -1,11 +1,12 @@
 // A record's bases and the members of a row.
 use crate::FoundMember;
 ghost use mathlib.Core.Path.{_≡_};
-ghost use Prim.Native.Nat.{_≤_, _<_};
+ghost use Prim.Native.Nat.{_+_, _*_, _≤_, _<_};
+ghost use lib.ListN.{length};
 ghost use lib.Dec.{eqb};
-ghost use Rattle.encoding.specs.Table.{any, takes, lookup, base, chain};
+ghost use Rattle.encoding.specs.Table.{any, field, membersAt, takes, lookup, base, chain};
 ghost use Rattle.table.specs.Found.{memberFound};
-ghost use Rattle.table.specs.Tags.{later, optionalFrom, isAbove, behind};
+ghost use Rattle.table.specs.Tags.{optionalFrom, behind};
 
 // The base row + 1, or 0; a base that is not smaller is none.
 pub fn base(table: &[u8], t: usize) -> usize
@@ -65,24 +66,43 @@ pub fn of_chain(table: &[u8], t: usize, m: usize) -> bool
     }
 }
 
-// The greater of two row numbers.
-fn later(a: usize, b: usize) -> usize
-    ensures { λ r. ⌜ r ≡ later a b ⌝ }
-{
-    if a < b {
-        return b;
-    }
-    a
-}
-
-// The optional member of row t that has a tag, looked up from a row on, and the row of its type.
-pub fn tag_member(table: &[u8], t: usize, from: usize, tag: usize) -> FoundMember
-    ensures { λ r. ⌜ r ≡ memberFound (now (table .entry)) (lookup tag (optionalFrom (now (table .entry)) t from)) ⌝ }
+// The row behind the member rows that row t names.
+pub fn member_end(table: &[u8], t: usize) -> usize
+    ensures { λ r. ⌜ (r ≡ field (now (table .entry)) t 0 + field (now (table .entry)) t 1) × (r ≤ 131072) ⌝ }
 {
     let row = crate::type_row(table, t);
-    let end = row.a + row.b;
-    let mut m = later(from, row.a);
+    row.a + row.b
+}
+
+// The optional member that has a tag, looked up among the member rows from a row on and before `end`, and the row of its type; these rows lie inside the table, whose member rows begin at `first`.
+fn tag_member_in(table: &[u8], first: usize, end: usize, from: usize, tag: usize) -> FoundMember
+    requires { ⌜ first ≡ membersAt (now table) ⌝ }
+    requires { ⌜ first + 8 * end ≤ length (now table) ⌝ }
+    ensures { λ r. ⌜ r ≡ memberFound (now (table .entry)) (lookup tag (optionalFrom (now (table .entry)) end from)) ⌝ }
+{
+    let mut m = from;
+    while m < end {
+        let member = crate::member_row_in(table, first + 8 * m);
+        if member.mark != 0 {
+            if tag == member.tag {
+                return FoundMember::At(m, member.of);
+            }
+        }
+        m += 1;
+    }
+    FoundMember::Nothing
+}
+
+// The same of any table: rows outside have no bytes but 0.
+pub fn tag_member(table: &[u8], end: usize, from: usize, tag: usize) -> FoundMember
+    requires { ⌜ end ≤ 131072 ⌝ }
+    ensures { λ r. ⌜ r ≡ memberFound (now (table .entry)) (lookup tag (optionalFrom (now (table .entry)) end from)) ⌝ }
+{
     let first = crate::member_start(table);
+    if first + 8 * end <= table.len() {
+        return tag_member_in(table, first, end, from, tag);
+    }
+    let mut m = from;
     while m < end {
         let member = crate::member_row_from(table, first, m);
         if member.mark != 0 {
@@ -95,26 +115,19 @@ pub fn tag_member(table: &[u8], t: usize, from: usize, tag: usize) -> FoundMembe
     FoundMember::Nothing
 }
 
-// Member row m is optional and its tag is above a tag.
-fn is_above(table: &[u8], m: usize, tag: usize) -> bool
-    ensures { λ r. ⌜ r ≡ isAbove (now (table .entry)) tag m ⌝ }
-{
-    let row = crate::member_row(table, m);
-    if row.mark == 0 {
-        return false;
-    }
-    tag < row.tag
-}
-
 // Where the look-up of a greater tag begins, behind member row m that was found for a tag from a row on: at the first row passed that is optional and has a tag above it; else behind m.
 pub fn behind(table: &[u8], from: usize, m: usize, tag: usize) -> usize
     requires { ⌜ m < 131072 ⌝ }
     ensures { λ r. ⌜ r ≡ behind (now (table .entry)) from m tag ⌝ }
 {
+    let first = crate::member_start(table);
     let mut i = from;
     while i < m {
-        if is_above(table, i, tag) {
-            return i;
+        let row = crate::member_row_from(table, first, i);
+        if row.mark != 0 {
+            if tag < row.tag {
+                return i;
+            }
         }
         i += 1;
     }

@@ -143,6 +143,26 @@ pub fn field(table: &[u8], t: usize, i: usize) -> usize
     wire::short_at(&table[a..], 2 + 2 * i)
 }
 
+// A type row's field a, looked up at once where the row number is below 65,536.
+pub fn field_a(table: &[u8], t: usize) -> usize
+    ensures { λ r. ⌜ (r ≡ field (now (table .entry)) t 0) × (r < 65536) ⌝ }
+{
+    if t < 65536 {
+        return wire::short_at(table, 14 + 12 * t);
+    }
+    field(table, t, 0)
+}
+
+// A type row's field b, looked up in the same way.
+pub fn field_b(table: &[u8], t: usize) -> usize
+    ensures { λ r. ⌜ (r ≡ field (now (table .entry)) t 1) × (r < 65536) ⌝ }
+{
+    if t < 65536 {
+        return wire::short_at(table, 16 + 12 * t);
+    }
+    field(table, t, 1)
+}
+
 // A member row's type.
 pub fn member_type(table: &[u8], m: usize) -> usize
     ensures { λ r. ⌜ (r ≡ memberType (now (table .entry)) m) × (r < 65536) ⌝ }

@@ -2,11 +2,10 @@
 // A shape is a number that says the form of an optional of the row's type and, where any so many bytes are a value of it, how many.
 ghost use mathlib.Core.Path.{_≡_};
 ghost use Prim.Native.Nat.{_≤_, _<_};
-ghost use lib.Dec.{leb};
 ghost use Rattle.encoding.specs.Result.{pick};
 ghost use Rattle.encoding.specs.Types.{fixed, fixeds, struct, seq, dict};
 ghost use Rattle.encoding.specs.Table.{field, memberTys, ownRows, tys, typeRows};
-ghost use Rattle.table.specs.Shapes.{widthOf, plainShape, shapeOf, shapeAt, shapesOf, Shaped, partTy, formCode, widthCode, shapeIn, formIn, widthIn, isTextIn};
+ghost use Rattle.table.specs.Shapes.{widthOf, plainShape, shapeOf, shapeAt, shapesOf, Shaped, partTy, formCode, widthCode, shapeIn, formIn, widthIn, widthBelow, isTextIn, isBoolIn, isEnumIn};
 
 // The number of the form that a shape stands for.
 fn form_code(x: usize) -> usize
@@ -62,6 +61,20 @@ pub fn is_text(shapes: &[u8; 256], t: usize) -> bool
     shape(shapes, t) == 8
 }
 
+// Row t is a bool.
+pub fn is_bool(shapes: &[u8; 256], t: usize) -> bool
+    ensures { λ r. ⌜ r ≡ isBoolIn (now (shapes .entry)) t ⌝ }
+{
+    shape(shapes, t) == 0
+}
+
+// Row t is an enum.
+pub fn is_enum(shapes: &[u8; 256], t: usize) -> bool
+    ensures { λ r. ⌜ r ≡ isEnumIn (now (shapes .entry)) t ⌝ }
+{
+    shape(shapes, t) == 4
+}
+
 // Row i lies below t and is fixed-size.
 fn is_fixed(table: &[u8], shapes: &[u8; 256], t: usize, i: usize) -> bool
     requires { ⌜ t ≤ typeRows (now table) ⌝ }
@@ -107,13 +120,13 @@ fn are_fixed(table: &[u8], shapes: &[u8; 256], t: usize) -> bool
 }
 
 // The width of row i, if it lies below t; else 0.
-fn part_width(shapes: &[u8; 256], t: usize, i: usize) -> usize
-    ensures { λ r. ⌜ (r ≡ pick (leb t i) 0 (widthIn (now (shapes .entry)) i)) × (r < 256) ⌝ }
+pub fn width_below(shapes: &[u8; 256], t: usize, i: usize) -> usize
+    ensures { λ r. ⌜ (r ≡ widthBelow (now (shapes .entry)) t i) × (r < 256) ⌝ }
 {
-    if t <= i {
-        return 0;
+    if i < t {
+        return width(shapes, i);
     }
-    width(shapes, i)
+    0
 }
 
 // How many bytes a value of struct row t has, where any so many bytes are one and they are at most 237; else 0.
@@ -131,7 +144,7 @@ fn struct_width(table: &[u8], shapes: &[u8; 256], t: usize) -> usize
         if count <= m {
             return 0;
         }
-        let w = part_width(shapes, t, crate::member_row(table, m).of);
+        let w = width_below(shapes, t, crate::member_row(table, m).of);
         if w == 0 {
             return 0;
         }

@@ -2,28 +2,29 @@
 --
 --   row-not, as-bool .. as-other                             a value by its row's kind
 --   row-wide, exact-wide, part-wide                          a value by its row's width
---   row-text, text-value, text-values                        a string, by its row's shape
+--   text-there, -not                                         what the shapes tell of a part, by whether it lies below
+--   row-text, text-value, text-values                        a string, by its row's shape; row-bool, row-enum a bool, an enum
 --   again-took, again-bad                                    an answer that is taken apart and put together again
 --   struct-begin, member-gone, -read, -next, -fault, -done   the loop over members
---   seq-none, -took, -bad                                    a sequence: its size, then its elements
+--   seq-none, -wide, -took, -bad                             a sequence: its size, then its elements
 --   dict-none, -took, -bad                                   a dictionary: its size, then its entries
 --   element-begin, -next, -fault, -done                      the loop over elements
 --   entry-begin, -next, -fault, -done                        the loop over entries
---   key-end, pair-none, -took, -bad                          an entry: its key, then its value
+--   key-end, pair-none, -wide, -took, -bad                   an entry: its key, then its value
 --   value-took-fits .. entries-bad-fits                      what they take, and where they refuse, does not wrap behind the bytes before
 --   value-row                                                a row of the table
 --   exact-took, -bad                                         exactly one value
 use mathlib.Core.Path.{_≡_, refl, sym, ap, _∙_}
-use mathlib.Core.Bool.{Bool, true, false}
+use mathlib.Core.Bool.{Bool, true, false, false≢true}
 use mathlib.Core.List.{List}
-use Prim.Native.Nat.{ℕ, suc, _+_, _-_, _*_, _≤_, _<_, zero-le}
+use Prim.Native.Nat.{ℕ, zero, suc, _+_, _-_, _*_, _≤_, _<_, zero-le}
 use native.Mathlib.Omega.{arith}
-use native.Mathlib.Nat.{add-zero}
-use lib.ListN.{length, take, drop}
-use lib.Dec.{eqb, ltb}
-use borrow.Author.Tests.{ltb-true, ltb-false}
-use Rattle.encoding.specs.Result.{Res, ok, bad, _>>=_, fail, skip, times}
-use Rattle.encoding.specs.ResultLaws.{Held, held-bind, held-times}
+use native.Mathlib.Nat.{add-zero, zero-mul, suc-mul}
+use lib.ListN.{length, take, drop, length-drop}
+use lib.Dec.{eqb, leb, ltb}
+use borrow.Author.Tests.{le-leb, lt-leb, leb-false, ltb-true, ltb-false}
+use Rattle.encoding.specs.Result.{Res, ok, bad, Parser, pick, _>>=_, pure, fail, skip, times}
+use Rattle.encoding.specs.ResultLaws.{bind-step, Held, held-bind, held-times}
 use Rattle.encoding.specs.Number.{size}
 use Rattle.encoding.specs.Number
 use Rattle.encoding.specs.Proxy
@@ -32,16 +33,15 @@ use Rattle.encoding.specs.Table.{kind, field, members, memberType, range, membe
 use Rattle.encoding.specs.TableLaws.{tys-at, ty-row, ty-past, below-none, row-broken, member-in, member-past, members-more, members-none}
 use Rattle.encoding.specs.Value.{value, values, whole, exact}
 use Rattle.encoding.specs.ValueLaws.{held-value}
-use Rattle.table.specs.Shapes.{widthOf, shapesOf, widthIn, isTextIn}
-use Rattle.table.specs.ShapesLaws.{width-takes, width-row, text-row}
+use Rattle.table.specs.Shapes.{widthOf, shapesOf, widthIn, widthBelow, isTextIn, isBoolIn, isEnumIn}
+use Rattle.table.specs.ShapesLaws.{width-takes, width-row, text-row, bool-row, enum-row}
 use Rattle.wire.specs.declared.Step.{Step}
 use Rattle.wire.specs.declared.Step.the-variants.{Took, Fault}
 use Rattle.wire.specs.declared.Sized.{Sized}
 use Rattle.wire.specs.declared.Sized.the-variants.{Is, Isnt}
 use Rattle.wire.specs.Steps.{stepOf, sizedOf}
-use Rattle.wire.specs.StepLaws.{step-fault, took-held, then-none, then-took, then-bad, with-none, with-took, with-bad, Left, left-begin, left-next, left-fault, left-done, turns-begin, turns-next, turns-fault, turns-done}
-use Rattle.value.specs.Parts.{partTy, entry}
-use Rattle.value.proofs.PlainLaws.{text-step}
+use Rattle.wire.specs.StepLaws.{rest-is, step-fault, took-held, then-none, then-took, then-bad, with-none, with-took, with-bad, Left, left-begin, left-next, left-fault, left-done, turns-begin, turns-next, turns-fault, turns-done}
+use Rattle.value.specs.Parts.{partTy, isTextBelow, entry}
 use Rattle.value.proofs.Room.{TookFits, took-fits, BadFits, bad-fits}
 
 -- ---- a value by its row's kind
@@ -122,6 +122,16 @@ module _ (T : List ℕ) (t e : ℕ) (s : List ℕ) where
 
 -- ---- a value by its row's shape
 
+-- what the shapes tell of a part, by whether it lies below
+module _ (shapes : List ℕ) (t e : ℕ) where
+  pub text-there : e < t → (r : Bool) → r ≡ isTextIn shapes e → r ≡ isTextBelow shapes t e
+  unfolding isTextBelow
+  text-there h r g = rw (lt-leb t e h) g
+
+  pub text-not : t ≤ e → false ≡ isTextBelow shapes t e
+  unfolding isTextBelow
+  text-not h = rw (le-leb t e h)
+
 -- a row that has a tree, as a part of a row above
 part-there : (T : List ℕ) (t e : ℕ) → e < t → e < typeRows T → partTy T t e ≡ tyOf T e
 unfolding partTy
@@ -143,18 +153,31 @@ module _ (T shapes : List ℕ) (f : shapes ≡ shapesOf T) where
     unfolding exact whole
     exact-wide k = rw (row-takes k)
 
-  pub row-text : (t : ℕ) (b : Bool) → b ≡ isTextIn shapes t → b ≡ true → (s : List ℕ) (r : Step) → r ≡ stepOf (Number.string s) → r ≡ stepOf (value (tyOf T t) s)
-  unfolding value
-  row-text t b g h s r q = rw (text-row T t shapes f (sym g ∙ h)) (text-step s r q)
+  module _ (t : ℕ) (s : List ℕ) (r : Step) (b : Bool) where
+    pub row-text : b ≡ isTextIn shapes t → b ≡ true → r ≡ stepOf (Proxy.text s) → r ≡ stepOf (value (tyOf T t) s)
+    unfolding value
+    row-text g h q = rw (text-row T t shapes f (sym g ∙ h)) q
+
+    pub row-bool : b ≡ isBoolIn shapes t → b ≡ true → r ≡ stepOf (Number.bool s) → r ≡ stepOf (value (tyOf T t) s)
+    unfolding value
+    row-bool g h q = rw (bool-row T t shapes f (sym g ∙ h)) q
+
+    pub row-enum : (x y : ℕ) → x ≡ field T t 0 → y ≡ field T t 1 → b ≡ isEnumIn shapes t → b ≡ true
+        → r ≡ stepOf (value (enum (upto (x + 65536 * y))) s) → r ≡ stepOf (value (tyOf T t) s)
+    row-enum x y d e g h q = rw (enum-row T t shapes f (sym g ∙ h), ← d, ← e) q
 
   module _ (t e : ℕ) (l : e < t) where
-    pub part-wide : (s : List ℕ) (w : ℕ) → w ≡ widthIn shapes e → 0 < w → w ≤ length s → Took w ≡ stepOf (value (partTy T t e) s)
+    part-takes : (s : List ℕ) (w : ℕ) → w ≡ widthIn shapes e → 0 < w → w ≤ length s → value (partTy T t e) s ≡ ok tt w
     unfolding widthOf
-    part-wide s w g h k = go (ltb e (typeRows T)) refl
+    part-takes s w g h k = go (ltb e (typeRows T)) refl
       where
-        go : (b : Bool) → ltb e (typeRows T) ≡ b → Took w ≡ stepOf (value (partTy T t e) s)
-        go true q = rw (part-there T t e l (ltb-true _ _ q)) (row-wide e s w g h k)
+        go : (b : Bool) → ltb e (typeRows T) ≡ b → value (partTy T t e) s ≡ ok tt w
+        go true q = rw (part-there T t e l (ltb-true _ _ q)) (row-takes e s w g h k)
         go false q = absurd (let z : widthOf (tyOf T e) ≡ 0 = rw (ty-past T e (ltb-false _ _ q)) in omega (arith, wide e s w g h))
+
+    pub part-wide : (s : List ℕ) (w : ℕ) → w ≡ widthIn shapes e → 0 < w → w ≤ length s → Took w ≡ stepOf (value (partTy T t e) s)
+    unfolding stepOf
+    part-wide s w g h k = rw (part-takes s w g h k)
 
     part-text : isTextIn shapes e ≡ true → partTy T t e ≡ string
     part-text h = go (ltb e (typeRows T)) refl
@@ -163,14 +186,27 @@ module _ (T shapes : List ℕ) (f : shapes ≡ shapesOf T) where
         go true q = part-there T t e l (ltb-true _ _ q) ∙ text-row T e shapes f h
         go false q = absurd (let z = sym (text-row T e shapes f h) ∙ ty-past T e (ltb-false _ _ q) in let y : _≡_ {A = ℕ} 0 1 = cc in omega arith)
 
-    module _ (b : Bool) (g : b ≡ isTextIn shapes e) (h : b ≡ true) (s : List ℕ) (r : Step) where
-      pub text-value : r ≡ stepOf (Proxy.text s) → r ≡ stepOf (value (partTy T t e) s)
-      unfolding value
-      text-value q = rw (part-text (sym g ∙ h)) q
+    pub text-values : (b : Bool) → b ≡ isTextIn shapes e → b ≡ true → (s : List ℕ) (r : Step) (n : ℕ)
+        → r ≡ stepOf (times n Proxy.text s) → r ≡ stepOf (times n (value (partTy T t e)) s)
+    unfolding value
+    text-values b g h s r n q = rw (part-text (sym g ∙ h)) q
 
-      pub text-values : (n : ℕ) → r ≡ stepOf (times n Proxy.text s) → r ≡ stepOf (times n (value (partTy T t e)) s)
-      unfolding value
-      text-values n q = rw (part-text (sym g ∙ h)) q
+  -- by what the shapes tell of a part
+  module _ (t e : ℕ) where
+    below-takes : (w : ℕ) → w ≡ widthBelow shapes t e → 0 < w → (s : List ℕ) → w ≤ length s → value (partTy T t e) s ≡ ok tt w
+    below-takes w g h s k = go (leb t e) refl g
+      where
+        go : (b : Bool) → leb t e ≡ b → w ≡ pick b 0 (widthIn shapes e) → value (partTy T t e) s ≡ ok tt w
+        go true q g = absurd (omega arith)
+        go false q g = part-takes t e (leb-false _ _ q) s w g h k
+
+    pub text-value : (b : Bool) → b ≡ isTextBelow shapes t e → b ≡ true → (s : List ℕ) (r : Step) → r ≡ stepOf (Proxy.text s) → r ≡ stepOf (value (partTy T t e) s)
+    unfolding isTextBelow value
+    text-value b g h s r d = go (leb t e) refl (sym g ∙ h)
+      where
+        go : (b : Bool) → leb t e ≡ b → pick b false (isTextIn shapes e) ≡ true → r ≡ stepOf (value (partTy T t e) s)
+        go true q z = absurd (false≢true z)
+        go false q z = rw (part-text t e (leb-false _ _ q) z) d
 
 -- an answer that is taken apart and put together again
 module _ (X : Ty) (s : List ℕ) (r : Step) (e : r ≡ stepOf (value X s)) where
@@ -221,6 +257,19 @@ member-read T t m n e s r f l g d = rw (member-in T m (tys T t) (omega arith), �
 
 -- ---- sequences
 
+-- as many times as many bytes, where they are there
+times-takes : (p : Parser (Unit {0})) (w : ℕ) → ((xs : List ℕ) → w ≤ length xs → p xs ≡ ok tt w) → (n : ℕ) (xs : List ℕ) → n * w ≤ length xs → times n p xs ≡ ok tt (n * w)
+unfolding times pure
+times-takes p w takes zero xs h = ap (ok tt) (sym (zero-mul w))
+times-takes p w takes (suc n) xs h =
+    let e = suc-mul n w in
+    bind-step p (λ _. times n p) xs (takes xs (omega arith)) (times-takes p w takes n (drop w xs) (omega (arith, length-drop w xs)))
+    ∙ ap (ok tt) (omega arith)
+
+-- bytes that are there behind n others
+behind : (s : List ℕ) (n w : ℕ) → w ≤ length s - n → w ≤ length (take (length s - n) (drop n s))
+behind s n w h = rw rest-is (omega (arith, length-drop n s))
+
 module _ (s : List ℕ) (r : Sized) (e : r ≡ sizedOf (size s)) where
   pub seq-none : (X : Ty) (f p : ℕ) → r ≡ Isnt f p → Fault f p ≡ stepOf (value (seq X) s)
   unfolding value
@@ -229,6 +278,13 @@ module _ (s : List ℕ) (r : Sized) (e : r ≡ sizedOf (size s)) where
   pub dict-none : (K W : Ty) (f p : ℕ) → r ≡ Isnt f p → Fault f p ≡ stepOf (value (dict K W) s)
   unfolding value entry
   dict-none K W f p q = with-none size (λ n. times n (entry K W)) s r e f p q
+
+  pub seq-wide : (n k : ℕ) → r ≡ Is n k → (T shapes : List ℕ) → shapes ≡ shapesOf T → (t i : ℕ) → i ≡ field T t 0 → (w : ℕ) → w ≡ widthBelow shapes t i → 0 < w
+      → n * w ≤ length s - k → Took (k + n * w) ≡ stepOf (value (seq (partTy T t (field T t 0))) s)
+  unfolding value stepOf
+  seq-wide n k q T shapes f t i g w d h l =
+      rw (← g) (with-took size (λ n. times n (value (partTy T t i))) s r e n k q (Took (n * w))
+      (rw (times-takes (value (partTy T t i)) w (below-takes T shapes f t i w d h) n (take (length s - k) (drop k s)) (behind s k (n * w) l))) (n * w) refl)
 
   module _ (n k : ℕ) (q : r ≡ Is n k) (a : Step) where
     module _ (T : List ℕ) (t i : ℕ) (g : i ≡ field T t 0) (d : a ≡ stepOf (times n (value (partTy T t i)) (take (length s - k) (drop k s)))) where
@@ -304,6 +360,12 @@ module _ (K W : Ty) (s : List ℕ) (r : Step) (e : r ≡ stepOf (value K s)) whe
     pub pair-bad : (f p : ℕ) → a ≡ Fault f p → Fault f (n + p) ≡ stepOf (entry K W s)
     unfolding entry
     pair-bad f p h = then-bad (value K) (value W) s r e n q a d f p h
+
+pub pair-wide : (K : Ty) (s : List ℕ) (r : Step) → r ≡ stepOf (value K s) → (n : ℕ) → r ≡ Took n
+    → (T shapes : List ℕ) → shapes ≡ shapesOf T → (t e w : ℕ) → w ≡ widthBelow shapes t e → 0 < w → w ≤ length s - n → Took (n + w) ≡ stepOf (entry K (partTy T t e) s)
+unfolding entry stepOf
+pair-wide K s r d n q T shapes f t e w g h l = then-took (value K) (value (partTy T t e)) s r d n q (Took w)
+    (rw (below-takes T shapes f t e w g h (take (length s - n) (drop n s)) (behind s n w l))) w refl
 
 -- ---- sums of places
 

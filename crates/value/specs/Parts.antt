@@ -1,26 +1,33 @@
 -- Parts of the definitions of values and proxies that are functions of their own in the code.
 --
 --   partTy T t e   the type of row e as a part of row t: broken unless e is below t
+--   isTextBelow    row e is a string as a part of row t, by the array of shapes
 --   entry k v      one entry of a dictionary
 --   name           a string, and how many bytes it holds
 --   named          an identity, of which the length of the name is kept
 --   addresses n    n endpoints, or an adapter where n is 0
 --   secured        a proxy's secure, protocol, encoding and endpoints
 --   settings       a proxy's mode, and those: what follows the facets
+use mathlib.Core.Bool.{Bool, false}
 use mathlib.Core.List.{List}
 use Prim.Native.Nat.{ℕ}
 use lib.ListN.{length, getD}
-use lib.Dec.{eqb}
+use lib.Dec.{eqb, leb}
 use Rattle.encoding.specs.Result.{Parser, pick, _>>=_, must, mapc, times}
 use Rattle.encoding.specs.Number.{byte, bool, string}
 use Rattle.encoding.specs.Types.{Ty, broken}
 use Rattle.encoding.specs.Table.{tys}
 use Rattle.encoding.specs.Value.{value}
 use Rattle.encoding.specs.Proxy.{identity, text, modeForm, versions, endpoint, endpoints}
+use Rattle.table.specs.Shapes.{isTextIn}
 
 -- the tree of row e among the trees of the rows below t
 unfoldable pub partTy : List ℕ → ℕ → ℕ → Ty
 partTy T t e = getD (tys T t) e broken
+
+-- row e is a string, and below t
+unfoldable pub isTextBelow : List ℕ → ℕ → ℕ → Bool
+isTextBelow l t e = pick (leb t e) false (isTextIn l e)
 
 -- a key, then a value
 unfoldable pub entry : Ty → Ty → Parser (Unit {0})

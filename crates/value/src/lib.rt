@@ -12,8 +12,8 @@ ghost use Rattle.encoding.specs.Types.{struct, seq, dict};
 ghost use Rattle.encoding.specs.Table.{field, tys, tyOf, memberTys, ownRows};
 ghost use Rattle.encoding.specs.Value.{value, exact};
 ghost use Rattle.wire.specs.Steps.{stepOf};
-ghost use Rattle.table.specs.Shapes.{shapesOf};
-ghost use Rattle.value.specs.Parts.{partTy, entry};
+ghost use Rattle.table.specs.Shapes.{shapesOf, widthBelow};
+ghost use Rattle.value.specs.Parts.{partTy, entry, isTextBelow};
 use wire::Sized;
 use wire::Step;
 
@@ -97,7 +97,17 @@ fn struct_value(table: &[u8], shapes: &[u8; 256], t: usize, s: &[u8]) -> Step
     Step::Took(at)
 }
 
-// The sequence of row t: a size, and as many elements.
+// Row k is a string, and below t.
+fn is_text_below(shapes: &[u8; 256], t: usize, k: usize) -> bool
+    ensures { λ r. ⌜ r ≡ isTextBelow (now (shapes .entry)) t k ⌝ }
+{
+    if k < t {
+        return table::shapes::is_text(shapes, k);
+    }
+    false
+}
+
+// The sequence of row t: a size, and as many elements; elements that may be any bytes are taken at once.
 fn sequence(table: &[u8], shapes: &[u8; 256], t: usize, s: &[u8]) -> Step
     requires { ⌜ now shapes ≡ shapesOf (now table) ⌝ }
     ensures { λ r. ⌜ r ≡ stepOf (value (seq (partTy (now (table .entry)) t (field (now (table .entry)) t 0))) (now (s .entry))) ⌝ }
@@ -105,7 +115,14 @@ fn sequence(table: &[u8], shapes: &[u8; 256], t: usize, s: &[u8]) -> Step
     let z = wire::read_size(s);
     match z {
         Sized::Is(n, k) => {
-            let step = elements(table, shapes, t, table::field(table, t, 0), n, &s[k..]);
+            let e = table::field_a(table, t);
+            let w = table::shapes::width_below(shapes, t, e);
+            if 0 < w {
+                if n * w <= s.len() - k {
+                    return Step::Took(k + n * w);
+                }
+            }
+            let step = elements(table, shapes, t, e, n, &s[k..]);
             match step {
                 Step::Took(m) => Step::Took(k + m),
                 Step::Fault(f, p) => Step::Fault(f, k + p),
@@ -166,12 +183,14 @@ fn entries(table: &[u8], shapes: &[u8; 256], t: usize, n: usize, s: &[u8]) -> St
     requires { ⌜ now shapes ≡ shapesOf (now table) ⌝ }
     ensures { λ r. ⌜ r ≡ stepOf (times n (entry (partTy (now (table .entry)) t (field (now (table .entry)) t 0)) (partTy (now (table .entry)) t (field (now (table .entry)) t 1))) (now (s .entry))) ⌝ }
 {
-    let key = table::field(table, t, 0);
-    let val = table::field(table, t, 1);
+    let key = table::field_a(table, t);
+    let val = table::field_b(table, t);
+    let text = is_text_below(shapes, t, key);
+    let w = table::shapes::width_below(shapes, t, val);
     let mut left = n;
     let mut at: usize = 0;
     while left > 0 {
-        let step = pair(table, shapes, t, key, val, &s[at..]);
+        let step = pair(table, shapes, t, key, val, text, w, &s[at..]);
         match step {
             Step::Took(m) => {
                 at += m;
@@ -185,28 +204,43 @@ fn entries(table: &[u8], shapes: &[u8; 256], t: usize, n: usize, s: &[u8]) -> St
     Step::Took(at)
 }
 
-// A value of row k, where k is below t; a string is taken at once.
-fn key(table: &[u8], shapes: &[u8; 256], t: usize, k: usize, s: &[u8]) -> Step
+// A value of row k, where k is below t; a string, which `text` tells, is taken at once.
+fn key(table: &[u8], shapes: &[u8; 256], t: usize, k: usize, text: bool, s: &[u8]) -> Step
     requires { ⌜ now shapes ≡ shapesOf (now table) ⌝ }
+    requires { ⌜ text ≡ isTextBelow (now shapes) t k ⌝ }
     ensures { λ r. ⌜ r ≡ stepOf (value (partTy (now (table .entry)) t k) (now (s .entry))) ⌝ }
 {
-    if k < t {
-        if table::shapes::is_text(shapes, k) {
-            return plain::text(s);
-        }
+    if text {
+        return plain::text(s);
     }
     part(table, shapes, t, k, s)
 }
 
-// A key of row k, and then a value of row v, both below t.
-fn pair(table: &[u8], shapes: &[u8; 256], t: usize, k: usize, v: usize, s: &[u8]) -> Step
+// A key of row k, and then a value of row v, both below t; `text` and `w` are what their shapes tell, looked up once for all entries.
+fn pair(
+    table: &[u8],
+    shapes: &[u8; 256],
+    t: usize,
+    k: usize,
+    v: usize,
+    text: bool,
+    w: usize,
+    s: &[u8],
+) -> Step
     requires { ⌜ now shapes ≡ shapesOf (now table) ⌝ }
+    requires { ⌜ text ≡ isTextBelow (now shapes) t k ⌝ }
+    requires { ⌜ w ≡ widthBelow (now shapes) t v ⌝ }
     ensures { λ r. ⌜ r ≡ stepOf (entry (partTy (now (table .entry)) t k) (partTy (now (table .entry)) t v) (now (s .entry))) ⌝ }
 {
-    let first = key(table, shapes, t, k, s);
+    let first = key(table, shapes, t, k, text, s);
     match first {
         Step::Took(n) => {
-            let step = part(table, shapes, t, v, &s[n..]);
+            if 0 < w {
+                if w <= s.len() - n {
+                    return Step::Took(n + w);
+                }
+            }
+            let step = value(table, shapes, t, v, &s[n..]);
             match step {
                 Step::Took(m) => Step::Took(n + m),
                 Step::Fault(f, p) => Step::Fault(f, n + p),
@@ -226,6 +260,30 @@ pub fn read_value(table: &[u8], shapes: &[u8; 256], t: usize, s: &[u8]) -> Step
         Step::Took(n) => Step::Took(n),
         Step::Fault(f, p) => Step::Fault(f, p),
     }
+}
+
+// The same; one that may be any bytes, a string, a bool and an enum are taken without a call.
+pub fn read_member(table: &[u8], shapes: &[u8; 256], t: usize, s: &[u8]) -> Step
+    requires { ⌜ now shapes ≡ shapesOf (now table) ⌝ }
+    ensures { λ r. ⌜ r ≡ stepOf (value (tyOf (now (table .entry)) t) (now (s .entry))) ⌝ }
+{
+    let w = table::shapes::width(shapes, t);
+    if 0 < w {
+        if w <= s.len() {
+            return Step::Took(w);
+        }
+    }
+    if table::shapes::is_text(shapes, t) {
+        return plain::text(s);
+    }
+    if table::shapes::is_bool(shapes, t) {
+        return plain::bool(s);
+    }
+    if table::shapes::is_enum(shapes, t) {
+        let row = table::type_row(table, t);
+        return plain::enumerator(s, row.a + 65536 * row.b);
+    }
+    read_value(table, shapes, t, s)
 }
 
 // The bytes are exactly one value of row t.

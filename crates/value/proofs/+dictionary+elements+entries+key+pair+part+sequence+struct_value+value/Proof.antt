@@ -11,7 +11,8 @@ use Rattle.wire.specs.Steps.{stepOf}
 use Rattle.wire.specs.StepLaws.{Left}
 use Rattle.value.specs.Parts.{partTy, entry}
 use Rattle.value.proofs.ProxyLaws.{size-end}
-use Rattle.value.proofs.CycleLaws.{row-not, as-bool, as-byte, as-short, as-int, as-long, as-float, as-double, as-string, as-enum, as-struct, as-seq, as-dict, as-proxy, as-other, struct-begin, member-gone, member-read, member-next, member-fault, member-done, seq-none, seq-took, seq-bad, dict-none, dict-took, dict-bad, element-begin, element-next, element-fault, element-done, entry-begin, entry-next, entry-fault, entry-done, part-wide, again-took, again-bad, text-value, text-values, key-end, pair-none, pair-took, pair-bad, value-took-fits, value-bad-fits, elements-took-fits, elements-bad-fits, entry-took-fits, entry-bad-fits, entries-took-fits, entries-bad-fits}
+use Rattle.value.proofs.Room.{part-fits, items-fits, sized-items-fits}
+use Rattle.value.proofs.CycleLaws.{row-not, as-bool, as-byte, as-short, as-int, as-long, as-float, as-double, as-string, as-enum, as-struct, as-seq, as-dict, as-proxy, as-other, struct-begin, member-gone, member-read, member-next, member-fault, member-done, seq-none, seq-wide, seq-took, seq-bad, dict-none, dict-took, dict-bad, element-begin, element-next, element-fault, element-done, entry-begin, entry-next, entry-fault, entry-done, part-wide, again-took, again-bad, text-value, text-values, key-end, pair-none, pair-wide, pair-took, pair-bad, value-took-fits, value-bad-fits, elements-took-fits, elements-bad-fits, entry-took-fits, entry-bad-fits, entries-took-fits, entries-bad-fits}
 use borrow.Fn.Kinds.{In}
 use borrow.Fn.PlainCycle.{Measures, is, falls, and}
 use Rattle.value.proofs.dictionary.Reads as dictionary
@@ -42,12 +43,16 @@ use Rattle.value.proofs.value.Reads as value
 use Rattle.value.proofs.value.Kinds as value-kinds
 use Rattle.value.proofs.+dictionary+elements+entries+key+pair+part+sequence+struct_value+value.Lts-value as value-lts
 use Rattle.table.proofs.field.Reads as field-reads
+use Rattle.table.proofs.field_a.Reads as field-a-reads
+use Rattle.table.proofs.field_b.Reads as field-b-reads
 use Rattle.table.proofs.kind.Reads as kind-reads
 use Rattle.table.proofs.member_row.Reads as member-row-reads
 use Rattle.table.proofs.members.Reads as members-reads
 use Rattle.table.proofs.shapes.is_text.Reads as is-text-reads
 use Rattle.table.proofs.shapes.width.Reads as width-reads
+use Rattle.table.proofs.shapes.width_below.Reads as width-below-reads
 use Rattle.table.proofs.type_row.Reads as type-row-reads
+use Rattle.value.proofs.is_text_below.Reads as is-text-below-reads
 use Rattle.value.proofs.plain.bool.Reads as bool-reads
 use Rattle.value.proofs.plain.enumerator.Reads as enumerator-reads
 use Rattle.value.proofs.plain.skip.Reads as skip-reads
@@ -146,19 +151,19 @@ abbrev elements-calls : ℕ → elements-lts.Claims
 elements-calls t = (is-text-reads.Asked, is-text-reads.Learnt, texts-reads.Asked, texts-reads.Learnt, part-below t, part.Post)
 
 abbrev entries-calls : ℕ → entries-lts.Claims
-entries-calls t = (field-reads.Asked, field-reads.Learnt, pair-below t, pair.Post)
+entries-calls t = (field-a-reads.Asked, field-a-reads.Learnt, field-b-reads.Asked, field-b-reads.Learnt, is-text-below-reads.Asked, is-text-below-reads.Learnt, width-below-reads.Asked, width-below-reads.Learnt, pair-below t, pair.Post)
 
 abbrev key-calls : ℕ → key-lts.Claims
-key-calls t = (is-text-reads.Asked, is-text-reads.Learnt, text-reads.Asked, text-reads.Learnt, part-below t, part.Post)
+key-calls t = (text-reads.Asked, text-reads.Learnt, part-below t, part.Post)
 
 abbrev pair-calls : ℕ → pair-lts.Claims
-pair-calls t = (key-below t, key.Post, part-below t, part.Post)
+pair-calls t = (key-below t, key.Post, value-below t, value.Post)
 
 abbrev part-calls : ℕ → part-lts.Claims
 part-calls t = (width-reads.Asked, width-reads.Learnt, value-below t, value.Post)
 
 abbrev sequence-calls : ℕ → sequence-lts.Claims
-sequence-calls t = (read-size-reads.Asked, read-size-reads.Learnt, field-reads.Asked, field-reads.Learnt, elements-below t, elements.Post)
+sequence-calls t = (read-size-reads.Asked, read-size-reads.Learnt, field-a-reads.Asked, field-a-reads.Learnt, width-below-reads.Asked, width-below-reads.Learnt, elements-below t, elements.Post)
 
 abbrev struct-value-calls : ℕ → struct-value-lts.Claims
 struct-value-calls t = (members-reads.Asked, members-reads.Learnt, type-row-reads.Asked, type-row-reads.Learnt, member-row-reads.Asked, member-row-reads.Learnt, part-below t, part.Post)
@@ -173,10 +178,10 @@ abbrev elements-μ-loop : elements-lts.MeasureT-loop
 elements-μ-loop table shapes t e n s left₀ at₀ left at = left
 
 abbrev entries-Inv-loop : entries-lts.InvT-loop
-entries-Inv-loop table shapes t n s key val left₀ at₀ left at = Left s (stepOf (times n (entry (partTy table t (field table t 0)) (partTy table t (field table t 1))) s)) (times left (entry (partTy table t key) (partTy table t val))) at
+entries-Inv-loop table shapes t n s key val text w left₀ at₀ left at = Left s (stepOf (times n (entry (partTy table t (field table t 0)) (partTy table t (field table t 1))) s)) (times left (entry (partTy table t key) (partTy table t val))) at
 
 abbrev entries-μ-loop : entries-lts.MeasureT-loop
-entries-μ-loop table shapes t n s key val left₀ at₀ left at = left
+entries-μ-loop table shapes t n s key val text w left₀ at₀ left at = left
 
 abbrev struct-value-Inv-loop : struct-value-lts.InvT-loop
 struct-value-Inv-loop table shapes t s all m₀ left₀ at₀ m left at = Left s (stepOf (value-of (struct (memberTys table (tys table t) (ownRows table t))) s)) (values (memberTys table (tys table t) (range m left))) at
@@ -221,8 +226,10 @@ pub +dictionary+elements+entries+key+pair+part+sequence+struct-value+value-spec 
     (λ c. search element-next)  -- loop-again
     (λ c. search element-done))  -- returns-3
     (λ t. entries-lts.spec (entries-calls t) (entries-at t) entries.Post entries-Inv-loop entries-μ-loop
-    (λ c κs. search needs)  -- field-requires
-    (λ c κs. search needs)  -- field-requires-2
+    (λ c κs. search needs)  -- field-a-requires
+    (λ c κs. search needs)  -- field-b-requires
+    (λ c κs. search needs)  -- is-text-below-requires
+    (λ c κs. search needs)  -- width-below-requires
     (λ c. search entry-begin)  -- loop-holds
     (λ c. search needs)  -- sub-pair
     (λ c. search needs)  -- part-pair-start
@@ -231,14 +238,13 @@ pub +dictionary+elements+entries+key+pair+part+sequence+struct-value+value-spec 
     (λ c. search needs)  -- enum-known-step
     (λ c. search entry-took-fits)  -- add-at
     (λ c. search needs)  -- enum-known-step-2
-    (λ c. search entry-bad-fits)  -- add-t18
+    (λ c. search entry-bad-fits)  -- add-t21
     (λ c. search entry-fault)  -- returns
     (λ c. omega arith)  -- sub-left
     (λ c. omega arith)  -- loop-less
     (λ c. search entry-next)  -- loop-again
     (λ c. search entry-done))  -- returns-2
     (λ t. key-lts.spec (key-calls t) (key-at t) key.Post
-    (λ c κs. search needs)  -- is-text-requires
     (λ c κs. search needs)  -- text-requires
     (λ c. search text-value)  -- returns
     (λ c κs. search needs)  -- part-requires
@@ -246,18 +252,21 @@ pub +dictionary+elements+entries+key+pair+part+sequence+struct-value+value-spec 
     (λ t. pair-lts.spec (pair-calls t) (pair-at t) pair.Post
     (λ c κs. search needs)  -- key-requires
     (λ c. search needs)  -- enum-known-first
-    (λ c. search key-end)  -- sub-part
-    (λ c. search key-end)  -- part-part-start
-    (λ c. search needs)  -- part-part-end
-    (λ c κs. search needs)  -- part-requires
+    (λ c. search key-end)  -- sub-if2
+    (λ c. search (part-fits, key-end))  -- add-t22
+    (λ c. search pair-wide)  -- returns
+    (λ c. search key-end)  -- sub-value
+    (λ c. search key-end)  -- part-value-start
+    (λ c. search needs)  -- part-value-end
+    (λ c κs. search needs)  -- value-requires
     (λ c. search needs)  -- enum-known-step
-    (λ c. search (value-took-fits, key-end))  -- add-t20
+    (λ c. search (value-took-fits, key-end))  -- add-t28
     (λ c. search needs)  -- enum-known-step-2
-    (λ c. search (value-bad-fits, key-end))  -- add-t21
+    (λ c. search (value-bad-fits, key-end))  -- add-t29
     (λ c. search needs)  -- enum-known-first-2
-    (λ c. search pair-took)  -- returns
-    (λ c. search pair-bad)  -- returns-2
-    (λ c. search pair-none))  -- returns-3
+    (λ c. search pair-took)  -- returns-2
+    (λ c. search pair-bad)  -- returns-3
+    (λ c. search pair-none))  -- returns-4
     (λ t. part-lts.spec (part-calls t) (part-at t) part.Post
     (λ c κs. search needs)  -- width-requires
     (λ c. search part-wide)  -- returns
@@ -269,19 +278,25 @@ pub +dictionary+elements+entries+key+pair+part+sequence+struct-value+value-spec 
     (λ t. sequence-lts.spec (sequence-calls t) (sequence-at t) sequence.Post
     (λ c κs. search needs)  -- read-size-requires
     (λ c. search needs)  -- enum-known-z
-    (λ c κs. search needs)  -- field-requires
+    (λ c κs. search needs)  -- field-a-requires
+    (λ c κs. search needs)  -- width-below-requires
+    (λ c. search items-fits)  -- mul-if2
+    (λ c. search (needs, size-end))  -- sub-if2
+    (λ c. search items-fits)  -- mul-t22
+    (λ c. search sized-items-fits)  -- add-t23
+    (λ c. search seq-wide)  -- returns
     (λ c. search size-end)  -- sub-elements
     (λ c. search size-end)  -- part-elements-start
     (λ c. search needs)  -- part-elements-end
     (λ c κs. search needs)  -- elements-requires
     (λ c. search needs)  -- enum-known-step
-    (λ c. search (elements-took-fits, size-end))  -- add-t20
+    (λ c. search (elements-took-fits, size-end))  -- add-t29
     (λ c. search needs)  -- enum-known-step-2
-    (λ c. search (elements-bad-fits, size-end))  -- add-t21
+    (λ c. search (elements-bad-fits, size-end))  -- add-t30
     (λ c. search needs)  -- enum-known-z-2
-    (λ c. search seq-took)  -- returns
-    (λ c. search seq-bad)  -- returns-2
-    (λ c. search seq-none))  -- returns-3
+    (λ c. search seq-took)  -- returns-2
+    (λ c. search seq-bad)  -- returns-3
+    (λ c. search seq-none))  -- returns-4
     (λ t. struct-value-lts.spec (struct-value-calls t) (struct-value-at t) struct-value.Post struct-value-Inv-loop struct-value-μ-loop
     (λ c κs. search needs)  -- members-requires
     (λ c κs. search needs)  -- type-row-requires

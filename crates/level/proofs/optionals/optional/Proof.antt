@@ -10,7 +10,6 @@ optional-spec =
     (tie.spec
     (λ c κs. search needs)  -- header-requires
     (λ c. search needs)  -- enum-known-h
-    (λ c κs. search needs)  -- form-requires
     (λ c. search head-fits)  -- sub-used-up
     (λ c. search head-fits)  -- part-used-up-start
     (λ c. search needs)  -- part-used-up-end

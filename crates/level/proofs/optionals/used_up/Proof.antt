@@ -1,6 +1,6 @@
 -- The value is read in just the bytes that the part delivers, which lie in those at hand; it takes all of them, or it is refused. Assumes nothing.
 use borrow.Author.Needs.{needs}
-use Rattle.level.proofs.Parts.{part-start, part-end, used-none, used-wide, used-all, used-less, used-bad, used-place}
+use Rattle.level.proofs.Parts.{part-start, part-end, used-none, used-wide, used-text, used-all, used-less, used-bad, used-place}
 use Rattle.level.proofs.optionals.used_up.Statement.{statement}
 use Rattle.level.proofs.optionals.used_up.Tie as tie
 
@@ -13,6 +13,8 @@ used-up-spec =
     (λ c κs. search needs)  -- width-requires
     (λ c. search part-start)  -- sub-if
     (λ c. search used-wide)  -- returns
+    (λ c κs. search needs)  -- is-text-requires
+    (λ c. search used-text)  -- returns-2
     (λ c. search part-start)  -- sub-read-value
     (λ c. search part-start)  -- part-read-value-start
     (λ c. search part-end)  -- part-read-value-end
@@ -22,7 +24,7 @@ used-up-spec =
     (λ c. search needs)  -- enum-known-step-2
     (λ c. search (needs, used-place))  -- add-t23
     (λ c. search needs)  -- enum-known-p-2
-    (λ c. search used-all)  -- returns-2
-    (λ c. search used-less)  -- returns-3
-    (λ c. search used-bad)  -- returns-4
-    (λ c. search used-none))  -- returns-5
+    (λ c. search used-all)  -- returns-3
+    (λ c. search used-less)  -- returns-4
+    (λ c. search used-bad)  -- returns-5
+    (λ c. search used-none))  -- returns-6

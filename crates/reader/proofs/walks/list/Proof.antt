@@ -6,16 +6,16 @@ use native.Mathlib.Omega.{arith}
 use borrow.Author.Needs.{needs}
 use Rattle.reader.specs.Left.{listing}
 use Rattle.reader.proofs.Endings.{put-keeps}
-use Rattle.reader.proofs.Listing.{list-asks, list-at, list-place, list-begin, told-both, Listing, listing-less, listing-start, listing-place, listing-fits, listing-count, listing-tag, listing-few, listing-known, listing-past-less, listing-past-fits, listing-skips, listing-past-tag, listing-skipped, listing-stop, done-says, done-gives, stopped-says, stopped-gives, refused-says, refused-gives}
+use Rattle.reader.proofs.Listing.{list-asks, list-at, list-place, list-begin, told-both, Listing, listing-bound, listing-less, listing-start, listing-place, listing-fits, listing-count, listing-tag, listing-few, listing-known, listing-past-less, listing-past-fits, listing-skips, listing-past-tag, listing-skipped, listing-stop, done-says, done-gives, stopped-says, stopped-gives, refused-says, refused-gives}
 use Rattle.reader.proofs.walks.list.Statement.{statement}
 use Rattle.reader.proofs.walks.list.Tie as tie
 
 abbrev Inv-loop : tie.InvT-loop
-Inv-loop table shapes top m start out₀ n k at₀ count₀ optionals₀ least₀ row₀ out at count optionals least row =
-    (length out ≡ length out₀) × Listing table top m (listing table top m at₀ least₀ count₀ optionals₀ out₀) at least row count optionals out
+Inv-loop table shapes top m start out₀ n k begin stop at₀ count₀ optionals₀ least₀ row₀ out at count optionals least row =
+    (length out ≡ length out₀) × Listing table top m (listing table top m at₀ least₀ count₀ optionals₀ out₀) stop at least row count optionals out
 
 abbrev μ-loop : tie.MeasureT-loop
-μ-loop table shapes top m start out₀ n k at₀ count₀ optionals₀ least₀ row₀ out at count optionals least row = length m - at
+μ-loop table shapes top m start out₀ n k begin stop at₀ count₀ optionals₀ least₀ row₀ out at count optionals least row = length m - at
 
 pub list-spec : {M : Type 1} → statement M
 list-spec =
@@ -28,13 +28,13 @@ list-spec =
     (λ c. search needs)  -- part-required-end
     (λ c κs. (search needs, (search (needs, list-asks), omega arith)))  -- required-requires
     (λ c. search needs)  -- enum-known-members
+    (λ c κs. search needs)  -- member-end-requires
     (λ c. search (needs, list-at))  -- add-at
-    (λ c κs. search needs)  -- type-row-requires
-    (λ c. (refl, list-begin _ _ _ _ _ _ _ _ (search told-both) (search) (search needs) (search) (omega arith)))  -- loop-holds
+    (λ c. (refl, list-begin _ _ _ _ _ _ _ _ (search told-both) _ (search) (search needs) (search) (omega arith)))  -- loop-holds
     (λ c. omega arith)  -- sub-optional
     (λ c. search needs)  -- part-optional-start
     (λ c. search needs)  -- part-optional-end
-    (λ c κs. search needs)  -- optional-requires
+    (λ c κs. (search needs, search listing-bound))  -- optional-requires
     (λ c. search needs)  -- enum-known-o
     (λ c. search listing-place)  -- add-put-row
     (λ c. search listing-start)  -- sub-put-row

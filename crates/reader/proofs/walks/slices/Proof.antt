@@ -9,19 +9,19 @@ use Rattle.reader.specs.Stages.{stageOf}
 use Rattle.reader.specs.Walks.{sliceWalk}
 use Rattle.reader.specs.Left.{left, amid, answerOf}
 use Rattle.reader.proofs.Endings.{ends-same, put-keeps}
-use Rattle.reader.proofs.Walking.{ends-says, ends-gives, Outer, Inner, outer-begin, wrong-fits, skip-less, skip-fits, skip-count, outer-skip, known-order, known-within, from-fits, end-fits, asks-place, asks-count, refused-fits, at-fits, outer-same, outer-in, end-less, end-mark-fits, inner-end, known-less, known-starts, place-fits, next-fits, tag-fits, count-fits, member-few, inner-known, skipped-less, skipped-fits, skipped-tag-fits, skipped-count, inner-skipped, stop-fits, size-place, inner-done, inner-out, outer-join, wrong-says, wrong-gives, refused-says, refused-gives, outer-answer, stopped-says, stopped-gives, over-says, over-gives}
+use Rattle.reader.proofs.Walking.{ends-says, ends-gives, Outer, Inner, inner-bound, outer-begin, wrong-fits, skip-less, skip-fits, skip-count, outer-skip, known-order, known-within, from-fits, end-fits, asks-place, asks-count, refused-fits, at-fits, outer-same, outer-in, end-less, end-mark-fits, inner-end, known-less, known-starts, place-fits, next-fits, tag-fits, count-fits, member-few, inner-known, skipped-less, skipped-fits, skipped-tag-fits, skipped-count, inner-skipped, stop-fits, size-place, inner-done, inner-out, outer-join, wrong-says, wrong-gives, refused-says, refused-gives, outer-answer, stopped-says, stopped-gives, over-says, over-gives}
 use Rattle.reader.proofs.walks.slices.Statement.{statement}
 use Rattle.reader.proofs.walks.slices.Tie as tie
 
 abbrev Inv-loop : tie.InvT-loop
-Inv-loop table shapes top m start out₀ stage pos count₀ optionals₀ skipped fst t has sliced a e from end n k at₀ least₀ row₀ more₀ out count optionals at least row more =
+Inv-loop table shapes top m start out₀ stage pos count₀ optionals₀ skipped fst t has sliced a e from end n k begin stop at₀ least₀ row₀ more₀ out count optionals at least row more =
     (length out ≡ length out₀)
     × (sliceWalk table start (slices table top (drop start m))
     ≡ answerOf (amid table top m (stageOf stage) pos t sliced from end skipped fst at₀ least₀ count₀ optionals₀ more₀ out₀))
-    × Inner table top m (amid table top m (stageOf stage) pos t sliced from end skipped fst at₀ least₀ count₀ optionals₀ more₀ out₀) stage pos t sliced from end skipped fst at least row count optionals more out
+    × Inner table top m (amid table top m (stageOf stage) pos t sliced from end skipped fst at₀ least₀ count₀ optionals₀ more₀ out₀) stage pos t sliced from end skipped fst stop at least row count optionals more out
 
 abbrev μ-loop : tie.MeasureT-loop
-μ-loop table shapes top m start out₀ stage pos count₀ optionals₀ skipped fst t has sliced a e from end n k at₀ least₀ row₀ more₀ out count optionals at least row more = length m - at
+μ-loop table shapes top m start out₀ stage pos count₀ optionals₀ skipped fst t has sliced a e from end n k begin stop at₀ least₀ row₀ more₀ out count optionals at least row more = length m - at
 
 abbrev Inv-slices : tie.InvT-slices
 Inv-slices table shapes top m start out₀ stage₀ pos₀ count₀ optionals₀ skipped₀ fst₀ out stage pos count optionals skipped fst =
@@ -33,10 +33,16 @@ abbrev μ-slices : tie.MeasureT-slices
 -- the answers that take facts from in front of the slice
 loop-holds : tie.Need-loop-holds Inv-loop μ-loop Inv-slices μ-slices
 loop-holds c =
-    let K = c .before .before .before .before .before .before .before .before .before .before .o2 .given .1 in
-    let O = c .before .before .before .before .before .before .before .before .before .before .before .before .opening .ensures in
-    let I = c .before .before .before .before .before .before .before .before .before .before .before .before .before .before .slices .inv .1 in
-    (refl, search (outer-answer, I, O, K), search (outer-in, I, O, K))
+    let read = c .before .before in
+    let asked = read .before .before .before .before in
+    let known = asked .before .before .before .before in
+    let opened = known .before .before in
+    let I = opened .before .before .slices .inv .1 in
+    let O = opened .opening .ensures in
+    let K = known .o2 .given .1 in
+    let R = asked .required .ensures in
+    let W = read .members .given .1 in
+    (refl, outer-answer _ _ _ _ _ _ _ _ _ _ _ _ I _ O _ _ _ _ _ K _ (R .0) _ _ _ W _ (R .1 .1), outer-in I O K (R .0) W (c .member-end .ensures .0) _)
 
 slices-again-2 : tie.Need-slices-again-2 Inv-loop μ-loop Inv-slices μ-slices
 slices-again-2 c =
@@ -92,13 +98,13 @@ slices-spec =
     (λ c. search (needs, known-within))  -- part-required-end
     (λ c κs. (search needs, (search asks-place, search asks-count)))  -- required-requires
     (λ c. search needs)  -- enum-known-members
+    (λ c κs. search needs)  -- member-end-requires
     (λ c. search (needs, at-fits))  -- add-at
-    (λ c κs. search needs)  -- type-row-requires
     loop-holds
     (λ c. omega arith)  -- sub-next
     (λ c. search needs)  -- part-next-start
     (λ c. search needs)  -- part-next-end
-    (λ c κs. c .before .before .before .before .before .before .before .before .before .before .before .before .before .before .before .before .before .before .before .before .before .pre .1)  -- next-requires
+    (λ c κs. (c .before .before .before .before .before .before .before .before .before .before .before .before .before .before .before .before .before .before .before .before .before .pre .1, search inner-bound))  -- next-requires
     (λ c. search needs)  -- enum-told
     (λ c. search end-mark-fits)  -- add-at-2
     (λ c. search end-less)  -- loop-less

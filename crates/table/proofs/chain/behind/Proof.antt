@@ -1,16 +1,17 @@
 -- The loop's invariant: the rows left to look at decide. The measure is their number. Assumes nothing.
 use borrow.Author.Needs.{needs}
 use Prim.Native.Nat.{_-_}
+use mathlib.Core.Logic.{⊎-elim}
 use native.Mathlib.Omega.{arith}
-use Rattle.table.proofs.Chains.{Passing, passing-begin, passing-here, passing-next, passing-end}
+use Rattle.table.proofs.Chains.{Passing, passing-begin, passing-here, passing-required, passing-next, passing-end}
 use Rattle.table.proofs.chain.behind.Statement.{statement}
 use Rattle.table.proofs.chain.behind.Tie as tie
 
 abbrev Inv-loop : tie.InvT-loop
-Inv-loop table from m tag i₀ i = Passing table from m tag i
+Inv-loop table from m tag first i₀ i = Passing table from m tag i
 
 abbrev μ-loop : tie.MeasureT-loop
-μ-loop table from m tag i₀ i = m - i
+μ-loop table from m tag first i₀ i = m - i
 
 pub behind-spec : {M : Type 1} → statement M
 behind-spec =
@@ -18,11 +19,12 @@ behind-spec =
     (tie.spec
     Inv-loop
     μ-loop
+    (λ c κs. search needs)  -- member-start-requires
     (λ c. search passing-begin)  -- loop-holds
-    (λ c κs. search needs)  -- is-above-requires
+    (λ c κs. (search needs, (search needs, omega arith)))  -- member-row-from-requires
     (λ c. search passing-here)  -- returns
     (λ c. omega arith)  -- add-i
     (λ c. omega arith)  -- loop-less
-    (λ c. search passing-next)  -- loop-again
+    (λ c. ⊎-elim (λ w. search passing-next) (λ w. search passing-required) (c .if1 .came))  -- loop-again
     (λ c. search needs)  -- add-result
     (λ c. search passing-end))  -- returns-2

@@ -22,7 +22,7 @@ struct-width-spec =
     (λ c. search widths-begin)  -- loop-holds
     (λ c. search (needs, widths-past))  -- returns
     (λ c κs. search needs)  -- member-row-requires
-    (λ c κs. search needs)  -- part-width-requires
+    (λ c κs. search needs)  -- width-below-requires
     (λ c. search (needs, widths-not))  -- returns-2
     (λ c. omega arith)  -- add-sum
     (λ c. omega arith)  -- add-m

@@ -1,0 +1,30 @@
+-- The loop's invariant: the members left to look at decide. The measure is their number. Assumes nothing.
+use Prim.Native.Nat.{_-_}
+use mathlib.Core.Logic.{⊎-elim}
+use native.Mathlib.Omega.{arith}
+use Rattle.table.proofs.Places.{member-placed}
+use Rattle.table.proofs.Chains.{Optionals, optionals-begin, optionals-here, optionals-required, optionals-other, optionals-end}
+use Rattle.table.proofs.chain.tag_member_in.Statement.{statement}
+use Rattle.table.proofs.chain.tag_member_in.Tie as tie
+
+abbrev Inv-loop : tie.InvT-loop
+Inv-loop table first end from tag m₀ m = Optionals table end from tag m
+
+abbrev μ-loop : tie.MeasureT-loop
+μ-loop table first end from tag m₀ m = end - m
+
+pub tag-member-in-spec : {M : Type 1} → statement M
+tag-member-in-spec =
+    tie.close
+    (tie.spec
+    Inv-loop
+    μ-loop
+    (λ c. search optionals-begin)  -- loop-holds
+    (λ c. omega arith)  -- mul-member-row-in
+    (λ c. omega arith)  -- add-member-row-in
+    (λ c κs. omega arith)  -- member-row-in-requires
+    (λ c. search (optionals-here, member-placed))  -- returns
+    (λ c. omega arith)  -- add-m
+    (λ c. omega arith)  -- loop-less
+    (λ c. ⊎-elim (λ w. search (optionals-other, member-placed _ _ _ _ (c .before .before .before .before .before .before .pre .0) (c .before .before .member-row-in .ensures))) (λ w. search (optionals-required, member-placed _ _ _ _ (c .before .before .before .before .before .before .pre .0) (c .before .before .member-row-in .ensures))) (c .if1 .came))  -- loop-again
+    (λ c. search optionals-end))  -- returns-2

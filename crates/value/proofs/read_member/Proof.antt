@@ -1,0 +1,26 @@
+-- By the shape of the row: any bytes, a string, a bool, an enum, or another value. Assumes nothing.
+use borrow.Author.Needs.{needs}
+use Rattle.value.proofs.CycleLaws.{row-wide, row-text, row-bool, row-enum}
+use Rattle.value.proofs.read_member.Statement.{statement}
+use Rattle.value.proofs.read_member.Tie as tie
+
+pub read-member-spec : {M : Type 1} → statement M
+read-member-spec =
+    tie.close
+    (tie.spec
+    (λ c κs. search needs)  -- width-requires
+    (λ c. search row-wide)  -- returns
+    (λ c κs. search needs)  -- is-text-requires
+    (λ c κs. search needs)  -- text-requires
+    (λ c. search row-text)  -- returns-2
+    (λ c κs. search needs)  -- is-bool-requires
+    (λ c κs. search needs)  -- bool-requires
+    (λ c. search row-bool)  -- returns-3
+    (λ c κs. search needs)  -- is-enum-requires
+    (λ c κs. search needs)  -- type-row-requires
+    (λ c. search needs)  -- mul-enumerator
+    (λ c. search needs)  -- add-enumerator
+    (λ c κs. search needs)  -- enumerator-requires
+    (λ c. search row-enum)  -- returns-4
+    (λ c κs. search needs)  -- read-value-requires
+    (λ c. search needs))  -- returns-5
