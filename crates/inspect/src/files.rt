@@ -13,10 +13,12 @@ pub enum Wanted {
     Wrong,
 }
 
+// Text on standard error.
 fn tell(s: &[u8]) {
     io::write_all(STDERR_FILENO, s);
 }
 
+// How the program is called.
 pub fn usage() {
     tell(b"usage: inspect TABLE TOP MESSAGE\n");
     tell(

@@ -1,6 +1,7 @@
 // Numbers, text and bytes on standard output.
 use libc::STDOUT_FILENO;
 
+// Bytes as they are.
 pub fn text(s: &[u8]) {
     io::write_all(STDOUT_FILENO, s);
 }
@@ -15,10 +16,12 @@ pub fn part(s: &[u8], a: usize, n: usize) {
     }
 }
 
+// The end of a line.
 pub fn line() {
     text(b"\n");
 }
 
+// A number in decimal.
 pub fn number(n: usize) {
     io::print_decimal(STDOUT_FILENO, n as u64);
 }

@@ -34,6 +34,7 @@ fn words(c: usize) {
     }
 }
 
+// A refusal as a line: its number, its place, what it means.
 pub fn head(c: usize, p: usize) {
     print::text(b"refused by ");
     print::number(c);
