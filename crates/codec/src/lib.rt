@@ -14,7 +14,6 @@ ghost use Rattle.encoding.specs.View.{viewing, seenBytes};
 ghost use Rattle.encoding.specs.Write.{writing, output, writingOf};
 use encoding::Reading;
 use encoding::Writing;
-use viewing::View;
 
 // The reader's answer with a lent list of `room` bytes; no list is touched.
 // Wrong and ruled out: an answer that is the same for every room; one that takes the bytes of the list for its rows.
@@ -50,26 +49,20 @@ pub fn read(table: &[u8], top: u32, message: &[u8], rows: &mut [u8]) -> Reading
     answer
 }
 
-// The member view: the very bytes of the message, or the whole fallback where the accepted message lacks the member; else an empty part of the fallback.
+// The member view: the member's part of the message; the whole fallback if the accepted message lacks the member; else an empty slice.
+// Message and fallback each have a lifetime of their own; the result lasts no longer than either.
+// The contract gives the content of the result, so it leaves open which slice an empty result is: an empty part of the message, of the fallback, or the empty fallback.
 // Wrong and ruled out: a view that returns the fallback on a refusal; one that returns the part one byte short.
-pub fn member<'a, 't>(
+pub fn member<'r, 'm: 'r, 'f: 'r, 't>(
     table: &'t [u8],
     top: u32,
-    message: &'a [u8],
+    message: &'m [u8],
     row: u32,
-    fallback: &'a [u8],
-) -> &'a [u8]
+    fallback: &'f [u8],
+) -> &'r [u8]
     ensures { λ r. ⌜ now r ≡ seenBytes (now (message .entry)) (now (fallback .entry)) (viewing (now (table .entry)) top (now (message .entry)) row) ⌝ }
 {
-    let v = viewing::look(table, top as usize, message, row as usize);
-    match v {
-        View::Part(p, n) => {
-            let e = p + n;
-            &message[p..e]
-        }
-        View::Fallback => fallback,
-        View::Nothing => &fallback[..0],
-    }
+    viewing::seen(table, top, message, row, fallback)
 }
 
 // The writer: rows and a buffer to a message of a type and format at the output's start; bytes of the output beyond the message stay, and on a refusal all of them.

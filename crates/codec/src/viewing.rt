@@ -5,7 +5,7 @@ ghost use Prim.Native.Nat.{_≤_};
 ghost use lib.ListN.{length};
 ghost use Rattle.encoding.specs.Table.{range};
 ghost use Rattle.encoding.specs.Write.{rowAt};
-ghost use Rattle.encoding.specs.View.{rowOf, viewing};
+ghost use Rattle.encoding.specs.View.{rowOf, viewing, seenBytes};
 ghost use Rattle.codec.specs.Told.{viewOf, Within};
 use reader::Walk;
 
@@ -48,5 +48,26 @@ pub fn look(table: &[u8], top: usize, message: &[u8], member: usize) -> View
             }
         }
         Walk::Stop(c, p) => View::Nothing,
+    }
+}
+
+// The bytes that the view hands back, with one lifetime for message and fallback.
+pub fn seen<'a, 't>(
+    table: &'t [u8],
+    top: u32,
+    message: &'a [u8],
+    row: u32,
+    fallback: &'a [u8],
+) -> &'a [u8]
+    ensures { λ r. ⌜ now r ≡ seenBytes (now (message .entry)) (now (fallback .entry)) (viewing (now (table .entry)) top (now (message .entry)) row) ⌝ }
+{
+    let v = look(table, top as usize, message, row as usize);
+    match v {
+        View::Part(p, n) => {
+            let e = p + n;
+            &message[p..e]
+        }
+        View::Fallback => fallback,
+        View::Nothing => &fallback[..0],
     }
 }
