@@ -18,8 +18,8 @@ use Rattle.encoding.specs.NumberLaws.{length-leBytes}
 use Rattle.encoding.specs.Slice.{sliced, compact, isSliced, worth, flagBits, anyOptional, dataBytes}
 use Rattle.wire.specs.Put.{put}
 use Rattle.writer.specs.declared.Laid.{Laid}
-use Rattle.writer.specs.Puts.{Puts}
-use Rattle.writer.specs.PutsLaws.{puts-none, puts-is, puts-number, puts-byte, puts-then, puts-under}
+use Rattle.pieces.specs.Puts.{Puts}
+use Rattle.pieces.specs.PutsLaws.{puts-none, puts-is, puts-number, puts-byte, puts-then, puts-under}
 use Rattle.writer.specs.Slices.{groupOf, sliceOf, formatBy, idField, frontField, sliceField, Judges, RowsPut, DataPut, SlicePut}
 
 -- ---- the data

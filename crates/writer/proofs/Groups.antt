@@ -15,15 +15,15 @@ use Rattle.encoding.specs.Optional.{Piece, pieceBytes, isOptional}
 use Rattle.encoding.specs.Slice.{anyOptional}
 use Rattle.encoding.specs.Table.{base}
 use Rattle.encoding.specs.Write.{State, stop, anyOf}
-use Rattle.writer.specs.declared.Cursor.{Cursor}
-use Rattle.writer.specs.declared.Placed.{Placed}
-use Rattle.writer.specs.declared.Placed.the-variants.{Row, Stop, Wrong}
-use Rattle.writer.specs.Cursors.{dueFrom, start, stateOf}
-use Rattle.writer.specs.Judged.{verdictFrom, verdictAbove, Gives}
-use Rattle.writer.specs.JudgedLaws.{gives-then, verdict-right, verdict-wrong, verdict-due, leave-row, leave-end}
-use Rattle.writer.specs.Puts.{Leaves}
-use Rattle.writer.specs.PutsLaws.{leaves-begin, leaves-next, leaves-end}
-use Rattle.writer.specs.Pieces.{pieceAt, grown, group, RowLaid, RowPut}
+use Rattle.pieces.specs.declared.Cursor.{Cursor}
+use Rattle.pieces.specs.declared.Placed.{Placed}
+use Rattle.pieces.specs.declared.Placed.the-variants.{Row, Stop, Wrong}
+use Rattle.pieces.specs.Cursors.{dueFrom, start, stateOf}
+use Rattle.pieces.specs.Judged.{verdictFrom, verdictAbove, Gives}
+use Rattle.pieces.specs.JudgedLaws.{gives-then, verdict-right, verdict-wrong, verdict-due, leave-row, leave-end}
+use Rattle.pieces.specs.Puts.{Leaves}
+use Rattle.pieces.specs.PutsLaws.{leaves-begin, leaves-next, leaves-end}
+use Rattle.pieces.specs.Pieces.{pieceAt, grown, group, RowLaid, RowPut}
 use Rattle.writer.specs.Slices.{groupOf, RowsPut}
 use Rattle.writer.specs.Gathers.{gone-none}
 

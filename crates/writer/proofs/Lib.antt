@@ -1,8 +1,4 @@
 -- Laws that several proofs cite.
-pub mod Reaches
-pub mod Parts
-pub mod Judges
-pub mod Fields
 pub mod Groups
 pub mod Names
 pub mod Fronts

@@ -15,8 +15,8 @@ use Rattle.encoding.specs.Table.{field, nameOf}
 use Rattle.table.specs.Names.{nameStart}
 use Rattle.table.specs.NamesLaws.{name-part, length-name}
 use Rattle.wire.specs.Put.{put}
-use Rattle.writer.specs.Puts.{Puts}
-use Rattle.writer.specs.PutsLaws.{puts-one, puts-none, puts-size, puts-then}
+use Rattle.pieces.specs.Puts.{Puts}
+use Rattle.pieces.specs.PutsLaws.{puts-one, puts-none, puts-size, puts-then}
 use Rattle.writer.specs.Slices.{idField}
 
 pub name-few : (T : List ℕ) (o n most : ℕ) → n ≡ length (nameOf T o) → most ≡ field T o 4 → n ≤ most

@@ -22,11 +22,11 @@ use Rattle.wire.specs.Put.{put}
 use Rattle.writer.specs.declared.Laid.{Laid}
 use Rattle.writer.specs.declared.Put.{Put}
 use Rattle.writer.specs.declared.Put.the-variants.{Made, Wrong}
-use Rattle.writer.specs.Cursors.{start, stateOf}
-use Rattle.writer.specs.Judged.{verdictFrom, verdictAbove, Gives}
-use Rattle.writer.specs.JudgedLaws.{gives-then}
-use Rattle.writer.specs.Puts.{Puts, Leaves}
-use Rattle.writer.specs.PutsLaws.{puts-is, puts-number, puts-byte, puts-then, puts-under, leaves-begin, leaves-next, leaves-end}
+use Rattle.pieces.specs.Cursors.{start, stateOf}
+use Rattle.pieces.specs.Judged.{verdictFrom, verdictAbove, Gives}
+use Rattle.pieces.specs.JudgedLaws.{gives-then}
+use Rattle.pieces.specs.Puts.{Puts, Leaves}
+use Rattle.pieces.specs.PutsLaws.{puts-is, puts-number, puts-byte, puts-then, puts-under, leaves-begin, leaves-next, leaves-end}
 use Rattle.writer.specs.Slices.{groupOf, sliceOf, slicesFrom, formatBy, idField, frontField, sliceField, RowsPut, SlicePut}
 use Rattle.writer.specs.Messages.{contentsOf, AllPut}
 

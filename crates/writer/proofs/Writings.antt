@@ -24,10 +24,10 @@ use Rattle.wire.specs.PutLaws.{put-front}
 use Rattle.writer.specs.declared.Outcome.the-variants.{Made as Told, Stopped}
 use Rattle.writer.specs.declared.Put.{Put}
 use Rattle.writer.specs.declared.Put.the-variants.{Made, Wrong}
-use Rattle.writer.specs.Cursors.{start, stateOf}
-use Rattle.writer.specs.Judged.{verdictFrom}
-use Rattle.writer.specs.JudgedLaws.{gives-all}
-use Rattle.writer.specs.Puts.{Puts}
+use Rattle.pieces.specs.Cursors.{start, stateOf}
+use Rattle.pieces.specs.Judged.{verdictFrom}
+use Rattle.pieces.specs.JudgedLaws.{gives-all}
+use Rattle.pieces.specs.Puts.{Puts}
 use Rattle.writer.specs.Slices.{formatBy}
 use Rattle.writer.specs.Messages.{contentsOf, AllPut, written, outcomeOf}
 use Rattle.writer.specs.MessagesLaws.{written-few, written-wrong, written-right, format-is}

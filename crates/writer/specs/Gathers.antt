@@ -24,11 +24,11 @@ use Rattle.encoding.specs.Optional.{Piece, pieceBytes}
 use Rattle.encoding.specs.Slice.{Format, first, Slice, known, slicesBytes}
 use Rattle.encoding.specs.Message.{Row, list, exception, class, encode}
 use Rattle.encoding.specs.Write.{Out, out, stop, next, State, above, begin, Reached, reachDue, optionalRow, orAbove, entered, reachMay, reach, stillDue, Given, given, partOf, judge, prepend, judgeAll, piecesOf, slicesOf, gathered, rowAt}
-use Rattle.writer.specs.declared.Cursor.{Cursor}
-use Rattle.writer.specs.Cursors.{bases, start, stateOf, Gone}
-use Rattle.writer.specs.CursorsLaws.{due-begin, reach-end, reach-above}
-use Rattle.writer.specs.JudgedLaws.{judged-up}
-use Rattle.writer.specs.Pieces.{hereOf, Taken, takenOf, pieceAt, grown, group}
+use Rattle.pieces.specs.declared.Cursor.{Cursor}
+use Rattle.pieces.specs.Cursors.{bases, start, stateOf, Gone}
+use Rattle.pieces.specs.CursorsLaws.{due-begin, reach-end, reach-above}
+use Rattle.pieces.specs.JudgedLaws.{judged-up}
+use Rattle.pieces.specs.Pieces.{hereOf, Taken, takenOf, pieceAt, grown, group}
 use Rattle.writer.specs.Slices.{groupOf, sliceOf, slicesFrom}
 use Rattle.writer.specs.Messages.{contentsOf}
 

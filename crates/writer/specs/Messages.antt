@@ -19,9 +19,9 @@ use Rattle.writer.specs.declared.Outcome.{Outcome}
 use Rattle.writer.specs.declared.Outcome.the-variants.{Made, Stopped}
 use Rattle.writer.specs.declared.Put.{Put}
 use Rattle.writer.specs.declared.Put.the-variants.{Made as PutMade, Wrong}
-use Rattle.writer.specs.Cursors.{start, stateOf}
-use Rattle.writer.specs.Judged.{verdictFrom, Gives}
-use Rattle.writer.specs.Puts.{Puts}
+use Rattle.pieces.specs.Cursors.{start, stateOf}
+use Rattle.pieces.specs.Judged.{verdictFrom, Gives}
+use Rattle.pieces.specs.Puts.{Puts}
 use Rattle.writer.specs.Slices.{groupOf, slicesFrom}
 
 -- a parameter list, a class instance behind its marker, or an exception

@@ -19,8 +19,8 @@ use Rattle.encoding.specs.TableLaws.{chain-row}
 use Rattle.encoding.specs.Slice.{compact, sliced}
 use Rattle.encoding.specs.Message.{encode, encapsulate}
 use Rattle.encoding.specs.Write.{Out, out, stop, next, begin, above, Given, judgeAll, gathered, formatOf, bounded, rowAt, tableRules, early, unless, rowsGiven, message, writing}
-use Rattle.writer.specs.Cursors.{start, stateOf}
-use Rattle.writer.specs.Judged.{verdictOf, verdictFrom}
+use Rattle.pieces.specs.Cursors.{start, stateOf}
+use Rattle.pieces.specs.Judged.{verdictOf, verdictFrom}
 use Rattle.writer.specs.Slices.{formatBy}
 use Rattle.writer.specs.Messages.{contentsOf, written}
 use Rattle.writer.specs.Gathers.{begin-is, contents-are}

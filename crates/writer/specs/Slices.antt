@@ -20,10 +20,10 @@ use Rattle.encoding.specs.Optional.{Piece, pieceBytes}
 use Rattle.encoding.specs.Slice.{Format, compact, sliced, isSliced, Slice, known, anyOptional, dataBytes, flagBits}
 use Rattle.encoding.specs.Write.{stop}
 use Rattle.writer.specs.declared.Laid.{Laid}
-use Rattle.writer.specs.Cursors.{start, stateOf}
-use Rattle.writer.specs.Judged.{verdictFrom, verdictAbove, Gives}
-use Rattle.writer.specs.Puts.{Puts}
-use Rattle.writer.specs.Pieces.{group}
+use Rattle.pieces.specs.Cursors.{start, stateOf}
+use Rattle.pieces.specs.Judged.{verdictFrom, verdictAbove, Gives}
+use Rattle.pieces.specs.Puts.{Puts}
+use Rattle.pieces.specs.Pieces.{group}
 
 unfoldable pub groupOf : List ℕ → List ℕ → List ℕ → ℕ → ℕ → ℕ → List Piece
 groupOf T rows buffer count o i = group T rows buffer (stateOf T (start o)) i (count - i)

@@ -1,12 +1,8 @@
-// Rows to a message. Each function equals its definition on any table, rows, buffer and output.
-// One pass judges the rows and puts the message. Where a second one is due, `judged` says that the parts of the rows were judged, and they are not judged again.
-// rows.rt reads the row bytes, state.rt says which member of an owner a row gives,
-// piece.rt judges a row and puts its member, slice.rt does so for the rows of an owner and puts its slice, message.rt for all owners.
+// The whole message from its rows. Each function equals its definition on any table, rows, buffer and output.
+// One pass checks the rows and puts the message. On a second pass `judged` is true: the bytes of the rows were checked before and are not checked again.
+// slice.rt puts the rows of an owner and its slice, message.rt the slices of all owners.
 pub mod message;
-pub mod piece;
-pub mod rows;
 pub mod slice;
-pub mod state;
 
 ghost use mathlib.Core.Path.{_≡_};
 ghost use Prim.Native.Nat.{_≤_, _<_};
@@ -14,36 +10,6 @@ ghost use lib.ListN.{length};
 ghost use Rattle.encoding.specs.Write.{output};
 ghost use Rattle.table.specs.Shapes.{shapesOf};
 ghost use Rattle.writer.specs.Messages.{written, outcomeOf};
-
-// Where the rows stand: the owner, how many of its member rows are passed, and the least tag that may come.
-pub struct Cursor {
-    pub owner: usize,
-    pub passed: usize,
-    pub least: usize,
-}
-
-// A row's three numbers: its member row, and the place and length of its part of the buffer.
-pub struct RowNumbers {
-    pub member: usize,
-    pub place: usize,
-    pub len: usize,
-}
-
-// What an owner answers of a member row: a required member that is due, or an optional one, and where the rows stand behind it;
-// none of this owner, so one of an owner above may come; or none at all, since another required member is due.
-pub enum Reach {
-    Due(Cursor),
-    May(Cursor),
-    Above,
-    Nothing,
-}
-
-// A row was put: where the rows stand then, where its bytes end, whether it is an optional one; or it is none of this owner; or the number of its refusal.
-pub enum Placed {
-    Row(Cursor, usize, bool),
-    Stop,
-    Wrong(usize),
-}
 
 // Where the bytes put end, the next row, whether an optional member was put, and the number of the refusal at that row or 0.
 pub struct Laid {

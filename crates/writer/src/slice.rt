@@ -1,16 +1,16 @@
 // Judges and puts the rows of an owner, and its slice.
-use crate::Cursor;
 use crate::Laid;
-use crate::Placed;
-use crate::piece;
-use crate::state;
+use pieces::Cursor;
+use pieces::Placed;
+use pieces::piece;
+use pieces::state;
 ghost use mathlib.Core.Path.{_≡_};
 ghost use Prim.Native.Nat.{_+_, _≤_, _<_};
 ghost use lib.ListN.{length};
 ghost use Rattle.encoding.specs.Result.{pick};
 ghost use Rattle.encoding.specs.Table.{nameOf};
 ghost use Rattle.table.specs.Shapes.{shapesOf};
-ghost use Rattle.writer.specs.Puts.{Puts};
+ghost use Rattle.pieces.specs.Puts.{Puts};
 ghost use Rattle.writer.specs.Slices.{formatBy, idField, frontField, RowsPut, DataPut, SlicePut};
 
 // Judges and puts the rows of owner o from row `first` on.

@@ -1,0 +1,15 @@
+-- As much of the part as the buffer has is put. Assumes nothing.
+use borrow.Author.Needs.{needs}
+use Rattle.pieces.proofs.Fields.{content-put}
+use Rattle.pieces.proofs.piece.put_content.Statement.{statement}
+use Rattle.pieces.proofs.piece.put_content.Tie as tie
+
+pub put-content-spec : {M : Type 1} → statement M
+put-content-spec =
+    tie.close
+    (tie.spec
+    (λ c κs. search needs)  -- put-part-requires
+    (λ c κs. search needs)  -- part-len-requires
+    (λ c. search needs)  -- add-result
+    (λ c. search needs)  -- same-length
+    (λ c. search (needs, content-put)))  -- returns

@@ -1,0 +1,163 @@
+// Judges one row and puts its member: its header, its length field, its bytes.
+use crate::Cursor;
+use crate::Placed;
+use crate::Reach;
+use crate::RowNumbers;
+use crate::rows;
+use crate::state;
+ghost use mathlib.Core.Path.{_≡_};
+ghost use Prim.Native.Nat.{_+_, _≤_, _<_};
+ghost use lib.ListN.{length};
+ghost use Rattle.encoding.specs.Result.{pick};
+ghost use Rattle.encoding.specs.Table.{tyOf};
+ghost use Rattle.encoding.specs.Write.{partOf};
+ghost use Rattle.table.specs.Shapes.{shapesOf};
+ghost use Rattle.pieces.specs.Puts.{Puts};
+ghost use Rattle.pieces.specs.Judged.{partForm};
+ghost use Rattle.pieces.specs.Pieces.{rowOf, headerField, formBits, lengthField, optionalField, RowPut};
+
+// Puts the bytes of a row, and gives their end.
+fn put_content(out: &mut [u8], at: usize, row: RowNumbers, buffer: &[u8]) -> usize
+    requires { ⌜ (at ≤ 1152921504606847000) × (length (now buffer) ≤ 65536) ⌝ }
+    ensures { λ r. ⌜ Puts at (partOf (now (buffer .entry)) (rowOf row)) (now (out .entry)) (now (out .exit)) r × (r ≤ at + length (now (buffer .entry))) ⌝ }
+{
+    wire::put_part(out, at, buffer, row.place, row.len);
+    at + rows::part_len(row, buffer)
+}
+
+// Puts an optional's header, and gives its end.
+fn put_header(out: &mut [u8], at: usize, tag: usize, kind: usize) -> usize
+    requires { ⌜ (at ≤ 1152921504606846976) × (kind < 8) ⌝ }
+    ensures { λ r. ⌜ Puts at (headerField tag kind) (now (out .entry)) (now (out .exit)) r × (r ≤ at + 6) ⌝ }
+{
+    if tag < 30 {
+        wire::put_number(out, at, 1, wire::header_bits(tag, kind));
+        return at + 1;
+    }
+    wire::put_number(out, at, 1, wire::header_bits(30, kind));
+    wire::put_size(out, at + 1, tag);
+    at + 1 + wire::size_len(tag)
+}
+
+// The type bits in the header of a form.
+fn form_bits(form: usize) -> usize
+    ensures { λ r. ⌜ (r ≡ formBits form) × (r < 8) ⌝ }
+{
+    if form < 8 {
+        return form;
+    }
+    if form < 10 {
+        return 5;
+    }
+    6
+}
+
+// Puts the length field of a form, if it has one, and gives its end.
+fn put_length(out: &mut [u8], at: usize, form: usize, n: usize) -> usize
+    requires { ⌜ at ≤ 1152921504606846990 ⌝ }
+    ensures { λ r. ⌜ Puts at (lengthField form n) (now (out .entry)) (now (out .exit)) r × (r ≤ at + 5) ⌝ }
+{
+    if form < 9 {
+        return at;
+    }
+    if form == 9 {
+        wire::put_size(out, at, n);
+        return at + wire::size_len(n);
+    }
+    wire::put_number(out, at, 4, n);
+    at + 4
+}
+
+// 20 where a row's part lies outside the buffer, 21 where it isn't exactly a value of type row t, else 0; and 0 where it was judged before.
+fn part_form(
+    table: &[u8],
+    shapes: &[u8; 256],
+    t: usize,
+    judged: bool,
+    row: RowNumbers,
+    buffer: &[u8],
+) -> usize
+    requires { ⌜ now shapes ≡ shapesOf (now table) ⌝ }
+    requires { ⌜ length (now buffer) ≤ 65536 ⌝ }
+    ensures { λ r. ⌜ r ≡ pick judged 0 (partForm (now (buffer .entry)) (rowOf row) (tyOf (now (table .entry)) t)) ⌝ }
+{
+    if judged {
+        return 0;
+    }
+    let place = row.place;
+    let len = row.len;
+    if wire::fits(buffer.len(), place, len) {
+        let e = place + len;
+        if value::exact_value(table, shapes, t, &buffer[place..e]) {
+            return 0;
+        }
+        return 21;
+    }
+    20
+}
+
+// Puts a row as an optional of a tag and form, and gives its end.
+fn put_optional(
+    out: &mut [u8],
+    at: usize,
+    tag: usize,
+    form: usize,
+    row: RowNumbers,
+    buffer: &[u8],
+) -> usize
+    requires { ⌜ (at ≤ 1152921504606846976) × (length (now buffer) ≤ 65536) ⌝ }
+    ensures { λ r. ⌜ Puts at (optionalField tag form (partOf (now (buffer .entry)) (rowOf row))) (now (out .entry)) (now (out .exit)) r × (r ≤ at + 11 + length (now (buffer .entry))) ⌝ }
+{
+    let a = put_header(out, at, tag, form_bits(form));
+    let b = put_length(out, a, form, rows::part_len(row, buffer));
+    put_content(out, b, row, buffer)
+}
+
+// Judges row i, each 20 then 21, and puts it, if it is a member of the owner where the rows stand. A part judged before is not judged again.
+pub fn put_row(
+    table: &[u8],
+    shapes: &[u8; 256],
+    out: &mut [u8],
+    at: usize,
+    from: Cursor,
+    judged: bool,
+    rows: &[u8],
+    i: usize,
+    buffer: &[u8],
+) -> Placed
+    requires { ⌜ now shapes ≡ shapesOf (now table) ⌝ }
+    requires { ⌜ (at ≤ 1152921504606846976) × (i < 4294967296) × (from .passed ≤ 65536) × (length (now buffer) ≤ 65536) ⌝ }
+    ensures { λ r. ⌜ RowPut (now (table .entry)) (now (rows .entry)) (now (buffer .entry)) judged from i at (now (out .entry)) (now (out .exit)) r ⌝ }
+{
+    let row = rows::row_at(rows, i);
+    let r = state::reach_in(table, from, row.member);
+    match r {
+        Reach::Due(c) => {
+            let t = table::type_of_member(table, row.member);
+            let fault = part_form(table, shapes, t, judged, row, buffer);
+            if fault != 0 {
+                return Placed::Wrong(fault);
+            }
+            let end = put_content(out, at, row, buffer);
+            Placed::Row(c, end, false)
+        }
+        Reach::May(c) => {
+            let t = table::type_of_member(table, row.member);
+            let fault = part_form(table, shapes, t, judged, row, buffer);
+            if fault != 0 {
+                return Placed::Wrong(fault);
+            }
+            let end = put_optional(
+                out,
+                at,
+                c.least - 1,
+                table::shapes::form(shapes, t),
+                row,
+                buffer,
+            );
+            Placed::Row(c, end, true)
+        }
+        Reach::Above => Placed::Stop,
+        Reach::Nothing => Placed::Wrong(20),
+    }
+}
