@@ -192,7 +192,7 @@ own-here T a b q this m e r k t =
     let s : m .row ≡ a = ap (λ (x : Member). x .row) (sym e) ∙ r in
     record { from = omega arith; to = omega arith; marked = ap (λ (x : ℕ). eqb (mark T x) 0) s ∙ k; tagged = λ f. ap (λ (x : Member). x .key) (sym e) ∙ t f ∙ ap (tag T) (sym s) }
 
-required-among : (T : List ℕ) (l : List Ty) (i k a b : ℕ) (m : Member) → lookup k (requiredOf T l i (range a b)) ≡ some m → Own T a b true m
+pub required-among : (T : List ℕ) (l : List Ty) (i k a b : ℕ) (m : Member) → lookup k (requiredOf T l i (range a b)) ≡ some m → Own T a b true m
 unfolding requiredOf range lookup
 required-among T l i k a zero m h = let z : _≡_ {A = ℕ} 0 1 = cc in absurd (omega arith)
 required-among T l i k a (suc b) m h =

@@ -14,6 +14,7 @@
 --   NewerRead      demand 3: an old table accepts what a new one that extends it accepts, and lists the rows of the members that it knows
 --   NewerRefused   the one exception of demand 3
 --   NewerReading   demand 3 of the reader's answer, given room
+--   OneCounterpart, NewerThere   a new member has at most one match in the old table; demand 3 speaks of some message
 use mathlib.Core.Path.{_≡_}
 use mathlib.Core.List.{List, [], _∷_, _++_, map}
 use mathlib.Core.Option.{none}
@@ -25,9 +26,9 @@ use Rattle.encoding.specs.Result.{ok, bad, concat}
 use Rattle.encoding.specs.NumberLaws.{Bytes}
 use Rattle.encoding.specs.Types.{Ty}
 use Rattle.encoding.specs.Value.{exact}
-use Rattle.encoding.specs.Table.{fine, faults, memberTy, trees, named, any, chain, range}
-use Rattle.encoding.specs.Slice.{Format, compact, formatNumber, Slice, known, passed, idOf}
-use Rattle.encoding.specs.Message.{Pieces, list, exception, class, Read, encode, encapsulate, noTop, limit, rules, Row, rows, rowBytes, firstKnown, optionalsSkipped, slicesSkipped, answer, reading, room}
+use Rattle.encoding.specs.Table.{types, fine, faults, memberTy, trees, named, any, chain, range}
+use Rattle.encoding.specs.Slice.{Format, compact, sliced, formatNumber, Slice, known, passed, idOf}
+use Rattle.encoding.specs.Message.{Pieces, list, exception, class, Read, encode, encapsulate, noTop, limit, rules, Row, rows, rowBytes, firstKnown, optionalsSkipped, slicesSkipped, answer, reading, room, readingOf, readingNumbers}
 use Rattle.encoding.specs.Write.{Right, Out, out, stop, above, begin, Given, partOf, judgeAll, rowAt, message, writing}
 use Rattle.encoding.specs.Conform.{Conform}
 use Rattle.encoding.specs.Extends.{Extends, TopsMatch, Counterpart}
@@ -262,3 +263,21 @@ NewerReading =
     → ((place : ℕ) → Foreign old f p place → ⊥) → (lent lent′ : ℕ)
     → length (answer old top (rules old top m) .rows) ≤ room lent → length (answer new top′ (rules new top′ m) .rows) ≤ room lent′
     → (reading old top m lent .refusal ≡ 0) × Kept old new top top′ (reading new top′ m lent′ .rows) (reading old top m lent .rows)
+
+-- a member of the new table matches at most one member of the old one, so the rows that are kept are fixed
+abbrev pub OneCounterpart : Type 0
+OneCounterpart =
+    (old new : List ℕ) (top top′ : ℕ) → Extends old new → top′ < types new → (m m′ n : ℕ)
+    → Counterpart old new top top′ m n → Counterpart old new top top′ m′ n → m ≡ m′
+
+-- there is a message that demand 3 speaks of, and the old table lists a member of it and skips a slice
+-- Rules out a demand 3 that holds because nothing extends anything.
+pub record NewerThere : Type 0 where
+  pub old : List ℕ
+  pub new : List ℕ
+  pub sent : List ℕ
+  pub pieces : Pieces
+  pub newer : Newer old new 1 1 sent sliced pieces
+  pub by-new : readingNumbers (readingOf (reading new 1 sent 12)) ≡ 0 ∷ 0 ∷ 2 ∷ 1 ∷ 1 ∷ 0 ∷ 0 ∷ []
+  pub by-old : readingNumbers (readingOf (reading old 1 sent 12)) ≡ 0 ∷ 0 ∷ 1 ∷ 1 ∷ 1 ∷ 0 ∷ 1 ∷ []
+  pub understood : Understood old new 1 1 sent sliced pieces

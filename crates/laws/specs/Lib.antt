@@ -17,7 +17,9 @@ pub mod RecordNewer
 pub mod SliceNewer
 pub mod LoseLaws
 pub mod RowsNewer
+pub mod CounterpartsOne
 pub mod MessageNewer
+pub mod Witness
 pub mod PlanLaws
 pub mod PlanRules
 pub mod MessageWritten

@@ -1,5 +1,5 @@
 -- Every promise of `Demands`, with its proof.
-use Rattle.laws.specs.Demands.{Exact, ExactRows, ExactCounts, ExactValues, ReadBack, WriteAgain, OneMessage, RightLists, WrongBytes, RightWritten, TooLong, NewerRead, NewerRefused, NewerReading}
+use Rattle.laws.specs.Demands.{Exact, ExactRows, ExactCounts, ExactValues, ReadBack, WriteAgain, OneMessage, RightLists, WrongBytes, RightWritten, TooLong, NewerRead, NewerRefused, NewerReading, OneCounterpart, NewerThere}
 use Rattle.laws.specs.MessageExact.{exact-message, exact-rows}
 use Rattle.laws.specs.CountsExact.{exact-counts-from}
 use Rattle.laws.specs.ValueExact.{exact-values}
@@ -8,6 +8,8 @@ use Rattle.laws.specs.WriteBack.{read-back}
 use Rattle.laws.specs.WriteAgain.{write-again, one-message}
 use Rattle.laws.specs.RightLists.{right-lists, wrong-bytes, right-written}
 use Rattle.laws.specs.MessageNewer.{newer-read, newer-refused, newer-reading}
+use Rattle.laws.specs.CounterpartsOne.{one-counterpart}
+use Rattle.laws.specs.Witness.{newer-there}
 
 pub record Promises : Type 0 where
   pub exact : Exact
@@ -24,6 +26,8 @@ pub record Promises : Type 0 where
   pub newer : NewerRead
   pub newer-exception : NewerRefused
   pub newer-answer : NewerReading
+  pub counterparts : OneCounterpart
+  pub newer-some : NewerThere
 
 pub promises : Promises
 promises = record {
@@ -41,4 +45,6 @@ promises = record {
   newer = newer-read;
   newer-exception = newer-refused;
   newer-answer = newer-reading;
+  counterparts = one-counterpart;
+  newer-some = newer-there;
 }

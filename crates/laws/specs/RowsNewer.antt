@@ -1,6 +1,7 @@
 -- The rows of a newer message under an old table: those of the members that it knows, at the same places.
 --
 --   Owners old new top top′ t u                        owners that match, the old one alone for the new one
+--   owner-there, match-own, counterpart-owner          the new owner of matching members takes the new member's row, and is the only one
 --   pieces-kept                                        the rows of one owner
 --   slices-kept                                        the rows of a chain
 use mathlib.Core.Path.{_≡_, refl, sym, ap, ap₂, _∙_, subst, subst₂}
@@ -43,16 +44,16 @@ pub record Owners (old new : List ℕ) (top top′ t u : ℕ) : Type 0 where
   pub only : (o : ℕ) → SameOwner old new top top′ o u → o ≡ t
 
 module _ (old new : List ℕ) (X : Extends old new) (top top′ : ℕ) (top-there : top′ < types new) where
-  owner-there : {o o′ : ℕ} → SameOwner old new top top′ o o′ → (o′ < types new) × (owns (kind new o′) ≡ true)
+  pub owner-there : {o o′ : ℕ} → SameOwner old new top top′ o o′ → (o′ < types new) × (owns (kind new o′) ≡ true)
   owner-there {o′ = o′} (as-records l S) = (S .inside, owns-record (kind new o′) (new-record S))
   owner-there (as-tops e f k k′) = (subst (λ (x : ℕ). x < types new) (sym f) top-there, rw k′)
 
-  match-own : {t u : ℕ} {m n : Member} → MembersMatch old new t u m n → (q : Bool) × Own new (field new u 0) (field new u 1) q n
+  pub match-own : {t u : ℕ} {m n : Member} → MembersMatch old new t u m n → (q : Bool) × Own new (field new u 0) (field new u 1) q n
   match-own {u = u} {m = m} {n = n} (both-required a b) = (true, required-own new u (m .key) n b)
   match-own {u = u} {m = m} {n = n} (both-optional a b) = (false, optional-own new u (m .key) n b)
 
-  -- a counterpart of a member row stands under the row's owner
-  counterpart-owner : (u : ℕ) → u < types new → owns (kind new u) ≡ true → (q : Bool) (n : Member) → Own new (field new u 0) (field new u 1) q n
+  -- a counterpart of a member row is under the row's owner
+  pub counterpart-owner : (u : ℕ) → u < types new → owns (kind new u) ≡ true → (q : Bool) (n : Member) → Own new (field new u 0) (field new u 1) q n
       → (m : ℕ) (C : Counterpart old new top top′ m (n .row)) → C .owner′ ≡ u
   counterpart-owner u l o q n O m C =
       let A = owner-there (C .owners) in
