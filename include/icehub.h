@@ -32,6 +32,12 @@
 extern "C" {
 #endif
 
+/* The version of this header and of the library that it comes with. */
+#define ICEHUB_VERSION "0.1.0"
+#define ICEHUB_VERSION_MAJOR 0
+#define ICEHUB_VERSION_MINOR 1
+#define ICEHUB_VERSION_PATCH 0
+
 enum {
     ICEHUB_ROW_SIZE = 12,      /* bytes of one row */
     ICEHUB_MOST_ROWS = 1024,   /* no message has more rows */
@@ -54,53 +60,55 @@ enum icehub_format {
 enum icehub_refusal {
     /* Not refused. */
     ICEHUB_OK = 0,
-    /* table breaks a rule. Place: 0 or the row's first byte. */
+    /* the table breaks a rule. Place: 0 or the row's first byte, in the table. */
     ICEHUB_BAD_TABLE = 1,
-    /* type not in the table or below kind 13. Place: 0. */
+    /* the type is not in the table, or is no exception, class or parameter list. Place: 0. */
     ICEHUB_BAD_TYPE = 2,
-    /* input or writer's buffer over 65,536 bytes. Place: 0. */
+    /* the message, or the writer's buffer, is over 65,536 bytes long. Place: 0. */
     ICEHUB_INPUT_TOO_LONG = 3,
-    /* item or declared length runs past what holds it. Place: its first byte. */
+    /* an item or a declared length runs past what holds it. Place: its first byte. */
     ICEHUB_CUT_OFF = 4,
-    /* encapsulation size under 6 or not the input's length. Place: 0. */
+    /* the encapsulation's size is under 6 or not the message's length. Place: 0. */
     ICEHUB_BAD_OUTER_SIZE = 5,
-    /* version not 1.1. Place: 4. */
+    /* the encoding's version is not 1.1. Place: 4. */
     ICEHUB_BAD_VERSION = 6,
-    /* size form: a long form below 255, or a negative int. Place: the 255. */
+    /* a size below 255 in the long form, or a negative size. Place: the byte 255 of the size. */
     ICEHUB_BAD_SIZE = 7,
-    /* bool other than 0 or 1. Place: its byte. */
+    /* a bool is neither 0 nor 1. Place: its byte. */
     ICEHUB_BAD_BOOL = 8,
-    /* enumerator too great. Place: its size. */
+    /* an enumerator is too great. Place: its size. */
     ICEHUB_BAD_ENUMERATOR = 9,
-    /* proxy: identity, facet, mode. Place: identity, facet size, mode byte. */
+    /* a proxy's identity, facet count or mode is wrong. Place: the identity, the facet count or the mode byte. */
     ICEHUB_BAD_PROXY = 10,
-    /* declared length below its least (FSize 1, slice 4, endpoint 6; negative too) or not used up.
-     * Place: the length. */
+    /* a declared length is below its least (FSize 1, slice 4, endpoint 6), negative, or not used up. Place: the
+     * length. */
     ICEHUB_BAD_LENGTH = 11,
-    /* optional header: five bits 31 other than the end marker, or 255 in a parameter list; long tag under 30;
-     * tag not rising; known tag, wrong type. Place: header. */
+    /* an optional's header is wrong: upper bits 31 where no end marker may be, a long tag under 30, a tag that does
+     * not rise, or another type than the table's. Place: the header. */
     ICEHUB_BAD_HEADER = 12,
-    /* Class optional, bit 3, ID form 2 or 3, marker other than 1. Place: its byte. */
+    /* an optional of a class, an indirection table, a type ID that is no string, or a class marker other than 1.
+     * Place: its byte. */
     ICEHUB_NOT_COVERED = 13,
-    /* flags: bits 6-7, format mixed or ID missing, bit 2 with no optional. Place: flags. */
+    /* a slice's flags are wrong: bit 6 or 7 set, formats mixed, the type ID missing, or bit 2 set with no optional.
+     * Place: the flags. */
     ICEHUB_BAD_FLAGS = 14,
-    /* compact, first type ID unknown. Place: type ID. */
+    /* the first type ID of a compact record is not in the table. Place: the type ID. */
     ICEHUB_UNKNOWN_COMPACT = 15,
-    /* sliced, last slice reached, none known. Place: its flags. */
+    /* no type ID of a sliced record is in the table. Place: the last slice's flags. */
     ICEHUB_UNKNOWN_SLICED = 16,
-    /* chain or bit 5 disagrees with the table. Place: flags. */
+    /* the slices, or their last bit, do not follow the table's bases. Place: the flags. */
     ICEHUB_BAD_CHAIN = 17,
-    /* bytes after the record. Place: first such. */
+    /* bytes follow the record. Place: the first of them. */
     ICEHUB_LEFT_OVER = 18,
-    /* list too short. Place: rows needed. */
+    /* the lent list is too short. Place: the number of rows needed. */
     ICEHUB_LIST_TOO_SHORT = 19,
-    /* writer: row wrong, missing, out of order or outside. Place: row number. */
+    /* writer: a row is wrong, missing, out of order or outside the buffer. Place: the row's number. */
     ICEHUB_BAD_ROW = 20,
-    /* writer: bytes aren't exactly that type's. Place: row number. */
+    /* writer: the bytes are not exactly a value of the member's type. Place: the row's number. */
     ICEHUB_BAD_ROW_BYTES = 21,
-    /* output over 65,536 or its room. Place: bytes needed. */
+    /* the output is longer than its room or 65,536 bytes. Place: the number of bytes needed. */
     ICEHUB_OUTPUT_TOO_LONG = 22,
-    /* format not 0 or 1, or 0 for a parameter list. Place: 0. */
+    /* the format is not 0 or 1, or is 0 for a parameter list. Place: 0. */
     ICEHUB_BAD_FORMAT = 23
 };
 
@@ -177,6 +185,146 @@ uint32_t icehub_write_place(const uint8_t *table, size_t table_len, uint32_t typ
 uint32_t icehub_write_length(const uint8_t *table, size_t table_len, uint32_t type, uint32_t format, uint32_t count,
                              const uint8_t *rows, size_t rows_len, const uint8_t *buffer, size_t buffer_len,
                              size_t out_len);
+
+/* ---- Rows, numbers and refusals, for C callers ----
+ *
+ * These functions are C, compiled with the caller: no proof is about them, and they call nothing. They check no length:
+ * the bytes they are given have to be there.
+ */
+
+/* The number in `count` bytes, 1 to 8, little-endian, without a sign. */
+static inline uint64_t icehub_unsigned(const uint8_t *bytes, size_t count)
+{
+    uint64_t number = 0;
+    while (count > 0) {
+        count--;
+        number = number << 8 | bytes[count];
+    }
+    return number;
+}
+
+/* The number in `count` bytes, 1 to 8, little-endian, with a sign in two's complement. */
+static inline int64_t icehub_signed(const uint8_t *bytes, size_t count)
+{
+    const uint64_t number = icehub_unsigned(bytes, count);
+    const uint64_t sign = (uint64_t)1 << (8 * count - 1);
+    return number < sign ? (int64_t)number : (int64_t)(number - sign) - (int64_t)(sign - 1) - 1;
+}
+
+/* The signed numbers of 1, 2, 4 and 8 bytes: short is icehub_i16, int is icehub_i32, long is icehub_i64. Ask for the
+ * width that the table gives the member: a long read as four bytes is another number. */
+static inline int8_t icehub_i8(const uint8_t *bytes) { return (int8_t)icehub_signed(bytes, 1); }
+static inline int16_t icehub_i16(const uint8_t *bytes) { return (int16_t)icehub_signed(bytes, 2); }
+static inline int32_t icehub_i32(const uint8_t *bytes) { return (int32_t)icehub_signed(bytes, 4); }
+static inline int64_t icehub_i64(const uint8_t *bytes) { return icehub_signed(bytes, 8); }
+
+/* The three numbers of row i of a list. */
+static inline uint32_t icehub_row_member(const uint8_t *rows, size_t i)
+{
+    return (uint32_t)icehub_unsigned(rows + (size_t)ICEHUB_ROW_SIZE * i, 4);
+}
+
+static inline uint32_t icehub_row_place(const uint8_t *rows, size_t i)
+{
+    return (uint32_t)icehub_unsigned(rows + (size_t)ICEHUB_ROW_SIZE * i + 4, 4);
+}
+
+static inline uint32_t icehub_row_length(const uint8_t *rows, size_t i)
+{
+    return (uint32_t)icehub_unsigned(rows + (size_t)ICEHUB_ROW_SIZE * i + 8, 4);
+}
+
+/* Puts a number into `count` bytes, 1 to 8, little-endian. A negative number goes in as it is: the upper bytes of its
+ * two's complement are cut off. */
+static inline void icehub_put(uint8_t *bytes, size_t count, int64_t number)
+{
+    uint64_t rest = (uint64_t)number;
+    size_t i;
+    for (i = 0; i < count; i++) {
+        bytes[i] = (uint8_t)(rest & 255);
+        rest >>= 8;
+    }
+}
+
+/* Puts row i of a list. */
+static inline void icehub_put_row(uint8_t *rows, size_t i, uint32_t member, uint32_t place, uint32_t length)
+{
+    icehub_put(rows + (size_t)ICEHUB_ROW_SIZE * i, 4, member);
+    icehub_put(rows + (size_t)ICEHUB_ROW_SIZE * i + 4, 4, place);
+    icehub_put(rows + (size_t)ICEHUB_ROW_SIZE * i + 8, 4, length);
+}
+
+/* The name of a refusal, without ICEHUB_; an empty string for a number that this header does not know. */
+static inline const char *icehub_refusal_name(uint32_t refusal)
+{
+    switch (refusal) {
+    case ICEHUB_OK: return "OK";
+    case ICEHUB_BAD_TABLE: return "BAD_TABLE";
+    case ICEHUB_BAD_TYPE: return "BAD_TYPE";
+    case ICEHUB_INPUT_TOO_LONG: return "INPUT_TOO_LONG";
+    case ICEHUB_CUT_OFF: return "CUT_OFF";
+    case ICEHUB_BAD_OUTER_SIZE: return "BAD_OUTER_SIZE";
+    case ICEHUB_BAD_VERSION: return "BAD_VERSION";
+    case ICEHUB_BAD_SIZE: return "BAD_SIZE";
+    case ICEHUB_BAD_BOOL: return "BAD_BOOL";
+    case ICEHUB_BAD_ENUMERATOR: return "BAD_ENUMERATOR";
+    case ICEHUB_BAD_PROXY: return "BAD_PROXY";
+    case ICEHUB_BAD_LENGTH: return "BAD_LENGTH";
+    case ICEHUB_BAD_HEADER: return "BAD_HEADER";
+    case ICEHUB_NOT_COVERED: return "NOT_COVERED";
+    case ICEHUB_BAD_FLAGS: return "BAD_FLAGS";
+    case ICEHUB_UNKNOWN_COMPACT: return "UNKNOWN_COMPACT";
+    case ICEHUB_UNKNOWN_SLICED: return "UNKNOWN_SLICED";
+    case ICEHUB_BAD_CHAIN: return "BAD_CHAIN";
+    case ICEHUB_LEFT_OVER: return "LEFT_OVER";
+    case ICEHUB_LIST_TOO_SHORT: return "LIST_TOO_SHORT";
+    case ICEHUB_BAD_ROW: return "BAD_ROW";
+    case ICEHUB_BAD_ROW_BYTES: return "BAD_ROW_BYTES";
+    case ICEHUB_OUTPUT_TOO_LONG: return "OUTPUT_TOO_LONG";
+    case ICEHUB_BAD_FORMAT: return "BAD_FORMAT";
+    default: return "";
+    }
+}
+
+/* A refusal in words; an empty string for a number that this header does not know. */
+static inline const char *icehub_refusal_text(uint32_t refusal)
+{
+    switch (refusal) {
+    case ICEHUB_OK: return "not refused";
+    case ICEHUB_BAD_TABLE: return "the table breaks a rule";
+    case ICEHUB_BAD_TYPE: return "the type is not in the table, or is no exception, class or parameter list";
+    case ICEHUB_INPUT_TOO_LONG: return "the message, or the writer's buffer, is over 65,536 bytes long";
+    case ICEHUB_CUT_OFF: return "an item or a declared length runs past what holds it";
+    case ICEHUB_BAD_OUTER_SIZE: return "the encapsulation's size is under 6 or not the message's length";
+    case ICEHUB_BAD_VERSION: return "the encoding's version is not 1.1";
+    case ICEHUB_BAD_SIZE: return "a size below 255 in the long form, or a negative size";
+    case ICEHUB_BAD_BOOL: return "a bool is neither 0 nor 1";
+    case ICEHUB_BAD_ENUMERATOR: return "an enumerator is too great";
+    case ICEHUB_BAD_PROXY: return "a proxy's identity, facet count or mode is wrong";
+    case ICEHUB_BAD_LENGTH:
+        return "a declared length is below its least (FSize 1, slice 4, endpoint 6), negative, or not"
+               " used up";
+    case ICEHUB_BAD_HEADER:
+        return "an optional's header is wrong: upper bits 31 where no end marker may be, a long tag "
+               "under 30, a tag that does not rise, or another type than the table's";
+    case ICEHUB_NOT_COVERED:
+        return "an optional of a class, an indirection table, a type ID that is no string, or a class"
+               " marker other than 1";
+    case ICEHUB_BAD_FLAGS:
+        return "a slice's flags are wrong: bit 6 or 7 set, formats mixed, the type ID missing, or bit"
+               " 2 set with no optional";
+    case ICEHUB_UNKNOWN_COMPACT: return "the first type ID of a compact record is not in the table";
+    case ICEHUB_UNKNOWN_SLICED: return "no type ID of a sliced record is in the table";
+    case ICEHUB_BAD_CHAIN: return "the slices, or their last bit, do not follow the table's bases";
+    case ICEHUB_LEFT_OVER: return "bytes follow the record";
+    case ICEHUB_LIST_TOO_SHORT: return "the lent list is too short";
+    case ICEHUB_BAD_ROW: return "writer: a row is wrong, missing, out of order or outside the buffer";
+    case ICEHUB_BAD_ROW_BYTES: return "writer: the bytes are not exactly a value of the member's type";
+    case ICEHUB_OUTPUT_TOO_LONG: return "the output is longer than its room or 65,536 bytes";
+    case ICEHUB_BAD_FORMAT: return "the format is not 0 or 1, or is 0 for a parameter list";
+    default: return "";
+    }
+}
 
 #ifdef __cplusplus
 }

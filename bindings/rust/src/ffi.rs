@@ -1,4 +1,4 @@
-//! The C functions of libicehub.a, as functions on slices. All that is unsafe in this crate stands here.
+//! The C functions of libicehub.a, as functions on slices. All that is unsafe in this crate is here.
 //!
 //! What include/icehub.h asks of a caller holds of every call: a slice has a pointer that is not null, also where it is
 //! empty, and as many bytes as its length says; a `&mut` slice overlaps nothing, and nobody else uses it meanwhile.
@@ -28,7 +28,7 @@ extern "C" {
     ) -> u32;
 }
 
-/// Reads a message: 0, and the rows stand in `rows`, or the number of a refusal.
+/// Reads a message: 0, and the rows are in `rows`, or the number of a refusal.
 pub fn read(table: &[u8], top: u32, message: &[u8], rows: &mut [u8]) -> u32 {
     // SAFETY: each pointer comes with the length of its slice; only `rows` is written.
     unsafe {
@@ -36,7 +36,7 @@ pub fn read(table: &[u8], top: u32, message: &[u8], rows: &mut [u8]) -> u32 {
     }
 }
 
-/// What the writer is given beside its output.
+/// What the writer is given besides its output.
 #[derive(Clone, Copy)]
 pub struct Given<'a> {
     pub table: &'a [u8],
@@ -47,7 +47,7 @@ pub struct Given<'a> {
     pub buffer: &'a [u8],
 }
 
-/// Writes a message: 0, and the message stands in `out`, or the number of a refusal.
+/// Writes a message: 0, and the message is in `out`, or the number of a refusal.
 pub fn write(given: Given, out: &mut [u8]) -> u32 {
     let Given { table, of, format, count, rows, buffer } = given;
     // SAFETY: each pointer comes with the length of its slice; only `out` is written.

@@ -18,8 +18,8 @@
 //!
 //! let mut rows = [0; 3 * icehub::ROW_SIZE];
 //! let reading = icehub::read(table, 3, message, &mut rows)?;
-//! let tick = reading.rows().find(|row| row.member == 1).and_then(|row| row.part(message));
-//! assert_eq!(tick, Some(&[0, 0, 0, 0, 1, 0, 0, 0][..]));
+//! let tick = reading.member(1).and_then(|tick| tick.as_i64());
+//! assert_eq!(tick, Some(4_294_967_296));
 //!
 //! let mut out = [0; 64];
 //! let length = icehub::write(table, reading.first_type, reading.format, reading.list(), message, &mut out)?;
@@ -34,8 +34,12 @@
 #[allow(unsafe_code)]
 mod ffi;
 mod refusal;
+mod table;
+mod value;
 
-pub use refusal::Refusal;
+pub use refusal::{Reason, Refusal};
+pub use table::{Kind, MemberRow, Table, TypeRow};
+pub use value::{Elements, Endpoint, Endpoints, Entries, Fields, Proxy, Value};
 
 use core::iter::FusedIterator;
 use core::slice;
@@ -58,7 +62,7 @@ pub enum Format {
     Sliced = 1,
 }
 
-/// A member of a message: where its bytes stand.
+/// A row of a list: a member, and where its bytes are.
 ///
 /// They are the value alone, without an optional's header and length field; a string, sequence or dictionary begins
 /// with its own size, also where that size serves as the length field (an optional string, or sequence of bool or
@@ -89,34 +93,115 @@ impl Row {
         bytes
     }
 
-    /// The member's bytes in the message; none where the row reaches beyond it.
-    pub fn part(self, message: &[u8]) -> Option<&[u8]> {
-        message.get(self.place as usize..)?.get(..self.length as usize)
+    /// The member's bytes in a message or a buffer; none where the row reaches beyond it.
+    pub fn part(self, bytes: &[u8]) -> Option<&[u8]> {
+        bytes.get(self.place as usize..)?.get(..self.length as usize)
     }
 }
 
-/// The rows of a list, in message order.
+/// A member of an accepted message: its row, its type and its value.
+///
+/// A getter gives none where the table gives the member another type.
+#[derive(Clone, Copy, Debug, PartialEq, Eq)]
+pub struct Member<'a> {
+    /// Where its bytes are.
+    pub row: Row,
+    table: Table<'a>,
+    message: &'a [u8],
+}
+
+impl<'a> Member<'a> {
+    /// The number of its member row.
+    pub fn number(self) -> u32 {
+        self.row.member
+    }
+
+    /// Its bytes in the message, as [`Row`] says.
+    pub fn part(self) -> &'a [u8] {
+        self.row.part(self.message).unwrap_or_default()
+    }
+
+    /// The member row that declares it.
+    pub fn declared(self) -> Option<MemberRow<'a>> {
+        self.table.member_row(self.row.member)
+    }
+
+    /// Its value. None is never given for an accepted message.
+    pub fn value(self) -> Option<Value<'a>> {
+        Value::new(self.declared()?.of(), self.part())
+    }
+}
+
+/// Getters of a value, on the member itself.
+macro_rules! getters {
+    ($($(#[$doc:meta])* $name:ident -> $result:ty;)*) => {
+        impl<'a> Member<'a> {
+            $($(#[$doc])*
+            pub fn $name(self) -> Option<$result> {
+                self.value()?.$name()
+            })*
+        }
+    };
+}
+
+getters! {
+    /// A bool.
+    as_bool -> bool;
+    /// A byte.
+    as_u8 -> u8;
+    /// A short.
+    as_i16 -> i16;
+    /// An int or a short.
+    as_i32 -> i32;
+    /// A long, an int or a short.
+    as_i64 -> i64;
+    /// A float.
+    as_f32 -> f32;
+    /// A double or a float.
+    as_f64 -> f64;
+    /// A string, if it is UTF-8.
+    as_str -> &'a str;
+    /// The bytes of a string or of a sequence of bytes, without its size.
+    as_bytes -> &'a [u8];
+    /// An enumerator's number.
+    as_enumerator -> u32;
+    /// The members of a struct.
+    as_struct -> Fields<'a>;
+    /// The elements of a sequence.
+    as_sequence -> Elements<'a>;
+    /// The entries of a dictionary.
+    as_dictionary -> Entries<'a>;
+    /// A proxy that is not nil.
+    as_proxy -> Proxy<'a>;
+}
+
+/// The members of a message, in message order.
 #[derive(Clone, Debug)]
-pub struct Rows<'r>(slice::Iter<'r, [u8; ROW_SIZE]>);
+pub struct Members<'a> {
+    rows: slice::Iter<'a, [u8; ROW_SIZE]>,
+    table: Table<'a>,
+    message: &'a [u8],
+}
 
-impl Iterator for Rows<'_> {
-    type Item = Row;
+impl<'a> Iterator for Members<'a> {
+    type Item = Member<'a>;
 
-    fn next(&mut self) -> Option<Row> {
-        self.0.next().copied().map(Row::from_bytes)
+    fn next(&mut self) -> Option<Member<'a>> {
+        let row = Row::from_bytes(*self.rows.next()?);
+        Some(Member { row, table: self.table, message: self.message })
     }
 
     fn size_hint(&self) -> (usize, Option<usize>) {
-        self.0.size_hint()
+        self.rows.size_hint()
     }
 }
 
-impl ExactSizeIterator for Rows<'_> {}
-impl FusedIterator for Rows<'_> {}
+impl ExactSizeIterator for Members<'_> {}
+impl FusedIterator for Members<'_> {}
 
-/// What the reader gives of an accepted message.
+/// What the reader gives of an accepted message, with the message itself.
 #[derive(Clone, Copy, Debug, PartialEq, Eq)]
-pub struct Reading<'r> {
+pub struct Reading<'a> {
     /// Of a record the row of its first slice that the table knows, the top or one that descends from it; of a
     /// parameter list the top.
     pub first_type: u32,
@@ -126,28 +211,45 @@ pub struct Reading<'r> {
     pub optionals_skipped: u32,
     /// How many slices were skipped, because the table does not know their type IDs.
     pub slices_skipped: u32,
-    list: &'r [u8],
+    table: Table<'a>,
+    message: &'a [u8],
+    list: &'a [u8],
 }
 
-impl<'r> Reading<'r> {
+impl<'a> Reading<'a> {
     /// The members that the table knows, in message order.
-    pub fn rows(&self) -> Rows<'r> {
-        Rows(self.list.as_chunks().0.iter())
+    pub fn members(&self) -> Members<'a> {
+        Members { rows: self.list.as_chunks().0.iter(), table: self.table, message: self.message }
     }
 
-    /// The same rows as bytes, [`ROW_SIZE`] each, as [`write`](write()) takes them.
-    pub fn list(&self) -> &'r [u8] {
+    /// The member of this member row, if the message has it.
+    pub fn member(&self, number: u32) -> Option<Member<'a>> {
+        self.members().find(|member| member.row.member == number)
+    }
+
+    /// The rows as bytes, [`ROW_SIZE`] each, as [`write`](write()) takes them.
+    pub fn list(&self) -> &'a [u8] {
         self.list
+    }
+
+    /// The message.
+    pub fn message(&self) -> &'a [u8] {
+        self.message
+    }
+
+    /// The table.
+    pub fn table(&self) -> Table<'a> {
+        self.table
     }
 }
 
 /// Reads a message under a type table and the row of the wanted type, the top.
 ///
-/// The members that the table knows come to stand at the start of `rows`, [`ROW_SIZE`] bytes each; the bytes beyond
-/// them stay, and on a refusal all of them. A list of [`MOST_ROWS`] rows is always long enough.
+/// The rows of the members that the table knows are put at the start of `rows`, [`ROW_SIZE`] bytes each; the bytes
+/// beyond them stay, and on a refusal all of them. A list of [`MOST_ROWS`] rows is always long enough.
 ///
 /// The library reads the message once for the rows and once for each further number: six times in all.
-pub fn read<'r>(table: &[u8], top: u32, message: &[u8], rows: &'r mut [u8]) -> Result<Reading<'r>, Refusal> {
+pub fn read<'a>(table: &'a [u8], top: u32, message: &'a [u8], rows: &'a mut [u8]) -> Result<Reading<'a>, Refusal> {
     let room = rows.len();
     let number = ffi::read(table, top, message, rows);
     if number != 0 {
@@ -162,6 +264,8 @@ pub fn read<'r>(table: &[u8], top: u32, message: &[u8], rows: &'r mut [u8]) -> R
         },
         optionals_skipped: ffi::read_optionals_skipped(table, top, message, room),
         slices_skipped: ffi::read_slices_skipped(table, top, message, room),
+        table: Table::accepted(table),
+        message,
         list: &rows[..count * ROW_SIZE],
     })
 }
@@ -173,8 +277,8 @@ pub fn read<'r>(table: &[u8], top: u32, message: &[u8], rows: &'r mut [u8]) -> R
 /// itself to its last base: in each the required members as declared, then those optionals that are wanted, by rising
 /// tag.
 ///
-/// The message comes to stand at the start of `out`; the bytes beyond it stay, and on a refusal all of them. Where
-/// `out` is too short, the place of the refusal is the length needed.
+/// The message is put at the start of `out`; the bytes beyond it stay, and on a refusal all of them. Where `out` is too
+/// short, the place of the refusal is the length needed.
 ///
 /// The library judges the rows twice: once for the message and once for its length.
 pub fn write(

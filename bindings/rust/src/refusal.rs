@@ -1,77 +1,133 @@
-//! The refusals, in document 01's words.
+//! The refusals: an enum with document 01's numbers, and the same words as `include/icehub.h`.
 
 use core::error::Error;
 use core::fmt;
 
-/// Why a call refused: a number of document 01's table, and its place.
+/// Why a call refused, and where.
 ///
 /// A refused call has changed no lent byte.
 #[derive(Clone, Copy, Debug, PartialEq, Eq, Hash)]
 pub struct Refusal {
-    /// The number, 1 to 23; each has a name here.
+    /// The number of document 01's table, as [`Reason::number`] has it.
     pub number: u32,
-    /// A place in the message, in the table for [`Refusal::BAD_TABLE`], or what [`Refusal::place_text`] says.
+    /// A place in the message, in the table for [`Reason::BadTable`], or what [`Reason::place_text`] says.
     pub place: u32,
 }
 
-/// A name, its number, when it applies, and what its place is.
-macro_rules! refusals {
-    ($($name:ident = $number:literal: $when:literal, $place:literal;)*) => {
-        impl Refusal {
-            $(#[doc = concat!($when, ". Place: ", $place, ".")]
-            pub const $name: u32 = $number;)*
+impl Refusal {
+    /// The reason; none for a number that only a newer library has.
+    pub const fn reason(&self) -> Option<Reason> {
+        Reason::from_number(self.number)
+    }
 
-            /// When a call is refused by this number.
-            pub const fn text(&self) -> &'static str {
-                match self.number {
-                    $($number => $when,)*
-                    _ => "no number of document 01",
+    /// When a call is refused by this number.
+    pub const fn text(&self) -> &'static str {
+        match self.reason() {
+            Some(reason) => reason.text(),
+            None => "a number that this version does not know",
+        }
+    }
+
+    /// What the place of this number is.
+    pub const fn place_text(&self) -> &'static str {
+        match self.reason() {
+            Some(reason) => reason.place_text(),
+            None => "0",
+        }
+    }
+}
+
+/// For each reason: its name here, its number, its name in C, when it applies, and what its place is.
+macro_rules! reasons {
+    ($($name:ident = $number:literal, $c_name:literal: $when:literal, $place:literal;)*) => {
+        /// The reasons of document 01's table.
+        #[derive(Clone, Copy, Debug, PartialEq, Eq, Hash)]
+        #[non_exhaustive]
+        #[repr(u32)]
+        pub enum Reason {
+            $(#[doc = concat!("Number ", $number, ": ", $when, ". Place: ", $place, ".")]
+            $name = $number,)*
+        }
+
+        impl Reason {
+            /// Every reason, by rising number.
+            pub const ALL: &'static [Reason] = &[$(Reason::$name),*];
+
+            /// The reason with this number.
+            pub const fn from_number(number: u32) -> Option<Reason> {
+                match number {
+                    $($number => Some(Reason::$name),)*
+                    _ => None,
                 }
             }
 
-            /// What the place of this number is.
-            pub const fn place_text(&self) -> &'static str {
-                match self.number {
-                    $($number => $place,)*
-                    _ => "0",
+            /// Its number in document 01.
+            pub const fn number(self) -> u32 {
+                self as u32
+            }
+
+            /// Its name in C, without `ICEHUB_`.
+            pub const fn name(self) -> &'static str {
+                match self {
+                    $(Reason::$name => $c_name,)*
+                }
+            }
+
+            /// When a call is refused by it.
+            pub const fn text(self) -> &'static str {
+                match self {
+                    $(Reason::$name => $when,)*
+                }
+            }
+
+            /// What its place is.
+            pub const fn place_text(self) -> &'static str {
+                match self {
+                    $(Reason::$name => $place,)*
                 }
             }
         }
-
-        #[cfg(test)]
-        const NAMES: &[(&str, u32)] = &[$((stringify!($name), $number)),*];
     };
 }
 
-refusals! {
-    BAD_TABLE = 1: "table breaks a rule", "0 or the row's first byte";
-    BAD_TYPE = 2: "type not in the table or below kind 13", "0";
-    INPUT_TOO_LONG = 3: "input or writer's buffer over 65,536 bytes", "0";
-    CUT_OFF = 4: "item or declared length runs past what holds it", "its first byte";
-    BAD_OUTER_SIZE = 5: "encapsulation size under 6 or not the input's length", "0";
-    BAD_VERSION = 6: "version not 1.1", "4";
-    BAD_SIZE = 7: "size form: a long form below 255, or a negative int", "the 255";
-    BAD_BOOL = 8: "bool other than 0 or 1", "its byte";
-    BAD_ENUMERATOR = 9: "enumerator too great", "its size";
-    BAD_PROXY = 10: "proxy: identity, facet, mode", "identity, facet size, mode byte";
-    BAD_LENGTH = 11: "declared length below its least (FSize 1, slice 4, endpoint 6; negative too) or not used up",
-        "the length";
-    BAD_HEADER = 12: "optional header: five bits 31 other than the end marker, or 255 in a parameter list; \
-        long tag under 30; tag not rising; known tag, wrong type", "header";
-    NOT_COVERED = 13: "Class optional, bit 3, ID form 2 or 3, marker other than 1", "its byte";
-    BAD_FLAGS = 14: "flags: bits 6-7, format mixed or ID missing, bit 2 with no optional", "flags";
-    UNKNOWN_COMPACT = 15: "compact, first type ID unknown", "type ID";
-    UNKNOWN_SLICED = 16: "sliced, last slice reached, none known", "its flags";
-    BAD_CHAIN = 17: "chain or bit 5 disagrees with the table", "flags";
-    LEFT_OVER = 18: "bytes after the record", "first such";
-    LIST_TOO_SHORT = 19: "list too short", "rows needed";
-    BAD_ROW = 20: "writer: row wrong, missing, out of order or outside", "row number";
-    BAD_ROW_BYTES = 21: "writer: bytes aren't exactly that type's", "row number";
-    OUTPUT_TOO_LONG = 22: "output over 65,536 or its room", "bytes needed";
-    BAD_FORMAT = 23: "format not 0 or 1, or 0 for a parameter list", "0";
+reasons! {
+    BadTable = 1, "BAD_TABLE": "the table breaks a rule", "0 or the row's first byte, in the table";
+    BadType = 2, "BAD_TYPE": "the type is not in the table, or is no exception, class or parameter list", "0";
+    InputTooLong = 3, "INPUT_TOO_LONG": "the message, or the writer's buffer, is over 65,536 bytes long", "0";
+    CutOff = 4, "CUT_OFF": "an item or a declared length runs past what holds it", "its first byte";
+    BadOuterSize = 5, "BAD_OUTER_SIZE": "the encapsulation's size is under 6 or not the message's length", "0";
+    BadVersion = 6, "BAD_VERSION": "the encoding's version is not 1.1", "4";
+    BadSize = 7, "BAD_SIZE": "a size below 255 in the long form, or a negative size", "the byte 255 of the size";
+    BadBool = 8, "BAD_BOOL": "a bool is neither 0 nor 1", "its byte";
+    BadEnumerator = 9, "BAD_ENUMERATOR": "an enumerator is too great", "its size";
+    BadProxy = 10, "BAD_PROXY": "a proxy's identity, facet count or mode is wrong",
+        "the identity, the facet count or the mode byte";
+    BadLength = 11, "BAD_LENGTH":
+        "a declared length is below its least (FSize 1, slice 4, endpoint 6), negative, or not used up", "the length";
+    BadHeader = 12, "BAD_HEADER":
+        "an optional's header is wrong: upper bits 31 where no end marker may be, a long tag under 30, a tag that does \
+        not rise, or another type than the table's", "the header";
+    NotCovered = 13, "NOT_COVERED":
+        "an optional of a class, an indirection table, a type ID that is no string, or a class marker other than 1",
+        "its byte";
+    BadFlags = 14, "BAD_FLAGS":
+        "a slice's flags are wrong: bit 6 or 7 set, formats mixed, the type ID missing, or bit 2 set with no optional",
+        "the flags";
+    UnknownCompact = 15, "UNKNOWN_COMPACT": "the first type ID of a compact record is not in the table", "the type ID";
+    UnknownSliced = 16, "UNKNOWN_SLICED": "no type ID of a sliced record is in the table", "the last slice's flags";
+    BadChain = 17, "BAD_CHAIN": "the slices, or their last bit, do not follow the table's bases", "the flags";
+    LeftOver = 18, "LEFT_OVER": "bytes follow the record", "the first of them";
+    ListTooShort = 19, "LIST_TOO_SHORT": "the lent list is too short", "the number of rows needed";
+    BadRow = 20, "BAD_ROW": "writer: a row is wrong, missing, out of order or outside the buffer", "the row's number";
+    BadRowBytes = 21, "BAD_ROW_BYTES": "writer: the bytes are not exactly a value of the member's type",
+        "the row's number";
+    OutputTooLong = 22, "OUTPUT_TOO_LONG": "the output is longer than its room or 65,536 bytes",
+        "the number of bytes needed";
+    BadFormat = 23, "BAD_FORMAT": "the format is not 0 or 1, or is 0 for a parameter list", "0";
 }
 
-/// `refusal 19 at 3 (rows needed): list too short`; without the brackets where the place is always the same.
+/// `refusal 19 at 3 (the number of rows needed): the lent list is too short`; without the brackets where the place is
+/// always the same.
 impl fmt::Display for Refusal {
     fn fmt(&self, f: &mut fmt::Formatter) -> fmt::Result {
         write!(f, "refusal {} at {}", self.number, self.place)?;
@@ -89,31 +145,66 @@ impl Error for Refusal {}
 mod tests {
     extern crate std;
     use super::*;
+    use std::format;
     use std::prelude::rust_2021::*;
-    use std::{format, fs};
 
-    /// Name, number, text and place of each refusal are those of the C header.
+    /// The header, as one line of words; strings that C joins are joined.
+    fn header() -> String {
+        let words: Vec<_> =
+            include_str!("../include/icehub.h").split_whitespace().filter(|&word| word != "*").collect();
+        words.join(" ").replace("\" \"", "")
+    }
+
+    /// Name, number, words and place of each reason are those of the C header, and the header has no other.
     #[test]
     fn as_in_the_header() {
-        let header = fs::read_to_string(concat!(env!("CARGO_MANIFEST_DIR"), "/../../include/icehub.h")).unwrap();
-        let words: Vec<_> = header.split_whitespace().filter(|word| *word != "*").collect();
-        let header = words.join(" ");
-        for (name, number) in NAMES {
-            let refusal = Refusal { number: *number, place: 0 };
-            let (text, place) = (refusal.text(), refusal.place_text());
-            let line = format!("/* {text}. Place: {place}. */ ICEHUB_{name} = {number}");
-            assert!(header.contains(&line), "{line}");
+        let header = header();
+        for reason in Reason::ALL {
+            let (name, number, text, place) = (reason.name(), reason.number(), reason.text(), reason.place_text());
+            for line in [
+                format!("/* {text}. Place: {place}. */ ICEHUB_{name} = {number}"),
+                format!("case ICEHUB_{name}: return \"{name}\";"),
+                format!("case ICEHUB_{name}: return \"{text}\";"),
+            ] {
+                assert!(header.contains(&line), "{line}");
+            }
         }
-        assert_eq!(NAMES.iter().map(|(_, number)| *number).collect::<Vec<_>>(), (1..=23).collect::<Vec<_>>());
-        assert_eq!(header.matches(" Place: ").count(), NAMES.len());
+        assert_eq!(header.matches(". Place: ").count(), Reason::ALL.len());
+    }
+
+    /// The header has this crate's version.
+    #[test]
+    fn version() {
+        let [major, minor, patch] =
+            [env!("CARGO_PKG_VERSION_MAJOR"), env!("CARGO_PKG_VERSION_MINOR"), env!("CARGO_PKG_VERSION_PATCH")];
+        for line in [
+            format!("#define ICEHUB_VERSION \"{major}.{minor}.{patch}\""),
+            format!("#define ICEHUB_VERSION_MAJOR {major} "),
+            format!("#define ICEHUB_VERSION_MINOR {minor} "),
+            format!("#define ICEHUB_VERSION_PATCH {patch} "),
+        ] {
+            assert!(header().contains(&line), "{line}");
+        }
+    }
+
+    #[test]
+    fn numbers() {
+        assert_eq!(Reason::ALL.iter().map(|reason| reason.number()).collect::<Vec<_>>(), (1..=23).collect::<Vec<_>>());
+        for reason in Reason::ALL {
+            assert_eq!(Reason::from_number(reason.number()), Some(*reason));
+        }
+        assert_eq!((Reason::from_number(0), Reason::from_number(24)), (None, None));
     }
 
     #[test]
     fn shown() {
         let shown = |number, place| Refusal { number, place }.to_string();
-        assert_eq!(shown(4, 52), "refusal 4 at 52 (its first byte): item or declared length runs past what holds it");
-        assert_eq!(shown(6, 4), "refusal 6 at 4: version not 1.1");
-        assert_eq!(shown(19, 3), "refusal 19 at 3 (rows needed): list too short");
-        assert_eq!(shown(99, 0), "refusal 99 at 0: no number of document 01");
+        assert_eq!(
+            shown(4, 52),
+            "refusal 4 at 52 (its first byte): an item or a declared length runs past what holds it"
+        );
+        assert_eq!(shown(6, 4), "refusal 6 at 4: the encoding's version is not 1.1");
+        assert_eq!(shown(19, 3), "refusal 19 at 3 (the number of rows needed): the lent list is too short");
+        assert_eq!(shown(99, 0), "refusal 99 at 0: a number that this version does not know");
     }
 }

@@ -2,14 +2,14 @@
 
 mod tables;
 
-use icehub::{read, write, Format, Row, ROW_SIZE};
+use icehub::{read, write, Format, Reading, Row, ROW_SIZE};
 use tables::*;
 
 /// Reads a message with nothing skipped and writes it again: the same bytes.
 fn there_and_back(table: &[u8], top: u32, message: &[u8], expected: &[(u32, u32, u32)]) {
-    let mut lent = [0; 16 * ROW_SIZE];
-    let (found, reading) = rows(table, top, message, &mut lent).unwrap();
-    assert_eq!(found, expected.iter().copied().map(row).collect::<Vec<_>>());
+    let mut lent = [0; ROOM];
+    let reading = read(table, top, message, &mut lent).unwrap();
+    assert_eq!(rows(&reading), expected.iter().copied().map(row).collect::<Vec<_>>());
     assert_eq!((reading.optionals_skipped, reading.slices_skipped), (0, 0));
     let mut out = vec![0; message.len()];
     let length = write(table, reading.first_type, reading.format, reading.list(), message, &mut out);
@@ -30,9 +30,9 @@ fn p2() {
 #[test]
 fn p3() {
     let table = table(&[(SHORT, None), (INT, Some(8))]);
-    let mut lent = [0; 16 * ROW_SIZE];
-    let (found, reading) = rows(&table, LIST, &bytes(P2), &mut lent).unwrap();
-    assert_eq!(found, [row((0, 6, 2)), row((1, 18, 4))]);
+    let (mut lent, message) = ([0; ROOM], bytes(P2));
+    let reading = read(&table, LIST, &message, &mut lent).unwrap();
+    assert_eq!(rows(&reading), [row((0, 6, 2)), row((1, 18, 4))]);
     assert_eq!((reading.first_type, reading.format), (LIST, Format::Sliced));
     assert_eq!((reading.optionals_skipped, reading.slices_skipped), (1, 0));
 }
@@ -44,7 +44,7 @@ fn p4() {
 
 /// The number and place of a refusal of the reader.
 fn refused(table: &[u8], message: &[u8]) -> (u32, u32) {
-    let refusal = read(table, LIST, message, &mut [0; 16 * ROW_SIZE]).unwrap_err();
+    let refusal = read(table, LIST, message, &mut [0; ROOM]).unwrap_err();
     (refusal.number, refusal.place)
 }
 
@@ -61,7 +61,7 @@ fn p5_p8_p9_p10() {
 /// A file of samples/.
 macro_rules! sample {
     ($name:literal) => {
-        include_bytes!(concat!("../../../samples/", $name))
+        include_bytes!(concat!("../samples/", $name))
     };
 }
 
@@ -76,12 +76,12 @@ fn report() {
 fn fault_from_a_newer_sender() {
     let message = sample!("fault.message");
     there_and_back(sample!("fault-newer.table"), 4, message, &[(3, 30, 2), (0, 52, 8), (1, 61, 4), (2, 66, 8)]);
-    let mut lent = [0; 16 * ROW_SIZE];
-    let (found, reading) = rows(sample!("fault.table"), 2, message, &mut lent).unwrap();
-    assert_eq!(found, [row((0, 52, 8)), row((1, 61, 4))]);
+    let mut lent = [0; ROOM];
+    let reading = read(sample!("fault.table"), 2, message, &mut lent).unwrap();
+    assert_eq!(rows(&reading), [row((0, 52, 8)), row((1, 61, 4))]);
     assert_eq!((reading.first_type, reading.format), (2, Format::Sliced));
     assert_eq!((reading.optionals_skipped, reading.slices_skipped), (1, 1));
-    assert_eq!(found[0].part(message), Some(&b"\x07no heat"[..]));
+    assert_eq!(reading.member(0).unwrap().part(), b"\x07no heat");
 }
 
 #[test]
@@ -94,16 +94,16 @@ fn damaged_fault() {
 #[test]
 fn sliced_to_compact() {
     let (table, message) = (sample!("fault-newer.table"), sample!("fault.message"));
-    let members = |rows: &[Row], of: &[u8]| {
-        rows.iter().map(|row| (row.member, row.part(of).unwrap().to_vec())).collect::<Vec<_>>()
+    let members = |reading: &Reading| {
+        reading.members().map(|member| (member.number(), member.part().to_vec())).collect::<Vec<_>>()
     };
-    let (mut lent, mut out) = ([0; 16 * ROW_SIZE], [0; 64]);
-    let (found, reading) = rows(table, 4, message, &mut lent).unwrap();
+    let (mut lent, mut out) = ([0; ROOM], [0; 64]);
+    let reading = read(table, 4, message, &mut lent).unwrap();
     let length = write(table, reading.first_type, Format::Compact, reading.list(), message, &mut out).unwrap();
-    let before = members(&found, message);
-    let (found, reading) = rows(table, 4, &out[..length], &mut lent).unwrap();
+    let before = members(&reading);
+    let reading = read(table, 4, &out[..length], &mut lent).unwrap();
     assert_eq!((reading.first_type, reading.format), (5, Format::Compact));
-    assert_eq!(members(&found, &out), before);
+    assert_eq!(members(&reading), before);
 }
 
 /// A list made by hand, its parts out of order in the buffer.
@@ -121,12 +121,14 @@ fn rows_by_hand() {
 /// Bytes beyond the rows stay; a row beyond the message has no part.
 #[test]
 fn rows_and_parts() {
-    let mut lent = [0xA5; 16 * ROW_SIZE];
-    let message = bytes(P2);
-    let (found, reading) = rows(&p2_table(), LIST, &message, &mut lent).unwrap();
-    assert_eq!((reading.rows().len(), reading.list().len()), (3, 3 * ROW_SIZE));
-    assert_eq!(found[1].part(&message), Some(&message[9..17]));
-    assert_eq!(found[1].part(&message[..16]), None);
+    let mut lent = [0xA5; ROOM];
+    let (table, message) = (p2_table(), bytes(P2));
+    let reading = read(&table, LIST, &message, &mut lent).unwrap();
+    assert_eq!((reading.members().len(), reading.list().len()), (3, 3 * ROW_SIZE));
+    assert_eq!((reading.message(), reading.table().bytes()), (&message[..], &table[..]));
+    let tick = reading.member(1).unwrap();
+    assert_eq!((tick.part(), tick.row.part(&message[..16])), (&message[9..17], None));
     assert_eq!(row((0, u32::MAX, u32::MAX)).part(&message), None);
+    assert_eq!(reading.member(3), None);
     assert_eq!(lent[3 * ROW_SIZE..], [0xA5; 13 * ROW_SIZE]);
 }

@@ -1,7 +1,7 @@
 //! Tables and messages for the tests.
 #![allow(dead_code)]
 
-use icehub::{read, Reading, Refusal, Row, ROW_SIZE};
+use icehub::{Reading, Row, ROW_SIZE};
 
 /// A member: its type row, and its tag if it is optional.
 pub type Member = (u16, Option<u32>);
@@ -62,17 +62,11 @@ pub fn row((member, place, length): (u32, u32, u32)) -> Row {
 }
 
 /// Room for every row of these tests.
-pub type Lent = [u8; 16 * ROW_SIZE];
+pub const ROOM: usize = 16 * ROW_SIZE;
 
-/// The rows of an accepted message, and the rest of what the reader gives.
-pub fn rows<'r>(
-    table: &[u8],
-    top: u32,
-    message: &[u8],
-    lent: &'r mut Lent,
-) -> Result<(Vec<Row>, Reading<'r>), Refusal> {
-    let reading = read(table, top, message, lent)?;
-    Ok((reading.rows().collect(), reading))
+/// The rows of an accepted message.
+pub fn rows(reading: &Reading) -> Vec<Row> {
+    reading.members().map(|member| member.row).collect()
 }
 
 pub const P1: &str = "17 00 00 00 01 01 4D 63 00 0B 58 00 00 00 00 00 00 00 15 03 6A 6F 65";

@@ -1,0 +1,321 @@
+//! A type table, to look things up in: its rows, members and names.
+//!
+//! The library judges a table; this module reads one that was accepted and decides nothing.
+
+use crate::{ffi, Reason, Refusal};
+use core::ops::Range;
+
+/// What a type is: the kinds of document 01.
+#[derive(Clone, Copy, Debug, PartialEq, Eq, Hash)]
+#[repr(u8)]
+pub enum Kind {
+    /// 0: one byte, 0 or 1.
+    Bool = 0,
+    /// 1: one byte.
+    Byte = 1,
+    /// 2: a signed number of two bytes.
+    Short = 2,
+    /// 3: a signed number of four bytes.
+    Int = 3,
+    /// 4: a signed number of eight bytes.
+    Long = 4,
+    /// 5: a floating-point number of four bytes.
+    Float = 5,
+    /// 6: a floating-point number of eight bytes.
+    Double = 6,
+    /// 7: a size and that many bytes.
+    String = 7,
+    /// 8: a size, at most the greatest enumerator.
+    Enum = 8,
+    /// 9: its members, one after another.
+    Struct = 9,
+    /// 10: a size and that many elements.
+    Sequence = 10,
+    /// 11: a size and that many pairs of key and value.
+    Dictionary = 11,
+    /// 12: a reference to an object.
+    Proxy = 12,
+    /// 13: a record that may have a base.
+    Exception = 13,
+    /// 14: a record that may have a base.
+    Class = 14,
+    /// 15: the members of a call.
+    ParameterList = 15,
+}
+
+impl Kind {
+    /// Every kind, by its number.
+    pub const ALL: [Kind; 16] = [
+        Kind::Bool,
+        Kind::Byte,
+        Kind::Short,
+        Kind::Int,
+        Kind::Long,
+        Kind::Float,
+        Kind::Double,
+        Kind::String,
+        Kind::Enum,
+        Kind::Struct,
+        Kind::Sequence,
+        Kind::Dictionary,
+        Kind::Proxy,
+        Kind::Exception,
+        Kind::Class,
+        Kind::ParameterList,
+    ];
+
+    /// The kind with this number.
+    pub fn from_number(number: u8) -> Option<Kind> {
+        Kind::ALL.get(usize::from(number)).copied()
+    }
+
+    /// In words.
+    pub const fn name(self) -> &'static str {
+        match self {
+            Kind::Bool => "bool",
+            Kind::Byte => "byte",
+            Kind::Short => "short",
+            Kind::Int => "int",
+            Kind::Long => "long",
+            Kind::Float => "float",
+            Kind::Double => "double",
+            Kind::String => "string",
+            Kind::Enum => "enum",
+            Kind::Struct => "struct",
+            Kind::Sequence => "sequence",
+            Kind::Dictionary => "dictionary",
+            Kind::Proxy => "proxy",
+            Kind::Exception => "exception",
+            Kind::Class => "class",
+            Kind::ParameterList => "parameter list",
+        }
+    }
+
+    /// An exception or a class.
+    pub const fn is_record(self) -> bool {
+        matches!(self, Kind::Exception | Kind::Class)
+    }
+
+    /// An exception, a class or a parameter list: what a message may hold.
+    pub const fn can_be_top(self) -> bool {
+        self.is_record() || matches!(self, Kind::ParameterList)
+    }
+}
+
+const HEADER: usize = 12;
+const TYPE_ROW: usize = 12;
+const MEMBER_ROW: usize = 8;
+
+/// A type table that breaks no rule.
+#[derive(Clone, Copy, Debug, PartialEq, Eq)]
+pub struct Table<'a> {
+    bytes: &'a [u8],
+}
+
+impl<'a> Table<'a> {
+    /// The table of these bytes, if it breaks no rule: the library judges it.
+    pub fn new(bytes: &'a [u8]) -> Result<Table<'a>, Refusal> {
+        // The last row number of 32 bits is in no table, so a table that breaks no rule is refused for its top.
+        let (top, message) = (u32::MAX, &[]);
+        match ffi::read(bytes, top, message, &mut []) {
+            number if number == Reason::BadType.number() => Ok(Table { bytes }),
+            number => Err(Refusal { number, place: ffi::read_place(bytes, top, message, 0) }),
+        }
+    }
+
+    /// A table that the library has accepted.
+    pub(crate) fn accepted(bytes: &'a [u8]) -> Table<'a> {
+        Table { bytes }
+    }
+
+    /// Its bytes.
+    pub fn bytes(self) -> &'a [u8] {
+        self.bytes
+    }
+
+    /// Its version.
+    pub fn version(self) -> u16 {
+        self.number(3)
+    }
+
+    /// How many type rows it has.
+    pub fn types(self) -> u32 {
+        self.number(5).into()
+    }
+
+    /// How many member rows it has.
+    pub fn members(self) -> u32 {
+        self.number(7).into()
+    }
+
+    /// Its name bytes.
+    pub fn names(self) -> &'a [u8] {
+        let count = usize::from(self.number(9));
+        self.bytes.get(self.names_start()..).and_then(|names| names.get(..count)).unwrap_or_default()
+    }
+
+    /// Type row `number`.
+    pub fn type_row(self, number: u32) -> Option<TypeRow<'a>> {
+        (number < self.types()).then_some(TypeRow { table: self, number })
+    }
+
+    /// All type rows, in order.
+    pub fn type_rows(self) -> impl Iterator<Item = TypeRow<'a>> {
+        (0..self.types()).map(move |number| TypeRow { table: self, number })
+    }
+
+    /// Member row `number`.
+    pub fn member_row(self, number: u32) -> Option<MemberRow<'a>> {
+        (number < self.members()).then_some(MemberRow { table: self, number })
+    }
+
+    /// The exception or class of this name.
+    pub fn named(self, name: &[u8]) -> Option<TypeRow<'a>> {
+        self.type_rows().find(|row| row.name() == Some(name))
+    }
+
+    fn byte(self, place: usize) -> u8 {
+        self.bytes.get(place).copied().unwrap_or_default()
+    }
+
+    fn number(self, place: usize) -> u16 {
+        u16::from_le_bytes([self.byte(place), self.byte(place + 1)])
+    }
+
+    fn members_start(self) -> usize {
+        HEADER + TYPE_ROW * self.types() as usize
+    }
+
+    fn names_start(self) -> usize {
+        self.members_start() + MEMBER_ROW * self.members() as usize
+    }
+}
+
+/// A type: a type row of a table.
+#[derive(Clone, Copy, Debug, PartialEq, Eq)]
+pub struct TypeRow<'a> {
+    table: Table<'a>,
+    number: u32,
+}
+
+impl<'a> TypeRow<'a> {
+    /// The table that has the row.
+    pub fn table(self) -> Table<'a> {
+        self.table
+    }
+
+    /// Its number.
+    pub fn number(self) -> u32 {
+        self.number
+    }
+
+    /// The place of its first byte in the table.
+    pub fn place(self) -> usize {
+        HEADER + TYPE_ROW * self.number as usize
+    }
+
+    /// Its kind.
+    pub fn kind(self) -> Kind {
+        Kind::from_number(self.table.byte(self.place())).unwrap_or(Kind::Bool)
+    }
+
+    /// The members of a struct, an exception, a class or a parameter list: a range of member rows.
+    pub fn members(self) -> Range<u32> {
+        match self.kind() {
+            Kind::Struct | Kind::Exception | Kind::Class | Kind::ParameterList => {
+                let first = self.field(0);
+                first.into()..u32::from(first) + u32::from(self.field(1))
+            }
+            _ => 0..0,
+        }
+    }
+
+    /// The same members as rows.
+    pub fn member_rows(self) -> impl Iterator<Item = MemberRow<'a>> {
+        self.members().filter_map(move |number| self.table.member_row(number))
+    }
+
+    /// The base of an exception or a class.
+    pub fn base(self) -> Option<TypeRow<'a>> {
+        if !self.kind().is_record() {
+            return None;
+        }
+        self.table.type_row(u32::from(self.field(2)).checked_sub(1)?)
+    }
+
+    /// The name of an exception or a class: its type ID.
+    pub fn name(self) -> Option<&'a [u8]> {
+        if !self.kind().is_record() {
+            return None;
+        }
+        self.table.names().get(usize::from(self.field(3))..)?.get(..usize::from(self.field(4)))
+    }
+
+    /// The greatest enumerator of an enum.
+    pub fn greatest(self) -> Option<u32> {
+        (self.kind() == Kind::Enum).then(|| u32::from(self.field(0)) | u32::from(self.field(1)) << 16)
+    }
+
+    /// The element of a sequence.
+    pub fn element(self) -> Option<TypeRow<'a>> {
+        self.part(Kind::Sequence, 0)
+    }
+
+    /// The key of a dictionary.
+    pub fn key(self) -> Option<TypeRow<'a>> {
+        self.part(Kind::Dictionary, 0)
+    }
+
+    /// The value of a dictionary.
+    pub fn value(self) -> Option<TypeRow<'a>> {
+        self.part(Kind::Dictionary, 1)
+    }
+
+    fn part(self, kind: Kind, field: usize) -> Option<TypeRow<'a>> {
+        if self.kind() != kind {
+            return None;
+        }
+        self.table.type_row(self.field(field).into())
+    }
+
+    /// Field a to e, by its number from 0.
+    fn field(self, field: usize) -> u16 {
+        self.table.number(self.place() + 2 + 2 * field)
+    }
+}
+
+/// A member as a table declares it: a member row.
+#[derive(Clone, Copy, Debug, PartialEq, Eq)]
+pub struct MemberRow<'a> {
+    table: Table<'a>,
+    number: u32,
+}
+
+impl<'a> MemberRow<'a> {
+    /// Its number.
+    pub fn number(self) -> u32 {
+        self.number
+    }
+
+    /// The place of its first byte in the table.
+    pub fn place(self) -> usize {
+        self.table.members_start() + MEMBER_ROW * self.number as usize
+    }
+
+    /// Its type.
+    pub fn of(self) -> TypeRow<'a> {
+        TypeRow { table: self.table, number: self.table.number(self.place()).into() }
+    }
+
+    /// The tag of an optional member; none for a required one.
+    pub fn tag(self) -> Option<u32> {
+        let at = self.place() + 4;
+        (self.table.byte(at - 2) == 1)
+            .then(|| u32::from(self.table.number(at)) | u32::from(self.table.number(at + 2)) << 16)
+    }
+
+    /// The struct, record or parameter list that has the member.
+    pub fn owner(self) -> Option<TypeRow<'a>> {
+        self.table.type_rows().find(|row| row.members().contains(&self.number))
+    }
+}
