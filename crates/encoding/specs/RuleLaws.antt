@@ -1,6 +1,6 @@
 -- What a table that breaks no rule gives: `faults T ≡ fine`.
 --
---   type-test, member-test         each test of a row's rules is false
+--   header-test, type-test, member-test   each test of the header's or a row's rules is false
 --   any-none                       no number of a range passes a test
 --   members-most, types-most       at most 1,024 members and 256 types
 --   kind-known                     a kind is at most 15
@@ -15,6 +15,7 @@
 --   length-range, own-sum          the required and optional members of an owner are as many as its member rows
 --   taken-rises, taken-next        the member rows that the rows before one take
 --   taken-at, taken-whole          an owner's member rows begin where those of the rows before it end; all are taken
+--   turn-apart, turn-owner         where owners take the member rows in turn, a member row has one owner, which is found
 --   rows-apart                     a member row has one owner
 --   rows-there                     an owner's member rows are there
 --   owner-at                       the owner of a member row
@@ -260,20 +261,60 @@ pub own-sum : (T : List ℕ) (t : ℕ) → length (required T t) + length (optio
 unfolding required optional ownRows
 own-sum T t = marked-sum T (trees T) 0 (ownRows T t) ∙ length-range (field T t 0) (field T t 1)
 
+-- ---- owners that take the member rows in turn
+
+module _ (T : List ℕ) (turn : (t : ℕ) → t < types T → owns (kind T t) ≡ true → field T t 0 ≡ taken T t) where
+  -- the rows of an owner end before those of a later one begin
+  earlier-apart : (t r : ℕ) → r < types T → owns (kind T t) ≡ true → owns (kind T r) ≡ true → t < r → field T t 0 + field T t 1 ≤ field T r 0
+  earlier-apart t r l ot or h =
+      omega (arith, taken-rises T (suc t) r h, taken-next T t ot, turn t (omega arith) ot, turn r l or)
+
+  pub turn-apart : (t r m : ℕ) → t < types T → r < types T → owns (kind T t) ≡ true → owns (kind T r) ≡ true
+      → field T t 0 ≤ m → m < field T t 0 + field T t 1 → field T r 0 ≤ m → m < field T r 0 + field T r 1 → t ≡ r
+  turn-apart t r m lt lr ot or a b c d = elim (ℕ-discrete t r) [ yes e ↦ e | no e ↦ go (ltb t r) refl e ]
+    where
+      go : (q : Bool) → ltb t r ≡ q → (t ≡ r → ⊥) → t ≡ r
+      go true q e = absurd (omega (arith, earlier-apart t r lr ot or (ltb-true t r q)))
+      go false q e = let l : r ≤ t = ltb-false t r q in absurd (omega (arith, earlier-apart r t lt or ot (omega (arith, e))))
+
+  module _ (t m : ℕ) (below : t < types T) (own : owns (kind T t) ≡ true) (from : field T t 0 ≤ m) (to : m < field T t 0 + field T t 1) where
+    owner-among : (n : ℕ) → t < n → n ≤ types T → ownerOf T m n ≡ t
+    unfolding ownerOf takes
+    owner-among zero l h = absurd (omega arith)
+    owner-among (suc n) l h = go (owns (kind T n)) refl (leb (field T n 0) m) refl (ltb m (field T n 0 + field T n 1)) refl (λ k. owner-among n k (omega arith))
+      where
+        here : owns (kind T n) && (leb (field T n 0) m && ltb m (field T n 0 + field T n 1)) ≡ false → t ≡ n → ⊥
+        here f e =
+            true≢false (sym (rw (← e, own, le-leb (field T t 0) m from, lt-ltb m (field T t 0 + field T t 1) to)) ∙ f)
+
+        past : owns (kind T n) && (leb (field T n 0) m && ltb m (field T n 0 + field T n 1)) ≡ false → (t < n → ownerOf T m n ≡ t) → ownerOf T m n ≡ t
+        past f ih = elim (ℕ-discrete t n) [ yes e ↦ absurd (here f e) | no e ↦ ih (omega (arith, e)) ]
+
+        go : (a : Bool) → owns (kind T n) ≡ a → (b : Bool) → leb (field T n 0) m ≡ b → (c : Bool) → ltb m (field T n 0 + field T n 1) ≡ c
+            → (t < n → ownerOf T m n ≡ t) → pick (a && (b && c)) n (ownerOf T m n) ≡ t
+        go true ea true eb true ec ih =
+            sym (turn-apart t n m below (omega arith) own ea from to (leb-true (field T n 0) m eb) (ltb-true m (field T n 0 + field T n 1) ec))
+        go true ea true eb false ec ih = past (rw (ea, eb, ec)) ih
+        go true ea false eb c ec ih = past (rw (ea, eb)) ih
+        go false ea b eb c ec ih = past (rw ea) ih
+
+    pub turn-owner : ownerOf T m (types T) ≡ t
+    turn-owner = owner-among (types T) below (omega arith)
+
 -- ---- a header that breaks no rule
 
 module _ (T : List ℕ) (right : headerRules T ≡ fine) where
-  header-test : (i : ℕ) → getD (headerTests T) i (0, false) .1 ≡ false
+  header-tests : (i : ℕ) → getD (headerTests T) i (0, false) .1 ≡ false
   unfolding headerRules headerTests
-  header-test i = test-at (headerTests T) tt (faultAt-fine 0 (firstOf (headerTests T)) right) i
+  header-tests i = test-at (headerTests T) tt (faultAt-fine 0 (firstOf (headerTests T)) right) i
 
   types-few : types T ≤ 256
   unfolding headerTests
-  types-few = ltb-false 256 (types T) (either-false (eqb (types T) 0) (ltb 256 (types T)) (header-test 2) .1)
+  types-few = ltb-false 256 (types T) (either-false (eqb (types T) 0) (ltb 256 (types T)) (header-tests 2) .1)
 
   members-few : members T ≤ 1024
   unfolding headerTests
-  members-few = ltb-false 1024 (members T) (header-test 3)
+  members-few = ltb-false 1024 (members T) (header-tests 3)
 
 -- ---- what no broken rule gives
 
@@ -286,6 +327,9 @@ module _ (T : List ℕ) (right : faults T ≡ fine) where
   header-right : headerRules T ≡ fine
   unfolding faults passes
   header-right = orElse-fine (headerRules T) _ right .0
+
+  pub header-test : (i : ℕ) → getD (headerTests T) i (0, false) .1 ≡ false
+  header-test = header-tests T header-right
 
   pub types-most : types T ≤ 256
   types-most = types-few T header-right
@@ -392,45 +436,16 @@ module _ (T : List ℕ) (right : faults T ≡ fine) where
   taken-at t l o =
       eqb-true (field T t 0) (taken T t) (not-false (eqb (field T t 0) (taken T t)) (both-false (owns (kind T t)) (not (eqb (field T t 0) (taken T t))) (type-test t l 6) o))
 
-  -- the rows of an owner end before those of a later one begin
-  earlier-apart : (t r : ℕ) → r < types T → owns (kind T t) ≡ true → owns (kind T r) ≡ true → t < r → field T t 0 + field T t 1 ≤ field T r 0
-  earlier-apart t r l ot or h =
-      omega (arith, taken-rises T (suc t) r h, taken-next T t ot, taken-at t (omega arith) ot, taken-at r l or)
-
   pub rows-apart : (t r m : ℕ) → t < types T → r < types T → owns (kind T t) ≡ true → owns (kind T r) ≡ true
       → field T t 0 ≤ m → m < field T t 0 + field T t 1 → field T r 0 ≤ m → m < field T r 0 + field T r 1 → t ≡ r
-  rows-apart t r m lt lr ot or a b c d = elim (ℕ-discrete t r) [ yes e ↦ e | no e ↦ go (ltb t r) refl e ]
-    where
-      go : (q : Bool) → ltb t r ≡ q → (t ≡ r → ⊥) → t ≡ r
-      go true q e = absurd (omega (arith, earlier-apart t r lr ot or (ltb-true t r q)))
-      go false q e = let l : r ≤ t = ltb-false t r q in absurd (omega (arith, earlier-apart r t lt or ot (omega (arith, e))))
+  rows-apart = turn-apart T taken-at
 
   pub rows-there : (t m : ℕ) → t < types T → owns (kind T t) ≡ true → m < field T t 0 + field T t 1 → m < members T
   rows-there t m l o h = omega (arith, taken-rises T (suc t) (types T) l, taken-next T t o, taken-at t l o, taken-whole)
 
   module _ (t m : ℕ) (below : t < types T) (own : owns (kind T t) ≡ true) (from : field T t 0 ≤ m) (to : m < field T t 0 + field T t 1) where
-    owner-among : (n : ℕ) → t < n → n ≤ types T → ownerOf T m n ≡ t
-    unfolding ownerOf takes
-    owner-among zero l h = absurd (omega arith)
-    owner-among (suc n) l h = go (owns (kind T n)) refl (leb (field T n 0) m) refl (ltb m (field T n 0 + field T n 1)) refl (λ k. owner-among n k (omega arith))
-      where
-        here : owns (kind T n) && (leb (field T n 0) m && ltb m (field T n 0 + field T n 1)) ≡ false → t ≡ n → ⊥
-        here f e =
-            true≢false (sym (rw (← e, own, le-leb (field T t 0) m from, lt-ltb m (field T t 0 + field T t 1) to)) ∙ f)
-
-        past : owns (kind T n) && (leb (field T n 0) m && ltb m (field T n 0 + field T n 1)) ≡ false → (t < n → ownerOf T m n ≡ t) → ownerOf T m n ≡ t
-        past f ih = elim (ℕ-discrete t n) [ yes e ↦ absurd (here f e) | no e ↦ ih (omega (arith, e)) ]
-
-        go : (a : Bool) → owns (kind T n) ≡ a → (b : Bool) → leb (field T n 0) m ≡ b → (c : Bool) → ltb m (field T n 0 + field T n 1) ≡ c
-            → (t < n → ownerOf T m n ≡ t) → pick (a && (b && c)) n (ownerOf T m n) ≡ t
-        go true ea true eb true ec ih =
-            sym (rows-apart t n m below (omega arith) own ea from to (leb-true (field T n 0) m eb) (ltb-true m (field T n 0 + field T n 1) ec))
-        go true ea true eb false ec ih = past (rw (ea, eb, ec)) ih
-        go true ea false eb c ec ih = past (rw (ea, eb)) ih
-        go false ea b eb c ec ih = past (rw ea) ih
-
     pub owner-at : ownerOf T m (types T) ≡ t
-    owner-at = owner-among (types T) below (omega arith)
+    owner-at = turn-owner T taken-at t m below own from to
 
     pub mark-known : mark T m ≤ 1
     unfolding memberRules

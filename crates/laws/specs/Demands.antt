@@ -3,6 +3,7 @@
 --
 -- Tables and messages are lists of numbers; a message is one of bytes, `Bytes m`.
 --
+--   ExactTable     a table breaks no rule exactly if it is valid, said by properties apart from the passes that look for a broken rule
 --   Exact          demand 2, first sentence: a message is accepted exactly when it is the encoding of pieces that conform, and those are read
 --   ExactRows      each listed row lies in the message, and its bytes are exactly one value of its member's type
 --   ExactCounts    the skip counts count what the rows leave out
@@ -27,12 +28,19 @@ use Rattle.encoding.specs.NumberLaws.{Bytes}
 use Rattle.encoding.specs.Types.{Ty}
 use Rattle.encoding.specs.Value.{exact}
 use Rattle.encoding.specs.Table.{types, fine, faults, memberTy, trees, named, any, chain, range}
+use Rattle.encoding.specs.Valid.{Valid}
 use Rattle.encoding.specs.Slice.{Format, compact, sliced, formatNumber, Slice, known, passed, idOf}
 use Rattle.encoding.specs.Message.{Pieces, list, exception, class, Read, encode, encapsulate, noTop, limit, rules, Row, rows, rowBytes, firstKnown, optionalsSkipped, slicesSkipped, answer, reading, room, readingOf, readingNumbers}
 use Rattle.encoding.specs.Write.{Right, Out, out, stop, above, begin, Given, partOf, judgeAll, rowAt, message, writing}
 use Rattle.encoding.specs.Conform.{Conform}
 use Rattle.encoding.specs.Extends.{Extends, TopsMatch, Counterpart}
 use Rattle.laws.specs.Grammar.{IsValue}
+
+-- ---- the type table
+
+-- Rules out a rule that is left out, and one that is judged too strictly: a table with every property of `Valid` is refused nowhere.
+abbrev pub ExactTable : Type 0
+ExactTable = (T : List ℕ) → (faults T ≡ fine → Valid T) × (Valid T → faults T ≡ fine)
 
 -- ---- demand 2: what is accepted
 

@@ -10,6 +10,7 @@ pub mod RowsMost
 pub mod OptionalExact
 pub mod SliceExact
 pub mod MessageExact
+pub mod TableExact
 pub mod Small
 pub mod RowsBack
 pub mod OptionalNewer

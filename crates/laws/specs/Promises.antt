@@ -1,5 +1,6 @@
 -- Every promise of `Demands`, with its proof.
-use Rattle.laws.specs.Demands.{Exact, ExactRows, ExactCounts, ExactValues, ReadBack, WriteAgain, OneMessage, RightLists, WrongBytes, RightWritten, TooLong, NewerRead, NewerRefused, NewerReading, OneCounterpart, NewerThere}
+use Rattle.laws.specs.Demands.{ExactTable, Exact, ExactRows, ExactCounts, ExactValues, ReadBack, WriteAgain, OneMessage, RightLists, WrongBytes, RightWritten, TooLong, NewerRead, NewerRefused, NewerReading, OneCounterpart, NewerThere}
+use Rattle.laws.specs.TableExact.{exact-table}
 use Rattle.laws.specs.MessageExact.{exact-message, exact-rows}
 use Rattle.laws.specs.CountsExact.{exact-counts-from}
 use Rattle.laws.specs.ValueExact.{exact-values}
@@ -12,6 +13,7 @@ use Rattle.laws.specs.CounterpartsOne.{one-counterpart}
 use Rattle.laws.specs.Witness.{newer-there}
 
 pub record Promises : Type 0 where
+  pub table : ExactTable
   pub exact : Exact
   pub rows : ExactRows
   pub counts : ExactCounts
@@ -31,6 +33,7 @@ pub record Promises : Type 0 where
 
 pub promises : Promises
 promises = record {
+  table = exact-table;
   exact = exact-message;
   rows = exact-rows;
   counts = exact-counts-from exact-message;

@@ -1,0 +1,143 @@
+-- A type table that breaks no rule, said by properties in document 01's words, apart from the passes of `Table.faults`.
+-- Each record below is one class of rules (31 to 38, as in `Table`) or puts classes together; only the layout is shared with `Table`.
+--
+--   RecordKind k, OwnerKind k    exceptions and classes; kinds whose rows take member rows
+--   Uses k n                     a row of kind k uses its first n fields
+--   ValuePart T t r              r is a row before t of a value's kind: what an element, a key, a value or a member may be
+--   TakenBefore T t n            the rows before t take the member rows before n
+--   Owner T o m                  row o takes member row m
+--   ValidHeader T                31: the header and the lengths
+--   ValidType T t                32 to 38: a type row
+--   ValidMember T o m            32, 34, 36, 38: a member row of owner o
+--   Valid T                      the whole table
+use mathlib.Core.Path.{_≡_}
+use mathlib.Core.List.{List, [], _∷_}
+use Prim.Native.Nat.{ℕ, suc, _+_, _*_, _^_, _≤_, _<_}
+use lib.ListN.{length, take}
+use Rattle.encoding.specs.Table.{at, types, members, names, rowAt, memberAt, kind, field, memberType, mark, tag, nameOf}
+
+-- ---- kinds
+
+-- exception, class
+pub data RecordKind (k : ℕ) : Type 0 where
+  is-exception : k ≡ 13 → RecordKind k
+  is-class : k ≡ 14 → RecordKind k
+
+-- rows of kinds 9, 13, 14 and 15 take the member rows
+pub data OwnerKind (k : ℕ) : Type 0 where
+  is-struct : k ≡ 9 → OwnerKind k
+  is-record : RecordKind k → OwnerKind k
+  is-parameters : k ≡ 15 → OwnerKind k
+
+-- how many of the fields a, b, c, d, e a kind uses, from a on
+pub data Uses (k : ℕ) : ℕ → Type 0 where
+  of-basic : k ≤ 7 → Uses k 0
+  of-enum : k ≡ 8 → Uses k 2
+  of-struct : k ≡ 9 → Uses k 2
+  of-sequence : k ≡ 10 → Uses k 1
+  of-dictionary : k ≡ 11 → Uses k 2
+  of-proxy : k ≡ 12 → Uses k 0
+  of-record : RecordKind k → Uses k 5
+  of-parameters : k ≡ 15 → Uses k 2
+
+-- ---- rows and their references
+
+-- references go only to rows of a smaller number; member, element, key and value types are of kinds 0..12
+pub record ValuePart (T : List ℕ) (t r : ℕ) : Type 0 where
+  pub smaller : r < t
+  pub value-kind : kind T r ≤ 12
+
+-- no row from r on and before t takes member rows
+abbrev pub NoOwner : List ℕ → ℕ → ℕ → Type 0
+NoOwner T r t = (s : ℕ) → r ≤ s → s < t → OwnerKind (kind T s) → ⊥
+
+-- the member rows are taken one after another: the last owner before row t ends at member row n, or there is none before t and n is 0
+pub data TakenBefore (T : List ℕ) (t n : ℕ) : Type 0 where
+  none-before : NoOwner T 0 t → n ≡ 0 → TakenBefore T t n
+  last-before : (r : ℕ) → r < t → OwnerKind (kind T r) → NoOwner T (suc r) t → n ≡ field T r 0 + field T r 1 → TakenBefore T t n
+
+-- a first member, b count
+pub record Owner (T : List ℕ) (o m : ℕ) : Type 0 where
+  pub there : o < types T
+  pub owner-kind : OwnerKind (kind T o)
+  pub from : field T o 0 ≤ m
+  pub to : m < field T o 0 + field T o 1
+
+-- ---- the header
+
+-- 31: mark FGT; version 1; T 1..256, M 0..1,024, N 0..8,192; a zero byte; then T rows of 12 bytes, M of 8, N name bytes, and nothing more
+pub record ValidHeader (T : List ℕ) : Type 0 where
+  pub there : 12 ≤ length T
+  pub opening : take 3 T ≡ 70 ∷ 71 ∷ 84 ∷ []
+  pub version : at T 2 3 ≡ 1
+  pub types-least : 1 ≤ types T
+  pub types-most : types T ≤ 256
+  pub members-most : members T ≤ 1024
+  pub names-most : names T ≤ 8192
+  pub zero-byte : at T 1 11 ≡ 0
+  pub ended : length T ≡ 12 + 12 * types T + 8 * members T + names T
+
+-- ---- a type row
+
+-- 32: the zero byte, and unused fields are zero
+pub record TypeZeros (T : List ℕ) (t : ℕ) : Type 0 where
+  pub zero-byte : at T 1 (rowAt T t + 1) ≡ 0
+  pub unused : (n : ℕ) → Uses (kind T t) n → (i : ℕ) → n ≤ i → i < 5 → field T t i ≡ 0
+
+-- 34: a sequence's element; a dictionary's key and value; a record's base, its row + 1 or 0, of the same kind
+pub record TypeReferences (T : List ℕ) (t : ℕ) : Type 0 where
+  pub element : kind T t ≡ 10 → ValuePart T t (field T t 0)
+  pub key : kind T t ≡ 11 → ValuePart T t (field T t 0)
+  pub value : kind T t ≡ 11 → ValuePart T t (field T t 1)
+  pub base : RecordKind (kind T t) → (r : ℕ) → field T t 2 ≡ suc r → (r < t) × (kind T r ≡ kind T t)
+
+-- 37: a record's name is 1..255 bytes long, lies within the name bytes, and no earlier record has it
+pub record TypeName (T : List ℕ) (t : ℕ) : Type 0 where
+  pub some : 1 ≤ field T t 4
+  pub most : field T t 4 ≤ 255
+  pub inside : field T t 3 + field T t 4 ≤ names T
+  pub new : (r : ℕ) → r < t → RecordKind (kind T r) → nameOf T r ≡ nameOf T t → ⊥
+
+-- a type row by its classes: 35, an owner's a is the number taken before, also where b is 0; 36, a struct has at least one member;
+-- 38, the greatest enumerator is at most 2^31 - 1
+pub record ValidType (T : List ℕ) (t : ℕ) : Type 0 where
+  pub zeros : TypeZeros T t
+  pub known : kind T t ≤ 15
+  pub references : TypeReferences T t
+  pub in-turn : OwnerKind (kind T t) → TakenBefore T t (field T t 0)
+  pub filled : kind T t ≡ 9 → 1 ≤ field T t 1
+  pub name : RecordKind (kind T t) → TypeName T t
+  pub greatest : kind T t ≡ 8 → field T t 0 + 65536 * field T t 1 < 2 ^ 31
+
+-- ---- a member row
+
+-- 32: the zero byte, and a required member's tag is 0
+pub record MemberZeros (T : List ℕ) (m : ℕ) : Type 0 where
+  pub zero-byte : at T 1 (memberAt T m + 3) ≡ 0
+  pub untagged : mark T m ≡ 0 → tag T m ≡ 0
+
+-- 36: required or optional; the members of a struct are all required
+pub record MemberMark (T : List ℕ) (o m : ℕ) : Type 0 where
+  pub known : mark T m ≤ 1
+  pub in-struct : kind T o ≡ 9 → mark T m ≡ 0
+
+-- 38: a tag is at most 2^31 - 1, and no earlier optional of the owner has it
+pub record MemberTag (T : List ℕ) (o m : ℕ) : Type 0 where
+  pub small : tag T m < 2 ^ 31
+  pub new : mark T m ≡ 1 → (i : ℕ) → i < m → Owner T o i → mark T i ≡ 1 → tag T i ≡ tag T m → ⊥
+
+-- a member row of owner o by its classes: 34, its type is a row before the owner, of kinds 0..12
+pub record ValidMember (T : List ℕ) (o m : ℕ) : Type 0 where
+  pub zeros : MemberZeros T m
+  pub type : ValuePart T o (memberType T m)
+  pub marked : MemberMark T o m
+  pub tagged : MemberTag T o m
+
+-- ---- the table
+
+-- 35 besides: the member rows are all taken, none left over
+pub record Valid (T : List ℕ) : Type 0 where
+  pub header : ValidHeader T
+  pub type : (t : ℕ) → t < types T → ValidType T t
+  pub all-taken : TakenBefore T (types T) (members T)
+  pub member : (o m : ℕ) → Owner T o m → ValidMember T o m
