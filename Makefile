@@ -23,7 +23,7 @@ export ICEHUB_LIB_DIR = $(CURDIR)/target/staticlib
 export CARGO_TARGET_DIR = $(CURDIR)/target/cargo
 INDEPENDENT = --offline --release --manifest-path tests/independent/Cargo.toml --features library
 
-.PHONY: help run test library example fuzz bench stack bindings samples install clean
+.PHONY: help run test callers library example fuzz bench stack bindings samples install clean
 .NOTPARALLEL:
 
 ## help: list what can be made
@@ -41,9 +41,14 @@ run: $(LIBRARY) target/bin/inspect
 	@echo && echo '--- the same fault, damaged'
 	@$(INSPECT) samples/fault.table 2 samples/fault-damaged.message
 
-## test: the gate: prove every crate from nothing, try the wrong edits, run the programs
+## test: the gate: prove every crate from nothing, try the wrong edits, run the programs, then `make callers`
 test:
 	.ci/run
+
+## callers: test the library from C and from Rust: example, bindings, the independent implementation and 100,000 compared calls
+callers: example bindings
+	$(CARGO) test --offline --release --manifest-path tests/independent/Cargo.toml
+	$(CARGO) run $(INDEPENDENT) --bin fuzz -- 100000 20261116
 
 ## library: prove and build the static library, target/staticlib/libicehub.a
 library: $(LIBRARY)
