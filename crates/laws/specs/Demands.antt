@@ -9,9 +9,15 @@
 --   ExactCounts    the skip counts count what the rows leave out
 --   ExactValues    a value of a type is exactly a byte string of the grammar of values
 --   ReadBack       demand 2: what the writer makes is read as the members given
---   WriteAgain     demand 2: an accepted message with nothing skipped, written again in its own format, is the same message
+--   WriteAgain     demand 2: an accepted message with nothing skipped, written again in any format, is the encoding of its pieces in that format
+--   WriteSame      demand 2: in its own format, it is the same message
 --   OneMessage     demand 2: the members and their bytes, type and format fix the message
---   RightLists, WrongBytes, TooLong   where 20, 21 and 22 stand; RightWritten: no other refusal meets a right list
+--   EarlyRefused   when the writer answers 1, 2, 23 or 3; the only other refusals are 20, 21 and 22
+--   RightLists     when it answers 20, and where
+--   WrongBytes     when it answers 21, and where
+--   RightMakes     a right list makes exactly one message
+--   TooLong        when it answers 22, and where
+--   RightWritten   when it writes a message, and which
 --   NewerRead      demand 3: an old table accepts what a new one that extends it accepts, and lists the rows of the members that it knows
 --   NewerRefused   the one exception of demand 3
 --   NewerReading   demand 3 of the reader's answer, given room
@@ -20,18 +26,19 @@ use mathlib.Core.Path.{_≡_}
 use mathlib.Core.List.{List, [], _∷_, _++_, map}
 use mathlib.Core.Option.{none}
 use mathlib.Core.Bool.{true, false}
-use Prim.Native.Nat.{ℕ, suc, _+_, _≤_, _<_}
+use mathlib.Core.Logic.{_⊎_}
+use Prim.Native.Nat.{ℕ, suc, _+_, _*_, _≤_, _<_}
 use lib.ListN.{length, take, drop, getD}
 use lib.Dec.{eqb}
 use Rattle.encoding.specs.Result.{ok, bad, concat}
 use Rattle.encoding.specs.NumberLaws.{Bytes}
 use Rattle.encoding.specs.Types.{Ty}
 use Rattle.encoding.specs.Value.{exact}
-use Rattle.encoding.specs.Table.{types, fine, faults, memberTy, trees, named, any, chain, range}
+use Rattle.encoding.specs.Table.{types, fine, faults, memberTy, trees, named, any, chain, range, kind, fault}
 use Rattle.encoding.specs.Valid.{Valid}
 use Rattle.encoding.specs.Slice.{Format, compact, sliced, formatNumber, Slice, known, passed, idOf}
 use Rattle.encoding.specs.Message.{Pieces, list, exception, class, Read, encode, encapsulate, noTop, limit, rules, Row, rows, rowBytes, firstKnown, optionalsSkipped, slicesSkipped, answer, reading, room, readingOf, readingNumbers}
-use Rattle.encoding.specs.Write.{Right, Out, out, stop, above, begin, Given, partOf, judgeAll, rowAt, message, writing}
+use Rattle.encoding.specs.Write.{Right, out, stop, partOf, rowAt, writing, noFormat}
 use Rattle.encoding.specs.Conform.{Conform}
 use Rattle.encoding.specs.Extends.{Extends, TopsMatch, Counterpart}
 use Rattle.laws.specs.Grammar.{IsValue}
@@ -150,9 +157,17 @@ ReadBack =
     (T : List ℕ) (top type format count : ℕ) (rs buffer : List ℕ) (room : ℕ) (m : List ℕ)
     → writing T type format count rs buffer room ≡ out m → Below T top type → ReadBackAs T top type format (rowList count rs) buffer m
 
--- an accepted message with nothing skipped, written again in its own format with its own rows from itself, is the same message
+-- An accepted message with nothing skipped, written again from itself with its own rows in a format that its type may have, is the encoding of its
+-- pieces in that format, where limit and room allow.
 abbrev pub WriteAgain : Type 0
 WriteAgain =
+    (T : List ℕ) (top : ℕ) (m : List ℕ) (f : Format) (p : Pieces) (n : ℕ) (g : Format) (room : ℕ) → Bytes m → rules T top m ≡ ok (readAs f p) n
+    → Complete p → noFormat (kind T (firstKnown T top p)) (formatNumber g) ≡ false → length (encapsulate (encode g p)) ≤ limit → length (encapsulate (encode g p)) ≤ room
+    → writing T (firstKnown T top p) (formatNumber g) (length (rows T top f p)) (concat rowBytes (rows T top f p)) m room ≡ out (encapsulate (encode g p))
+
+-- written again in its own format, it is the same message
+abbrev pub WriteSame : Type 0
+WriteSame =
     (T : List ℕ) (top : ℕ) (m : List ℕ) (f : Format) (p : Pieces) (n room : ℕ) → Bytes m → rules T top m ≡ ok (readAs f p) n
     → Complete p → length m ≤ room
     → writing T (firstKnown T top p) (formatNumber f) (length (rows T top f p)) (concat rowBytes (rows T top f p)) m room ≡ out m
@@ -164,8 +179,31 @@ OneMessage =
     → rules T top m ≡ ok (readAs f p) n → rules T top′ m′ ≡ ok (readAs f p′) n′ → firstKnown T top p ≡ firstKnown T top′ p′
     → Complete p → Complete p′ → SameMembers m m′ (rows T top f p) (rows T top′ f p′) → m ≡ m′
 
+-- ---- demand 2: which answer the writer gives
+
+-- nothing is refused before the rows: the table breaks no rule, it has the type, the type may have the format, and the buffer is within the limit
+pub record Ready (T : List ℕ) (type format : ℕ) (buffer : List ℕ) : Type 0 where
+  pub table : faults T ≡ fine
+  pub there : noTop T type ≡ false
+  pub formed : noFormat (kind T type) format ≡ false
+  pub short : length buffer ≤ limit
+
+-- what is refused before the rows, by number and place: the first of the four that fails
+pub data Early (T : List ℕ) (type format : ℕ) (buffer : List ℕ) : (number place : ℕ) → Type 0 where
+  table-refused : {c p : ℕ} → faults T ≡ fault c p → Early T type format buffer 1 p
+  type-refused : faults T ≡ fine → noTop T type ≡ true → Early T type format buffer 2 0
+  format-refused : faults T ≡ fine → noTop T type ≡ false → noFormat (kind T type) format ≡ true → Early T type format buffer 23 0
+  buffer-refused : faults T ≡ fine → noTop T type ≡ false → noFormat (kind T type) format ≡ false → limit < length buffer → Early T type format buffer 3 0
+
+-- 1, 2, 23 and 3 come exactly where the table, the type, the format or the buffer is refused, and no other number but 20, 21 and 22 comes
+abbrev pub EarlyRefused : Type 0
+EarlyRefused =
+    (T : List ℕ) (type format count : ℕ) (rs buffer : List ℕ) (room n i : ℕ)
+    → (writing T type format count rs buffer room ≡ stop n i → Early T type format buffer n i ⊎ ((n ≡ 20) ⊎ ((n ≡ 21) ⊎ (n ≡ 22))))
+    × (Early T type format buffer n i → writing T type format count rs buffer room ≡ stop n i)
+
 -- some right list begins with these rows
-pub record Begins (T : List ℕ) (type : ℕ) (buffer : List ℕ) (rs : List Row) : Type 0 where
+pub record BeginsRight (T : List ℕ) (type : ℕ) (buffer : List ℕ) (rs : List Row) : Type 0 where
   pub others : List Row
   pub right : Right T type buffer (rs ++ others)
 
@@ -173,42 +211,63 @@ pub record Begins (T : List ℕ) (type : ℕ) (buffer : List ℕ) (rs : List Row
 abbrev pub RowFits : List ℕ → List ℕ → Row → Type 0
 RowFits T buffer r = exact (memberTy T (trees T) (r .member)) (partOf buffer r) ≡ true
 
--- where 20 stands: at the first row with which no right list begins, or at the count where the rows alone are no right list; the rows before have their types' bytes
-pub data Twenty (T : List ℕ) (type : ℕ) (buffer : List ℕ) (rs : List Row) (i : ℕ) : Type 0 where
-  at-row : i < length rs → Begins T type buffer (take i rs) → (Begins T type buffer (take (suc i) rs) → ⊥) → All (RowFits T buffer) (take i rs) → Twenty T type buffer rs i
-  at-count : i ≡ length rs → Begins T type buffer rs → (Right T type buffer rs → ⊥) → All (RowFits T buffer) rs → Twenty T type buffer rs i
+-- where rows are no right list: at the first row with which no right list begins, or at their count where they alone are none; the rows before have their types' bytes
+pub data NoneRight (T : List ℕ) (type : ℕ) (buffer : List ℕ) (rs : List Row) (i : ℕ) : Type 0 where
+  at-row : i < length rs → BeginsRight T type buffer (take i rs) → (BeginsRight T type buffer (take (suc i) rs) → ⊥) → All (RowFits T buffer) (take i rs) → NoneRight T type buffer rs i
+  at-count : i ≡ length rs → BeginsRight T type buffer rs → (Right T type buffer rs → ⊥) → All (RowFits T buffer) rs → NoneRight T type buffer rs i
+
+-- where 20 stands: at the count where the row bytes are too few for it, else where the rows are no right list
+pub data Twenty (T : List ℕ) (type count : ℕ) (rs buffer : List ℕ) (i : ℕ) : Type 0 where
+  too-few : length rs < 12 * count → i ≡ count → Twenty T type count rs buffer i
+  none-right : 12 * count ≤ length rs → NoneRight T type buffer (rowList count rs) i → Twenty T type count rs buffer i
+
+abbrev pub RightLists : Type 0
+RightLists =
+    (T : List ℕ) (type format count : ℕ) (rs buffer : List ℕ) (room i : ℕ)
+    → (writing T type format count rs buffer room ≡ stop 20 i → Ready T type format buffer × Twenty T type count rs buffer i)
+    × (Ready T type format buffer → Twenty T type count rs buffer i → writing T type format count rs buffer room ≡ stop 20 i)
 
 -- where 21 stands: at the first row whose bytes aren't exactly its type's, a right list beginning with the rows up to it
 pub record TwentyOne (T : List ℕ) (type : ℕ) (buffer : List ℕ) (rs : List Row) (i : ℕ) : Type 0 where
   pub inside : i < length rs
-  pub begins : Begins T type buffer (take (suc i) rs)
+  pub begins : BeginsRight T type buffer (take (suc i) rs)
   pub before : All (RowFits T buffer) (take i rs)
-  pub misfit : exact (memberTy T (trees T) (getD rs i (record { member = 0; place = 0; len = 0 }) .member)) (partOf buffer (getD rs i (record { member = 0; place = 0; len = 0 }))) ≡ false
-
--- rows under a table that breaks no rule, for a type of it, behind 2, 23 and 3
-abbrev pub judging : List ℕ → ℕ → List ℕ → List Row → Out (List Given)
-judging T type buffer rs = judgeAll T buffer (begin T type (above (chain T type))) 0 rs
-
-abbrev pub RightLists : Type 0
-RightLists =
-    (T : List ℕ) (type : ℕ) (buffer : List ℕ) (rs : List Row) (i : ℕ) → faults T ≡ fine → noTop T type ≡ false
-    → (judging T type buffer rs ≡ stop 20 i → Twenty T type buffer rs i) × (Twenty T type buffer rs i → judging T type buffer rs ≡ stop 20 i)
+  pub misfit : RowFits T buffer (getD rs i (record { member = 0; place = 0; len = 0 })) → ⊥
 
 abbrev pub WrongBytes : Type 0
 WrongBytes =
-    (T : List ℕ) (type : ℕ) (buffer : List ℕ) (rs : List Row) (i : ℕ) → faults T ≡ fine → noTop T type ≡ false
-    → (judging T type buffer rs ≡ stop 21 i → TwentyOne T type buffer rs i) × (TwentyOne T type buffer rs i → judging T type buffer rs ≡ stop 21 i)
+    (T : List ℕ) (type format count : ℕ) (rs buffer : List ℕ) (room i : ℕ)
+    → (writing T type format count rs buffer room ≡ stop 21 i → Ready T type format buffer × (12 * count ≤ length rs) × TwentyOne T type buffer (rowList count rs) i)
+    × (Ready T type format buffer → 12 * count ≤ length rs → TwentyOne T type buffer (rowList count rs) i → writing T type format count rs buffer room ≡ stop 21 i)
 
--- a right list whose rows have their types' bytes is judged right, so the writer refuses it by 22 alone
-abbrev pub RightWritten : Type 0
-RightWritten =
-    (T : List ℕ) (type : ℕ) (buffer : List ℕ) (rs : List Row) → faults T ≡ fine → noTop T type ≡ false → Right T type buffer rs → All (RowFits T buffer) rs
-    → (gs : List Given) × (judging T type buffer rs ≡ out gs)
+-- what the writer takes: nothing refused before the rows, bytes for every row, a right list, and each row's bytes exactly one value of its type
+pub record Writable (T : List ℕ) (type format count : ℕ) (rs buffer : List ℕ) : Type 0 where
+  pub ready : Ready T type format buffer
+  pub enough : 12 * count ≤ length rs
+  pub right : Right T type buffer (rowList count rs)
+  pub fits : All (RowFits T buffer) (rowList count rs)
 
--- 22 stands exactly where the message is over 65,536 bytes or its room, and its place is the message's length
+-- the message of rows: the encoding of pieces of this type and format that conform and skip nothing, whose rows are the rows given
+pub record MessageOf (T : List ℕ) (type format : ℕ) (rs : List Row) (buffer m : List ℕ) : Type 0 where
+  pub read : Read
+  pub in-format : formatNumber (read .format) ≡ format
+  pub conforms : Conform T type (read .format) (read .pieces)
+  pub of-type : firstKnown T type (read .pieces) ≡ type
+  pub complete : Complete (read .pieces)
+  pub encoded : m ≡ encapsulate (encode (read .format) (read .pieces))
+  pub members : SameMembers buffer m rs (rows T type (read .format) (read .pieces))
+
+-- a list that the writer takes has a message, and only one
+abbrev pub RightMakes : Type 0
+RightMakes =
+    (T : List ℕ) (type format count : ℕ) (rs buffer : List ℕ) → Writable T type format count rs buffer
+    → (m : List ℕ) × MessageOf T type format (rowList count rs) buffer m × ((o : List ℕ) → MessageOf T type format (rowList count rs) buffer o → o ≡ m)
+
+-- where 22 stands: at the length of a message over 65,536 bytes or over its room
 pub record TwentyTwo (T : List ℕ) (type format count : ℕ) (rs buffer : List ℕ) (room i : ℕ) : Type 0 where
+  pub writable : Writable T type format count rs buffer
   pub made : List ℕ
-  pub is-made : message T type format count rs buffer ≡ out made
+  pub is-message : MessageOf T type format (rowList count rs) buffer made
   pub too-long : (length made ≤ limit) × (length made ≤ room) → ⊥
   pub place : i ≡ length made
 
@@ -217,6 +276,19 @@ TooLong =
     (T : List ℕ) (type format count : ℕ) (rs buffer : List ℕ) (room i : ℕ)
     → (writing T type format count rs buffer room ≡ stop 22 i → TwentyTwo T type format count rs buffer room i)
     × (TwentyTwo T type format count rs buffer room i → writing T type format count rs buffer room ≡ stop 22 i)
+
+-- what is written: the message of a list that the writer takes, within limit and room
+pub record WrittenAs (T : List ℕ) (type format count : ℕ) (rs buffer : List ℕ) (room : ℕ) (m : List ℕ) : Type 0 where
+  pub writable : Writable T type format count rs buffer
+  pub is-message : MessageOf T type format (rowList count rs) buffer m
+  pub short : length m ≤ limit
+  pub fits : length m ≤ room
+
+abbrev pub RightWritten : Type 0
+RightWritten =
+    (T : List ℕ) (type format count : ℕ) (rs buffer : List ℕ) (room : ℕ) (m : List ℕ)
+    → (writing T type format count rs buffer room ≡ out m → WrittenAs T type format count rs buffer room m)
+    × (WrittenAs T type format count rs buffer room m → writing T type format count rs buffer room ≡ out m)
 
 -- ---- demand 3: an old table reads a newer message
 

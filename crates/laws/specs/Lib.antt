@@ -29,4 +29,5 @@ pub mod WriteBack
 pub mod WriteSmall
 pub mod WriteAgain
 pub mod RightLists
+pub mod WriterAnswers
 pub mod Promises

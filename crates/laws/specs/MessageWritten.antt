@@ -18,8 +18,9 @@ use Rattle.encoding.specs.Value.{exact}
 use Rattle.encoding.specs.Table.{kind, chain, range, Fault, fine, fault, faults, ruleNumber}
 use Rattle.encoding.specs.Message.{Row, encode, encapsulate, noTop, limit}
 use Rattle.encoding.specs.Write.{Out, out, stop, next, Given, noFormat, formatOf, rowAt, tableRules, early, unless, rowsGiven, judgeAll, judge, State, Reached, prepend, stillDue, reach, given, partOf, above, begin, gathered, message, bounded, writing}
-use Rattle.laws.specs.Demands.{rowList, judging, TwentyTwo, TooLong}
+use Rattle.laws.specs.Demands.{rowList}
 use Rattle.laws.specs.PlanLaws.{out≢stop, next-ok}
+use Rattle.laws.specs.PlanRules.{judging}
 
 -- what each judgement lets pass, and the message that is made
 pub record Composed (T : List ℕ) (type format count : ℕ) (rs buffer m : List ℕ) : Type 0 where
@@ -158,7 +159,16 @@ module _ (T : List ℕ) (type format count : ℕ) (rs buffer : List ℕ) where
       given true = tt
       given false = λ e. omega arith
 
-pub too-long : TooLong
+-- a message over limit or room, and its length
+pub record Overlong (T : List ℕ) (type format count : ℕ) (rs buffer : List ℕ) (room i : ℕ) : Type 0 where
+  pub made : List ℕ
+  pub is-made : message T type format count rs buffer ≡ out made
+  pub too-long : (length made ≤ limit) × (length made ≤ room) → ⊥
+  pub place : i ≡ length made
+
+pub too-long : (T : List ℕ) (type format count : ℕ) (rs buffer : List ℕ) (room i : ℕ)
+    → (writing T type format count rs buffer room ≡ stop 22 i → Overlong T type format count rs buffer room i)
+    × (Overlong T type format count rs buffer room i → writing T type format count rs buffer room ≡ stop 22 i)
 unfolding writing next bounded
 too-long T type format count rs buffer room i = (stopped, stops)
   where
@@ -168,18 +178,18 @@ too-long T type format count rs buffer room i = (stopped, stops)
     refused : (l : List ℕ) → tested l ≡ false → (length l ≤ limit) × (length l ≤ room) → ⊥
     refused l e b = true≢false (sym (rw (le-leb (length l) limit (b .0), le-leb (length l) room (b .1))) ∙ e)
 
-    stopped : writing T type format count rs buffer room ≡ stop 22 i → TwentyTwo T type format count rs buffer room i
+    stopped : writing T type format count rs buffer room ≡ stop 22 i → Overlong T type format count rs buffer room i
     stopped h = go (message T type format count rs buffer) refl (others-message T type format count rs buffer) h
       where
-        go₂ : (l : List ℕ) → message T type format count rs buffer ≡ out l → (q : Bool) → tested l ≡ q → pick q (out l) (stop 22 (length l)) ≡ stop 22 i → TwentyTwo T type format count rs buffer room i
+        go₂ : (l : List ℕ) → message T type format count rs buffer ≡ out l → (q : Bool) → tested l ≡ q → pick q (out l) (stop 22 (length l)) ≡ stop 22 i → Overlong T type format count rs buffer room i
         go₂ l e true f h = absurd (out≢stop refl h)
         go₂ l e false f h = record { made = l; is-made = e; too-long = refused l f; place = cc }
 
-        go : (o : Out (List ℕ)) → message T type format count rs buffer ≡ o → Others o → next o (bounded room) ≡ stop 22 i → TwentyTwo T type format count rs buffer room i
+        go : (o : Out (List ℕ)) → message T type format count rs buffer ≡ o → Others o → next o (bounded room) ≡ stop 22 i → Overlong T type format count rs buffer room i
         go (out l) e O h = go₂ l e (tested l) refl h
         go (stop n p) e O h = absurd (O (cc))
 
-    stops : TwentyTwo T type format count rs buffer room i → writing T type format count rs buffer room ≡ stop 22 i
+    stops : Overlong T type format count rs buffer room i → writing T type format count rs buffer room ≡ stop 22 i
     stops W = ap (λ (o : Out (List ℕ)). next o (bounded room)) (W .is-made) ∙ go (leb (length (W .made)) limit) refl (leb (length (W .made)) room) refl
       where
         go : (p : Bool) → leb (length (W .made)) limit ≡ p → (q : Bool) → leb (length (W .made)) room ≡ q → pick (p && q) (out (W .made)) (stop 22 (length (W .made))) ≡ stop 22 i

@@ -11,7 +11,7 @@
 --   Rung, Falls               a chain has rows of one kind, each smaller than the one before: chain-rungs, chain-falls, chain-owners, chain-above
 --   chain-top                 a top from which a type descends is a row of the type's chain
 --   plan-fit, plan-differ     the slots of a plan
---   judging-slots             judging rows for a type is the walk over the slots of its plan
+--   judging, judging-slots    judging rows for a type is the walk over the slots of its plan
 use mathlib.Core.Path.{_≡_, refl, sym, ap, _∙_, subst}
 use mathlib.Core.Bool.{Bool, true, false, _&&_, _||_, true≢false, false≢true}
 use mathlib.Core.Option.{some}
@@ -27,9 +27,9 @@ use Rattle.encoding.specs.Table.{types, kind, field, mark, tag, isRecord, owns,
 use Rattle.encoding.specs.RuleLaws.{member-test, kind-known, base-right, chain-node, Own, own-later, rows-apart, rows-there, mark-known, tags-differ}
 use Rattle.encoding.specs.Message.{Row, noTop}
 use Rattle.encoding.specs.MessageLaws.{top-there}
-use Rattle.encoding.specs.Write.{Slot, rising, slot, slots, planOf, plan, above, begin}
+use Rattle.encoding.specs.Write.{Slot, rising, slot, slots, planOf, plan, Out, Given, above, begin, judgeAll}
 use Rattle.encoding.specs.Conform.{Short}
-use Rattle.laws.specs.Demands.{All, end, more, Below, judging}
+use Rattle.laws.specs.Demands.{All, end, more, Below}
 use Rattle.laws.specs.RowsExact.{all-append, all-map, Found, required-found, required-typed, optional-typed}
 use Rattle.laws.specs.PlanLaws.{Pairs, alone, before, all-mapped, pairs-mapped, pairs-append, pairs-with, RowsDiffer, KeysDiffer, all-rising, rises-rising, differ-rising, from, from-zero, Ordered, future, least-zero, SlotsDiffer, judgeSlots, judge-slots}
 
@@ -218,6 +218,10 @@ top-step T top l k = rw (lt-leb (types T) top l, le-ltb (kind T top) 13 k)
 pub list-chain : (T : List ℕ) (t : ℕ) → kind T t ≡ 15 → chain T t ≡ t ∷ []
 unfolding base upward
 list-chain T t k = chain-node T t ∙ ap (λ (b : ℕ). t ∷ upward (chain T) b) (ap (λ (x : ℕ). pick (isRecord x && leb (field T t 2) t) (field T t 2) 0) k)
+
+-- rows under a table that breaks no rule, for a type of it, after 2, 23 and 3
+abbrev pub judging : List ℕ → ℕ → List ℕ → List Row → Out (List Given)
+judging T type buffer rs = judgeAll T buffer (begin T type (above (chain T type))) 0 rs
 
 -- ---- the slots of a chain
 

@@ -1,13 +1,12 @@
 -- Every promise of `Demands`, with its proof.
-use Rattle.laws.specs.Demands.{ExactTable, Exact, ExactRows, ExactCounts, ExactValues, ReadBack, WriteAgain, OneMessage, RightLists, WrongBytes, RightWritten, TooLong, NewerRead, NewerRefused, NewerReading, OneCounterpart, NewerThere}
+use Rattle.laws.specs.Demands.{ExactTable, Exact, ExactRows, ExactCounts, ExactValues, ReadBack, WriteAgain, OneMessage, RightLists, WrongBytes, RightWritten, TooLong, NewerRead, NewerRefused, NewerReading, OneCounterpart, NewerThere, WriteSame, EarlyRefused, RightMakes}
 use Rattle.laws.specs.TableExact.{exact-table}
 use Rattle.laws.specs.MessageExact.{exact-message, exact-rows}
 use Rattle.laws.specs.CountsExact.{exact-counts-from}
 use Rattle.laws.specs.ValueExact.{exact-values}
-use Rattle.laws.specs.MessageWritten.{too-long}
 use Rattle.laws.specs.WriteBack.{read-back}
-use Rattle.laws.specs.WriteAgain.{write-again, one-message}
-use Rattle.laws.specs.RightLists.{right-lists, wrong-bytes, right-written}
+use Rattle.laws.specs.WriteAgain.{write-again, write-same, one-message}
+use Rattle.laws.specs.WriterAnswers.{early-refused, right-lists, wrong-bytes, right-makes, too-long-written, right-written}
 use Rattle.laws.specs.MessageNewer.{newer-read, newer-refused, newer-reading}
 use Rattle.laws.specs.CounterpartsOne.{one-counterpart}
 use Rattle.laws.specs.Witness.{newer-there}
@@ -20,11 +19,14 @@ pub record Promises : Type 0 where
   pub values : ExactValues
   pub reads-back : ReadBack
   pub writes-again : WriteAgain
+  pub writes-same : WriteSame
   pub one : OneMessage
+  pub early : EarlyRefused
   pub right : RightLists
   pub wrong : WrongBytes
-  pub written : RightWritten
+  pub makes : RightMakes
   pub long : TooLong
+  pub written : RightWritten
   pub newer : NewerRead
   pub newer-exception : NewerRefused
   pub newer-answer : NewerReading
@@ -40,11 +42,14 @@ promises = record {
   values = exact-values;
   reads-back = read-back;
   writes-again = write-again;
+  writes-same = write-same;
   one = one-message;
+  early = early-refused;
   right = right-lists;
   wrong = wrong-bytes;
+  makes = right-makes;
+  long = too-long-written;
   written = right-written;
-  long = too-long;
   newer = newer-read;
   newer-exception = newer-refused;
   newer-answer = newer-reading;

@@ -5,10 +5,13 @@
 --   passes-right, -rest      a list is right behind them exactly if it is right with them
 --   Stops                    what stops at once, with 20 or 21
 --   stopped, stops-at        judging stops exactly where rows that pass end at such
---   right-lists              20 stands at the first row with which no right list begins
---   wrong-bytes              21 stands at the first row whose bytes aren't exactly its type's
+--   judging-twenty           20 stands at the first row with which no right list begins
+--   judging-twentyOne        21 stands at the first row whose bytes aren't exactly its type's
+--   judging-number           no other refusal comes of the rows
+--   judging-right            a right list whose rows have their types' bytes is judged right, and no other
 use mathlib.Core.Path.{_≡_, refl, sym, ap, _∙_, subst, subst₂}
 use mathlib.Core.Bool.{Bool, true, false, true≢false}
+use mathlib.Core.Logic.{_⊎_, inl, inr, ⊎-elim}
 use mathlib.Core.Option.{Option, none, some}
 use mathlib.Core.List.{List, [], _∷_, _++_, append-nil, append-assoc}
 use Prim.Native.Nat.{ℕ, zero, suc, _+_, _≤_, _<_}
@@ -26,9 +29,13 @@ use Rattle.encoding.specs.Table.{fine, faults, memberTy, trees}
 use Rattle.encoding.specs.Message.{Row, noTop}
 use Rattle.encoding.specs.Write.{Right, Slot, plan, Chosen, chosen, left, Within, Out, out, stop, next, Given, partOf, prepend}
 use Rattle.encoding.specs.Write
-use Rattle.laws.specs.Demands.{All, end, more, Begins, RowFits, Twenty, at-row, at-count, TwentyOne, RightLists, WrongBytes, judging, RightWritten}
-use Rattle.laws.specs.PlanLaws.{Pairs, before, Spot, find, find-left, find-down, find-member, anyDue, givenOf, judgeSlot, judgeSlots, SlotsDiffer, out≢stop, Fitting, judgeSlot-step, missed-all, judged-chosen, first-among}
-use Rattle.laws.specs.PlanRules.{Fit, plan-fit, plan-differ, judging-slots}
+use Rattle.laws.specs.Demands.{All, end, more, BeginsRight, RowFits, NoneRight, at-row, at-count, TwentyOne}
+use Rattle.laws.specs.PlanLaws.{Pairs, before, Spot, find, find-left, find-down, find-member, anyDue, givenOf, judgeSlot, judgeSlots, SlotsDiffer, out≢stop, Fitting, judgeSlot-step, missed-all, Judged, over, taken, missed, judged-ok, judged-chosen, first-among}
+use Rattle.laws.specs.PlanRules.{Fit, plan-fit, plan-differ, judging, judging-slots}
+
+not-true : (b : Bool) → (b ≡ true → ⊥) → b ≡ false
+not-true true h = absurd (h refl)
+not-true false h = refl
 
 pairs-tail : {A : Type 0} {R : A → A → Type 0} {a : A} {l : List A} → Pairs R (a ∷ l) → Pairs R l
 pairs-tail (before p P) = P
@@ -226,30 +233,30 @@ module _ (T buffer : List ℕ) where
   -- ---- 20 and 21
 
   module _ (type : ℕ) (Y : Tidy (plan T type)) where
-    begins : (qs rs : List Row) → Rightly buffer (plan T type) (qs ++ rs) → Begins T type buffer qs
+    begins : (qs rs : List Row) → Rightly buffer (plan T type) (qs ++ rs) → BeginsRight T type buffer qs
     begins qs rs R = record { others = rs; right = record { order = R .order; within = R .within } }
 
     -- with one row more
-    begins-more : (qs : List Row) (r : Row) (rs : List Row) → Rightly buffer (plan T type) (qs ++ (r ∷ rs)) → Begins T type buffer (qs ++ (r ∷ []))
+    begins-more : (qs : List Row) (r : Row) (rs : List Row) → Rightly buffer (plan T type) (qs ++ (r ∷ rs)) → BeginsRight T type buffer (qs ++ (r ∷ []))
     begins-more qs r rs R = begins (qs ++ (r ∷ [])) rs (subst (Rightly buffer (plan T type)) (sym (append-assoc qs (r ∷ []) rs)) R)
 
-    begun-more : (qs : List Row) (r : Row) (B : Begins T type buffer (qs ++ (r ∷ []))) → Rightly buffer (plan T type) (qs ++ (r ∷ B .others))
+    begun-more : (qs : List Row) (r : Row) (B : BeginsRight T type buffer (qs ++ (r ∷ []))) → Rightly buffer (plan T type) (qs ++ (r ∷ B .others))
     begun-more qs r B = subst (Rightly buffer (plan T type)) (append-assoc qs (r ∷ []) (B .others)) (record { order = B .right .order; within = B .right .within })
 
-    begins-passed : {qs : List Row} {ss : List Slot} → Passes (plan T type) qs ss → Begins T type buffer qs
+    begins-passed : {qs : List Row} {ss : List Slot} → Passes (plan T type) qs ss → BeginsRight T type buffer qs
     begins-passed {qs} {ss} P = begins qs (some-right buffer ss .rows) (passes-right P (some-right buffer ss .right))
 
     take-passed : (qs : List Row) (r : Row) (rs : List Row) → take (suc (length qs)) (qs ++ (r ∷ rs)) ≡ qs ++ (r ∷ [])
     take-passed qs r rs = ap (take (suc (length qs))) (sym (append-assoc qs (r ∷ []) rs)) ∙ take-at (qs ++ (r ∷ [])) rs (suc (length qs)) (omega (arith, length-append qs (r ∷ [])))
 
-    twenty-at : (qs rs : List Row) (ss : List Slot) → Passes (plan T type) qs ss → Stops true ss rs → Twenty T type buffer (qs ++ rs) (length qs)
+    twenty-at : (qs rs : List Row) (ss : List Slot) → Passes (plan T type) qs ss → Stops true ss rs → NoneRight T type buffer (qs ++ rs) (length qs)
     twenty-at qs [] ss P (missing e) =
-        subst (λ (l : List Row). Twenty T type buffer l (length qs)) (sym (append-nil qs))
+        subst (λ (l : List Row). NoneRight T type buffer l (length qs)) (sym (append-nil qs))
         (at-count refl (begins-passed P) (λ R. true≢false (sym e ∙ chosen-none (passes-rest Y P (subst (Rightly buffer (plan T type)) (sym (append-nil qs)) (record { order = R .order; within = R .within })) .order))) (passes-fit Y P))
     twenty-at qs (r ∷ rs) ss P (wrong never) =
         let t : take (length qs) (qs ++ (r ∷ rs)) ≡ qs = take-at qs (r ∷ rs) (length qs) refl in
-        at-row (omega (arith, length-append qs (r ∷ rs))) (subst (Begins T type buffer) (sym t) (begins-passed P))
-        (λ B. let C = subst (Begins T type buffer) (take-passed qs r rs) B in never (C .others) (passes-rest Y P (begun-more qs r C)))
+        at-row (omega (arith, length-append qs (r ∷ rs))) (subst (BeginsRight T type buffer) (sym t) (begins-passed P))
+        (λ B. let C = subst (BeginsRight T type buffer) (take-passed qs r rs) B in never (C .others) (passes-rest Y P (begun-more qs r C)))
         (subst (All (RowFits T buffer)) (sym t) (passes-fit Y P))
 
     abbrev nothing : Row
@@ -262,10 +269,10 @@ module _ (T buffer : List ℕ) where
         let S = some-right buffer (z .rest) in
         record {
           inside = omega (arith, length-append qs (r ∷ rs));
-          begins = subst (Begins T type buffer) (sym (take-passed qs r rs)) (begins-more qs r (S .rows) (passes-right P (rightly-more buffer r ss z e i (S .right))));
+          begins = subst (BeginsRight T type buffer) (sym (take-passed qs r rs)) (begins-more qs r (S .rows) (passes-right P (rightly-more buffer r ss z e i (S .right))));
           before = subst (All (RowFits T buffer)) (sym t) (passes-fit Y P);
-          misfit = subst (λ (y : Row). exact (memberTy T (trees T) (y .member)) (partOf buffer y) ≡ false) (sym g)
-              (ap (λ (u : Ty). exact u (partOf buffer r)) (sym (spot-type r ss z e (passes-tidy Y P))) ∙ x);
+          misfit = subst (λ (y : Row). RowFits T buffer y → ⊥) (sym g)
+              (λ f. true≢false (sym f ∙ ap (λ (u : Ty). exact u (partOf buffer r)) (sym (spot-type r ss z e (passes-tidy Y P))) ∙ x));
         }
 
     -- judging stops at row i where the rows before it pass
@@ -276,11 +283,11 @@ module _ (T buffer : List ℕ) where
         ap (judgeSlots buffer (plan T type) 0) (sym (ap (λ (l : List Row). take i rs ++ l) (sym (drop-cons rs i nothing l)) ∙ take-append-drop i rs))
         ∙ stops-at P S 0 ∙ ap (stop (number b)) e
 
-    twenty-stops : (rs : List Row) (i : ℕ) → Twenty T type buffer rs i → judgeSlots buffer (plan T type) 0 rs ≡ stop 20 i
+    twenty-stops : (rs : List Row) (i : ℕ) → NoneRight T type buffer rs i → judgeSlots buffer (plan T type) 0 rs ≡ stop 20 i
     twenty-stops rs i (at-row l B never A) =
         let P = right-passes (take i rs) (B .others) Y (record { order = B .right .order; within = B .right .within }) A in
         let r : Row = getD rs i nothing in
-        stops-row true rs i l (P .1) (wrong (λ x R. never (subst (Begins T type buffer) (sym (take-suc rs i nothing l)) (begins-more (take i rs) r x (passes-right (P .1) R)))))
+        stops-row true rs i l (P .1) (wrong (λ x R. never (subst (BeginsRight T type buffer) (sym (take-suc rs i nothing l)) (begins-more (take i rs) r x (passes-right (P .1) R)))))
     twenty-stops rs i (at-count e B never A) =
         let f : 0 + length rs ≡ i = omega arith in
         let P = right-passes rs (B .others) Y (record { order = B .right .order; within = B .right .within }) A in
@@ -295,13 +302,13 @@ module _ (T buffer : List ℕ) where
     twentyOne-stops : (rs : List Row) (i : ℕ) → TwentyOne T type buffer rs i → judgeSlots buffer (plan T type) 0 rs ≡ stop 21 i
     twentyOne-stops rs i W =
         let r : Row = getD rs i nothing in
-        let B = subst (Begins T type buffer) (take-suc rs i nothing (W .inside)) (W .begins) in
+        let B = subst (BeginsRight T type buffer) (take-suc rs i nothing (W .inside)) (W .begins) in
         let R = begun-more (take i rs) r B in
         let P = right-passes (take i rs) (r ∷ B .others) Y R (W .before) in
         let Q = passes-rest Y (P .1) R in
         let L = chosen-leaves (passes-tidy Y (P .1) .differ) (Q .order) in
         stops-row false rs i (W .inside) (P .1)
-        (misfit (L .spot) (L .found) (Q .within .0) (ap (λ (u : Ty). exact u (partOf buffer r)) (spot-type r (P .0) (L .spot) (L .found) (passes-tidy Y (P .1))) ∙ W .misfit))
+        (misfit (L .spot) (L .found) (Q .within .0) (ap (λ (u : Ty). exact u (partOf buffer r)) (spot-type r (P .0) (L .spot) (L .found) (passes-tidy Y (P .1))) ∙ not-true _ (W .misfit)))
 
 module _ (T : List ℕ) (type : ℕ) (buffer : List ℕ) (rs : List Row) (i : ℕ) (right : faults T ≡ fine) (there : noTop T type ≡ false) where
   tidy-plan : Tidy T buffer (plan T type)
@@ -324,17 +331,26 @@ module _ (T : List ℕ) (type : ℕ) (buffer : List ℕ) (rs : List Row) (i : �
           let place : length (S .passed) ≡ i = omega (arith, S .is-place) in
           subst₂ Q (sym (S .split)) place (f (S .passed) (S .behind) (S .slots) (S .passes) (subst (λ (c : Bool). Stops T buffer c (S .slots) (S .behind)) (same b (S .which) (S .is-number)) (S .stops)))
 
-pub right-lists : RightLists
-right-lists T type buffer rs i right there = (
-  stopped-as T type buffer rs i right there true (Twenty T type buffer) (twenty-at T buffer type (tidy-plan T type buffer rs i right there)),
-  λ W. judging-slots T right type there buffer rs ∙ twenty-stops T buffer type (tidy-plan T type buffer rs i right there) rs i W,
-)
+  pub judging-twenty : (judging T type buffer rs ≡ stop 20 i → NoneRight T type buffer rs i) × (NoneRight T type buffer rs i → judging T type buffer rs ≡ stop 20 i)
+  judging-twenty = (
+    stopped-as true (NoneRight T type buffer) (twenty-at T buffer type tidy-plan),
+    λ W. judging-slots T right type there buffer rs ∙ twenty-stops T buffer type tidy-plan rs i W,
+  )
 
-pub wrong-bytes : WrongBytes
-wrong-bytes T type buffer rs i right there = (
-  stopped-as T type buffer rs i right there false (TwentyOne T type buffer) (twentyOne-at T buffer type (tidy-plan T type buffer rs i right there)),
-  λ W. judging-slots T right type there buffer rs ∙ twentyOne-stops T buffer type (tidy-plan T type buffer rs i right there) rs i W,
-)
+  pub judging-twentyOne : (judging T type buffer rs ≡ stop 21 i → TwentyOne T type buffer rs i) × (TwentyOne T type buffer rs i → judging T type buffer rs ≡ stop 21 i)
+  judging-twentyOne = (
+    stopped-as false (TwentyOne T type buffer) (twentyOne-at T buffer type tidy-plan),
+    λ W. judging-slots T right type there buffer rs ∙ twentyOne-stops T buffer type tidy-plan rs i W,
+  )
+
+  pub judging-number : (n : ℕ) → judging T type buffer rs ≡ stop n i → (n ≡ 20) ⊎ (n ≡ 21)
+  judging-number n e =
+      let S = stopped T buffer rs (plan T type) 0 tidy-plan (sym (judging-slots T right type there buffer rs) ∙ e) in
+      go (S .which) (S .is-number)
+    where
+      go : (b : Bool) → n ≡ number T buffer b → (n ≡ 20) ⊎ (n ≡ 21)
+      go true q = inl q
+      go false q = inr q
 
 -- ---- a right list is judged right
 
@@ -345,23 +361,38 @@ all-at d (more p A) zero l = p
 all-at d (more p A) (suc i) l = all-at d A i (omega arith)
 
 module _ (T : List ℕ) (type : ℕ) (buffer : List ℕ) (rs : List Row) (R : Right T type buffer rs) (A : All (RowFits T buffer) rs) where
-  no-twenty : (i : ℕ) → Twenty T type buffer rs i → ⊥
+  no-twenty : (i : ℕ) → NoneRight T type buffer rs i → ⊥
   no-twenty i (at-row l B never F) =
       never (record { others = drop (suc i) rs; right = subst (Right T type buffer) (sym (take-append-drop (suc i) rs)) R })
   no-twenty i (at-count e B never F) = never R
 
   no-twentyOne : (i : ℕ) → TwentyOne T type buffer rs i → ⊥
-  no-twentyOne i W = true≢false (sym (all-at (record { member = 0; place = 0; len = 0 }) A i (W .inside)) ∙ W .misfit)
+  no-twentyOne i W = W .misfit (all-at (record { member = 0; place = 0; len = 0 }) A i (W .inside))
 
-pub right-written : RightWritten
-right-written T type buffer rs right there R A = go (judging T type buffer rs) refl
-  where
-    never : (n i : ℕ) (b : Bool) → n ≡ number T buffer b → judging T type buffer rs ≡ stop n i → ⊥
-    never n i true q e = no-twenty T type buffer rs R A i (right-lists T type buffer rs i right there .0 (e ∙ ap (λ (k : ℕ). stop k i) q))
-    never n i false q e = no-twentyOne T type buffer rs R A i (wrong-bytes T type buffer rs i right there .0 (e ∙ ap (λ (k : ℕ). stop k i) q))
+module _ (T : List ℕ) (type : ℕ) (buffer : List ℕ) (rs : List Row) (right : faults T ≡ fine) (there : noTop T type ≡ false) where
+  pub judging-right : Right T type buffer rs → All (RowFits T buffer) rs → (gs : List Given) × (judging T type buffer rs ≡ out gs)
+  judging-right R A = go (judging T type buffer rs) refl
+    where
+      go : (o : Out (List Given)) → judging T type buffer rs ≡ o → (gs : List Given) × (judging T type buffer rs ≡ out gs)
+      go (out gs) e = (gs, e)
+      go (stop n i) e =
+          absurd (⊎-elim
+          (λ q. no-twenty T type buffer rs R A i (judging-twenty T type buffer rs i right there .0 (e ∙ ap (λ (k : ℕ). stop k i) q)))
+          (λ q. no-twentyOne T type buffer rs R A i (judging-twentyOne T type buffer rs i right there .0 (e ∙ ap (λ (k : ℕ). stop k i) q)))
+          (judging-number T type buffer rs i right there n e))
 
-    go : (o : Out (List Given)) → judging T type buffer rs ≡ o → (gs : List Given) × (judging T type buffer rs ≡ out gs)
-    go (out gs) e = (gs, e)
-    go (stop n i) e =
-        let S = stopped T buffer rs (plan T type) 0 (tidy-plan T type buffer rs 0 right there) (sym (judging-slots T right type there buffer rs) ∙ e) in
-        absurd (never n i (S .which) (S .is-number) e)
+  pub right-judging : {gs : List Given} → judging T type buffer rs ≡ out gs → Right T type buffer rs × All (RowFits T buffer) rs
+  right-judging h =
+      let K = judged-ok buffer rs (plan T type) 0 (sym (judging-slots T right type there buffer rs) ∙ h) in
+      (record { order = judged-chosen K; within = judged-within K }, judged-fit (plan-fit T right type there) K)
+    where
+      judged-within : {ss : List Slot} {rs : List Row} {gs : List Given} → Judged buffer ss rs gs → Within (length buffer) rs
+      judged-within over = tt
+      judged-within (taken e i x K) = (i, judged-within K)
+      judged-within (missed d K) = judged-within K
+
+      judged-fit : {ss : List Slot} {rs : List Row} {gs : List Given} → All (Fit T) ss → Judged buffer ss rs gs → All (RowFits T buffer) rs
+      judged-fit end over = end
+      judged-fit (more {a = s} f F) (taken {r = r} e i x K) =
+          more {a = r} (ap (λ (t : Ty). exact t (partOf buffer r)) (ap (memberTy T (trees T)) e ∙ sym (f .typed)) ∙ x) (judged-fit F K)
+      judged-fit (more f F) (missed d K) = judged-fit F K

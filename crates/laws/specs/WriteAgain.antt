@@ -2,9 +2,9 @@
 --
 --   level-judged, follow-judged   the rows of an owner, of a chain, are judged right and give just these pieces
 --   Again, again                  the rows of a whole message
---   write-again                   demand 2: it is the same message
---   one-message                   demand 2: members and bytes, type and format fix the message
-use mathlib.Core.Path.{_≡_, refl, sym, ap, ap₂, _∙_, subst}
+--   write-again, write-same       demand 2: it is the encoding of the pieces in the format asked for, and in its own format the same message
+--   one-pieces, one-message       demand 2: members and bytes, type and format fix the message
+use mathlib.Core.Path.{_≡_, refl, sym, ap, ap₂, _∙_, subst, subst₂}
 use mathlib.Core.Bool.{true, false}
 use mathlib.Core.Logic.{⊎-elim}
 use mathlib.Core.Option.{Option, some}
@@ -25,13 +25,13 @@ use Rattle.encoding.specs.Message.{Pieces, list, exception, class, encode, enca
 use Rattle.encoding.specs.MessageLaws.{length-rows}
 use Rattle.encoding.specs.Write.{Slot, rising, slot, slots, planOf, plan, out, Given, partOf, piecesOf, slicesOf, gathered, noFormat, formatOf}
 use Rattle.encoding.specs.Conform.{Level, Owned, Follow, Slices, Conform}
-use Rattle.laws.specs.Demands.{Follows, All, more, SameMembers, same-member, Below, Complete, WriteAgain, OneMessage, judging}
+use Rattle.laws.specs.Demands.{Follows, All, more, SameMembers, same-member, Below, Complete, WriteAgain, WriteSame, OneMessage}
 use Rattle.laws.specs.OptionalNewer.{lookup-key}
 use Rattle.laws.specs.RowsExact.{Stands, stands-first, stands-next, stands-inside, stands-there, stands-encapsulated, content-stands, others-stand, data-stand, slices-stand, Found, required-found}
 use Rattle.laws.specs.MessageExact.{exact-message}
 use Rattle.laws.specs.RowsBack.{rows-back, accepted-rows-small}
 use Rattle.laws.specs.PlanLaws.{Pairs, alone, before, Ordered, from, from-zero, optional-spot, givenOf, Judged, over, taken, missed, SlotsDiffer, find-judged, judged-chosen, first-among, judged-step}
-use Rattle.laws.specs.PlanRules.{Owner, owner-ordered, slots-owner, Falls, plan-owner, chain-falls, chain-owners, chain-top, plan-differ, list-chain, top-owner, top-step, judging-slots}
+use Rattle.laws.specs.PlanRules.{Owner, owner-ordered, slots-owner, Falls, plan-owner, chain-falls, chain-owners, chain-top, plan-differ, list-chain, top-owner, top-step, judging, judging-slots}
 use Rattle.laws.specs.GatherLaws.{piecesIn, judged-append, judged-owner, slices-own, owns-all}
 use Rattle.laws.specs.MessageWritten.{writing-step}
 
@@ -125,7 +125,7 @@ module _ (T m : List ℕ) (right : faults T ≡ fine) where
 
 -- ---- the rows of a message
 
--- rows that are judged right for a type and make just these pieces, which a format may have
+-- rows that are judged right for a type and make just these pieces, which may have the format
 record Again (T m : List ℕ) (f : Format) (p : Pieces) (rs : List Row) (type : ℕ) : Type 0 where
   there : noTop T type ≡ false
   formed : noFormat (kind T type) (formatNumber f) ≡ false
@@ -201,7 +201,7 @@ module _ (T : List ℕ) (right : faults T ≡ fine) (top : ℕ) (there : noTop T
 
 -- ---- written again
 
-format-again : (f : Format) → formatOf (formatNumber f) ≡ f
+pub format-again : (f : Format) → formatOf (formatNumber f) ≡ f
 unfolding formatOf
 format-again compact = refl
 format-again sliced = refl
@@ -212,27 +212,34 @@ follows-again T top m f p F Z =
     subst (λ (z : List ℕ). Again T z f p (rows T top f p) (firstKnown T top p)) (sym (F .encoded)) (again T (F .table) top (F .top-there) f p (F .conforms) Z)
 
 pub write-again : WriteAgain
-write-again T top m f p n room yM h Z fits =
+write-again T top m f p n g room yM h Z formed short fits =
     let F = exact-message T top m f p n yM .0 h .0 in
     let A = follows-again T top m f p F Z in
     let type : ℕ = firstKnown T top p in
     let rs : List Row = rows T top f p in
     let S = accepted-rows-small T top m f p n yM h in
     let right : judging T type m rs ≡ out (A .gives) = judging-slots T (F .table) type (A .there) m rs ∙ judged-step 0 (plan-differ T (F .table) type (A .there)) (A .judged) in
-    writing-step T type (formatNumber f) (length rs) (concat rowBytes rs) m room (record {
+    writing-step T type (formatNumber g) (length rs) (concat rowBytes rs) m room (record {
       composed = record {
         table = F .table;
         there = A .there;
-        formed = A .formed;
+        formed = formed;
         short = F .short;
         enough = omega (arith, length-rows rs);
         given = A .gives;
         judged = ap (judging T type m) (rows-back S (concat rowBytes rs) [] (sym (append-nil (concat rowBytes rs)))) ∙ right;
-        made = F .encoded ∙ ap₂ (λ (g : Format) (q : Pieces). encapsulate (encode g q)) (sym (format-again f)) (sym (A .same));
+        made = ap₂ (λ (g : Format) (q : Pieces). encapsulate (encode g q)) (sym (format-again g)) (sym (A .same));
       };
-      short = F .short;
+      short = short;
       fits = fits;
     })
+
+pub write-same : WriteSame
+write-same T top m f p n room yM h Z fits =
+    let F = exact-message T top m f p n yM .0 h .0 in
+    let A = follows-again T top m f p F Z in
+    let l : length m ≡ length (encapsulate (encode f p)) = ap length (F .encoded) in
+    write-again T top m f p n f room yM h Z (A .formed) (omega (arith, F .short)) (omega arith) ∙ ap out (sym (F .encoded))
 
 -- ---- one message
 
@@ -245,13 +252,22 @@ given-same (before D P) (taken e i x K) (missed d K′) (same-member q b l M) = 
 given-same (before D P) (missed d K) (taken e i x K′) (same-member q b l M) = let F = first-among D (judged-chosen K) in absurd (F .1 (sym e ∙ sym q ∙ F .2))
 given-same (before D P) (missed d K) (missed d′ K′) M = given-same P K K′ M
 
+-- pieces of one type and format that conform, nothing skipped, with the same members and the same bytes, are the same
+pub one-pieces : (T : List ℕ) (top top′ : ℕ) (f : Format) (p p′ : Pieces) → faults T ≡ fine → noTop T top ≡ false → noTop T top′ ≡ false
+    → Conform T top f p → Conform T top′ f p′ → firstKnown T top p ≡ firstKnown T top′ p′ → Complete p → Complete p′
+    → SameMembers (encapsulate (encode f p)) (encapsulate (encode f p′)) (rows T top f p) (rows T top′ f p′) → p ≡ p′
+one-pieces T top top′ f p p′ right there there′ C C′ t Z Z′ M =
+    let A = again T right top there f p C Z in
+    let A′ = again T right top′ there′ f p′ C′ Z′ in
+    let K′ : Judged (encapsulate (encode f p′)) (plan T (firstKnown T top p)) (rows T top′ f p′) (A′ .gives) =
+    subst (λ (t : ℕ). Judged (encapsulate (encode f p′)) (plan T t) (rows T top′ f p′) (A′ .gives)) (sym t) (A′ .judged) in
+    let g : A .gives ≡ A′ .gives = given-same (plan-differ T right (firstKnown T top p) (A .there)) (A .judged) K′ M in
+    sym (A .same) ∙ ap₂ (gathered T) t g ∙ A′ .same
+
 pub one-message : OneMessage
 one-message T top top′ m m′ f p p′ n n′ yM yM′ h h′ t Z Z′ M =
     let F = exact-message T top m f p n yM .0 h .0 in
     let F′ = exact-message T top′ m′ f p′ n′ yM′ .0 h′ .0 in
-    let A = follows-again T top m f p F Z in
-    let A′ = follows-again T top′ m′ f p′ F′ Z′ in
-    let K′ : Judged m′ (plan T (firstKnown T top p)) (rows T top′ f p′) (A′ .gives) = subst (λ (t : ℕ). Judged m′ (plan T t) (rows T top′ f p′) (A′ .gives)) (sym t) (A′ .judged) in
-    let g : A .gives ≡ A′ .gives = given-same (plan-differ T (F .table) (firstKnown T top p) (A .there)) (A .judged) K′ M in
-    let q : p ≡ p′ = sym (A .same) ∙ ap₂ (gathered T) t g ∙ A′ .same in
+    let N = subst₂ (λ (a b : List ℕ). SameMembers a b (rows T top f p) (rows T top′ f p′)) (F .encoded) (F′ .encoded) M in
+    let q = one-pieces T top top′ f p p′ (F .table) (F .top-there) (F′ .top-there) (F .conforms) (F′ .conforms) t Z Z′ N in
     F .encoded ∙ ap (λ (x : Pieces). encapsulate (encode f x)) q ∙ sym (F′ .encoded)
