@@ -13,6 +13,7 @@ pub mod MessageExact
 pub mod TableExact
 pub mod Small
 pub mod RowsBack
+pub mod Lose
 pub mod OptionalNewer
 pub mod RecordNewer
 pub mod SliceNewer

@@ -18,7 +18,7 @@ use Rattle.encoding.specs.Table
 use Rattle.encoding.specs.Optional.{Piece, required, optional, skipped, headerBytes, lengthBytes, frontBytes, contentBytes, pieceBytes, isOptional}
 use Rattle.encoding.specs.Slice.{Format, Slice, known, passed, Stand, first, later, anyOptional, hasOptionals, idOf, dataBytes, sliceFront, isLast, slicesBytes}
 use Rattle.encoding.specs.Message.{Pieces, list, exception, class, encode, passedIn, slicesSkipped}
-use Rattle.encoding.specs.Extends.{keepOr, losePiece, loseKnown, loseSlice, lose}
+use Rattle.laws.specs.Lose.{keepOr, losePiece, loseKnown, loseSlice, lose}
 
 pub losePiece-bytes : (ms : List Member) (p : Piece) → pieceBytes (losePiece ms p) ≡ pieceBytes p
 unfolding losePiece keepOr pieceBytes frontBytes contentBytes

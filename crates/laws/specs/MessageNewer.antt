@@ -25,8 +25,9 @@ use Rattle.encoding.specs.WalkLaws.{head-ok, head-refused, slice-refused}
 use Rattle.encoding.specs.Message.{Pieces, list, exception, class, Read, encode, encapsulate, markerForm, contents, ended, body, noTop, limit, rules, rows, Answer, answer, within, room, reading, accepted}
 use Rattle.encoding.specs.MessageLaws.{top-there, length-encapsulate, body-encapsulated, rules-body}
 use Rattle.encoding.specs.Conform.{Short, Slices, Conform}
-use Rattle.encoding.specs.Extends.{Extends, TopsMatch, as-records, as-lists, SameOwner, as-tops, lose}
+use Rattle.encoding.specs.Extends.{Extends, TopsMatch, as-records, as-lists, SameOwner, as-tops}
 use Rattle.laws.specs.Demands.{readAs, Follows, Kept, firstId, Foreign, an-exception, a-class, Newer, Understood, NewerRead, NewerRefused, NewerReading}
+use Rattle.laws.specs.Lose.{lose}
 use Rattle.laws.specs.SliceExact.{content-any, head-written}
 use Rattle.laws.specs.MessageExact.{exact-message}
 use Rattle.laws.specs.LoseLaws.{lose-bytes, lose-passed}

@@ -22,7 +22,8 @@ use Rattle.encoding.specs.Table
 use Rattle.encoding.specs.Optional.{Piece, required, optional, skipped, extent, part, lengthBytes}
 use Rattle.encoding.specs.OptionalLaws.{part-extent}
 use Rattle.encoding.specs.Conform.{Short, Known, Unknown, Level, Owned}
-use Rattle.encoding.specs.Extends.{OptionalsMatch, OwnersMatch, typeOf, keepOr, losePiece}
+use Rattle.encoding.specs.Extends.{OptionalsMatch, OwnersMatch, typeOf}
+use Rattle.laws.specs.Lose.{keepOr, losePiece}
 use Rattle.laws.specs.OptionalExact.{part-written}
 
 -- ---- members that match

@@ -20,8 +20,9 @@ use Rattle.encoding.specs.Optional.{Piece, required, optional, skipped, frontBy
 use Rattle.encoding.specs.Slice.{Format, Slice, known, passed, Stand, later, anyOptional, dataBytes, sliceFront, isLast}
 use Rattle.encoding.specs.Message.{Row, listRow, pieceMember, pieceRows, sliceRows, orZero, firstIn}
 use Rattle.encoding.specs.Conform.{Follow, Slices}
-use Rattle.encoding.specs.Extends.{OwnersMatch, Extends, SameOwner, as-records, as-tops, MembersMatch, both-required, both-optional, Counterpart, typeOf, keepOr, losePiece, loseKnown, loseSlice}
+use Rattle.encoding.specs.Extends.{OwnersMatch, Extends, SameOwner, as-records, as-tops, MembersMatch, both-required, both-optional, Counterpart, typeOf}
 use Rattle.laws.specs.Demands.{Kept, ended, kept, lost}
+use Rattle.laws.specs.Lose.{keepOr, losePiece, loseKnown, loseSlice}
 use Rattle.laws.specs.OptionalNewer.{lookup-key, optionals-match, required-positions, lookup-same, loseAll}
 use Rattle.laws.specs.LoseLaws.{losePiece-bytes, loseSlice-data, loseSlice-front, loseSlices-last}
 use Rattle.laws.specs.RecordNewer.{Bases, neither, both, bases-of, Standing, standing-base, record-list, Pair, new-record, pair-of, pair-only, pair-named, named-both}

@@ -14,8 +14,9 @@ use Rattle.encoding.specs.Table.{types, kind, isRecord, nameOf, named, base, up
 use Rattle.encoding.specs.RuleLaws.{base-right, named-short, named-ok, named-at, chain-node}
 use Rattle.encoding.specs.Slice.{Format, sliced, Slice, known, passed, Stand, later, idOf, dataBytes, sliceFront, isLast, slicesBytes}
 use Rattle.encoding.specs.Conform.{Short, Follow, Slices}
-use Rattle.encoding.specs.Extends.{Extends, loseKnown, loseSlice}
+use Rattle.encoding.specs.Extends.{Extends}
 use Rattle.laws.specs.Demands.{firstId}
+use Rattle.laws.specs.Lose.{loseKnown, loseSlice}
 use Rattle.laws.specs.SliceExact.{content-any}
 use Rattle.laws.specs.OptionalNewer.{owned-newer}
 use Rattle.laws.specs.RecordNewer.{Pair, Bases, neither, both, bases-of, pair-named, named-both, named-only, Descends, Line, here, above, descends-ok, descends-newer}
