@@ -6,6 +6,11 @@
 --   ExactTable     a table breaks no rule exactly if it is valid, said by properties apart from the passes that look for a broken rule
 --   Exact          demand 2, first sentence: a message is accepted exactly when it is the encoding of pieces that conform, and those are read
 --   ExactRows      each listed row lies in the message, and its bytes are exactly one value of its member's type
+--   ListedRows     the rows are those of the pieces that are not skipped: each has its piece's member and bytes
+--   RowsApart      rows are in message order and share no byte
+--   RowsRight      rows are a right list of the first known type
+--   RowsOnce       no member has two rows, and there are at most as many rows as the table has members
+--   Unambiguous    a message has one reading
 --   ExactCounts    the skip counts count what the rows leave out
 --   ExactValues    a value of a type is exactly a byte string of the grammar of values
 --   ReadBack       demand 2: what the writer makes is read as the members given
@@ -24,18 +29,20 @@
 --   OneCounterpart, NewerThere   a new member has at most one match in the old table; demand 3 speaks of some message
 use mathlib.Core.Path.{_≡_}
 use mathlib.Core.List.{List, [], _∷_, _++_, map}
-use mathlib.Core.Option.{none}
-use mathlib.Core.Bool.{true, false}
+use mathlib.Core.Option.{none, some}
+use mathlib.Core.Bool.{Bool, true, false}
 use mathlib.Core.Logic.{_⊎_}
 use Prim.Native.Nat.{ℕ, suc, _+_, _*_, _≤_, _<_}
 use lib.ListN.{length, take, drop, getD}
 use lib.Dec.{eqb}
 use Rattle.encoding.specs.Result.{ok, bad, concat}
 use Rattle.encoding.specs.NumberLaws.{Bytes}
-use Rattle.encoding.specs.Types.{Ty}
+use Rattle.encoding.specs.Types.{Ty, Form, Bits}
 use Rattle.encoding.specs.Value.{exact}
-use Rattle.encoding.specs.Table.{types, fine, faults, memberTy, trees, named, any, chain, range, kind, fault}
+use Rattle.encoding.specs.Table.{types, fine, faults, memberTy, trees, named, any, chain, range, kind, fault, members, Member, lookup}
 use Rattle.encoding.specs.Valid.{Valid}
+use Rattle.encoding.specs.Table
+use Rattle.encoding.specs.Optional.{Piece, required, optional, skipped}
 use Rattle.encoding.specs.Slice.{Format, compact, sliced, formatNumber, Slice, known, passed, idOf}
 use Rattle.encoding.specs.Message.{Pieces, list, exception, class, Read, encode, encapsulate, noTop, limit, rules, Row, rows, rowBytes, firstKnown, optionalsSkipped, slicesSkipped, answer, reading, room, readingOf, readingNumbers}
 use Rattle.encoding.specs.Write.{Right, out, stop, partOf, rowAt, writing, noFormat}
@@ -86,6 +93,71 @@ abbrev pub ExactRows : Type 0
 ExactRows =
     (T : List ℕ) (top : ℕ) (m : List ℕ) (f : Format) (p : Pieces) (n : ℕ) → Bytes m
     → rules T top m ≡ ok (readAs f p) n → All (RowExact T m) (rows T top f p)
+
+-- a row of member d in the message m, whose bytes are b
+pub record RowOf (m : List ℕ) (d : Member) (b : List ℕ) (r : Row) : Type 0 where
+  pub member : r .member ≡ d .row
+  pub bytes : take (r .len) (drop (r .place) m) ≡ b
+  pub len : r .len ≡ length b
+
+-- pieces of owner t and their rows, in order: a piece that is not skipped has the row of its member with its content
+pub data ListedOf (T m : List ℕ) (t : ℕ) : List Piece → List Row → Type 0 where
+  none-left : ListedOf T m t [] []
+  a-required : {i : ℕ} {b : List ℕ} {ps : List Piece} {d : Member} {r : Row} {rs : List Row} → lookup i (Table.required T t) ≡ some d → RowOf m d b r
+      → ListedOf T m t ps rs → ListedOf T m t (required i b ∷ ps) (r ∷ rs)
+  an-optional : {k : ℕ} {f : Form} {b : List ℕ} {ps : List Piece} {d : Member} {r : Row} {rs : List Row} → lookup k (Table.optional T t) ≡ some d → RowOf m d b r
+      → ListedOf T m t ps rs → ListedOf T m t (optional k f b ∷ ps) (r ∷ rs)
+  a-skipped : {k : ℕ} {f : Bits} {b : List ℕ} {ps : List Piece} {rs : List Row} → ListedOf T m t ps rs → ListedOf T m t (skipped k f b ∷ ps) rs
+
+-- slices and their rows, in order: a known slice is of the record that the table has under its type ID
+pub data ListedIn (T m : List ℕ) : List Slice → List Row → Type 0 where
+  none-left : ListedIn T m [] []
+  a-known : {o : List ℕ} {ps : List Piece} {ss : List Slice} {t : ℕ} {rs rs′ : List Row} → named T o ≡ some t → ListedOf T m t ps rs
+      → ListedIn T m ss rs′ → ListedIn T m (known o ps ∷ ss) (rs ++ rs′)
+  a-passed : {b : Bool} {nm d : List ℕ} {ss : List Slice} {rs : List Row} → ListedIn T m ss rs → ListedIn T m (passed b nm d ∷ ss) rs
+
+-- a message's pieces and their rows; a parameter list is of the top
+abbrev pub Listed : List ℕ → List ℕ → ℕ → Pieces → List Row → Type 0
+Listed T m top (list ps) rs = ListedOf T m top ps rs
+Listed T m top (exception ss) rs = ListedIn T m ss rs
+Listed T m top (class ss) rs = ListedIn T m ss rs
+
+-- Rules out a row of another member of the same type, and one that has another value's bytes.
+abbrev pub ListedRows : Type 0
+ListedRows =
+    (T : List ℕ) (top : ℕ) (m : List ℕ) (f : Format) (p : Pieces) (n : ℕ) → Bytes m
+    → rules T top m ≡ ok (readAs f p) n → Listed T m top p (rows T top f p)
+
+-- rows one after another from a place on: each begins at or after the end of the one before
+abbrev pub Apart : ℕ → List Row → Type 0
+Apart at [] = Unit {0}
+Apart at (r ∷ rs) = (at ≤ r .place) × Apart (r .place + r .len) rs
+
+-- the first row begins after size and version
+abbrev pub RowsApart : Type 0
+RowsApart =
+    (T : List ℕ) (top : ℕ) (m : List ℕ) (f : Format) (p : Pieces) (n : ℕ) → rules T top m ≡ ok (readAs f p) n → Apart 6 (rows T top f p)
+
+-- Rows that were read may be written: their members come in the writer's order, and no required one is missing.
+abbrev pub RowsRight : Type 0
+RowsRight =
+    (T : List ℕ) (top : ℕ) (m : List ℕ) (f : Format) (p : Pieces) (n : ℕ) → Bytes m
+    → rules T top m ≡ ok (readAs f p) n → Right T (firstKnown T top p) m (rows T top f p)
+
+-- no two rows have one member
+abbrev pub Once : List Row → Type 0
+Once [] = Unit {0}
+Once (r ∷ rs) = All (λ (s : Row). r .member ≡ s .member → ⊥) rs × Once rs
+
+abbrev pub RowsOnce : Type 0
+RowsOnce =
+    (T : List ℕ) (top : ℕ) (m : List ℕ) (f : Format) (p : Pieces) (n : ℕ) → Bytes m
+    → rules T top m ≡ ok (readAs f p) n → Once (rows T top f p) × (length (rows T top f p) ≤ members T)
+
+-- no bytes are the encoding of two readings
+abbrev pub Unambiguous : Type 0
+Unambiguous =
+    (T : List ℕ) (top : ℕ) (m : List ℕ) (f g : Format) (p q : Pieces) → Bytes m → Follows T top m f p → Follows T top m g q → readAs f p ≡ readAs g q
 
 -- the members that stand in known slices, and the slices
 unfoldable pub membersIn : List Slice → ℕ

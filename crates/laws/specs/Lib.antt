@@ -29,6 +29,9 @@ pub mod GatherLaws
 pub mod WriteBack
 pub mod WriteSmall
 pub mod WriteAgain
+pub mod RowsListed
+pub mod RowsApart
+pub mod RowsRight
 pub mod RightLists
 pub mod WriterAnswers
 pub mod Promises

@@ -33,7 +33,7 @@ use Rattle.encoding.specs.Table.{Member, lookup, required, optional, any}
 use Rattle.encoding.specs.Optional
 use Rattle.encoding.specs.Message.{Row}
 use Rattle.encoding.specs.Write
-use Rattle.encoding.specs.Write.{Slot, Chosen, chosen, left, insert, rising, slot, slots, planOf, Out, out, stop, next, State, Reached, reachDue, optionalRow, orAbove, entered, reachMay, reach, anyOf, stillDue, Given, given, partOf, judge, prepend, judgeAll}
+use Rattle.encoding.specs.Write.{Slot, Chosen, chosen, left, Within, insert, rising, slot, slots, planOf, Out, out, stop, next, State, Reached, reachDue, optionalRow, orAbove, entered, reachMay, reach, anyOf, stillDue, Given, given, partOf, judge, prepend, judgeAll}
 use Rattle.laws.specs.Demands.{All, end, more}
 use Rattle.laws.specs.RowsExact.{all-append, all-map, lookup-all}
 
@@ -494,6 +494,11 @@ pub judged-chosen : {buffer : List ℕ} {ss : List Slot} {rs : List Row} {gs : L
 judged-chosen over = Write.end
 judged-chosen (taken e i x K) = chosen e (judged-chosen K)
 judged-chosen (missed d K) = left d (judged-chosen K)
+
+pub judged-within : {buffer : List ℕ} {ss : List Slot} {rs : List Row} {gs : List Given} → Judged buffer ss rs gs → Within (length buffer) rs
+judged-within over = tt
+judged-within (taken e i x K) = (i, judged-within K)
+judged-within (missed d K) = judged-within K
 
 pub missed-all : {buffer : List ℕ} (ss : List Slot) → anyDue ss ≡ false → Judged buffer ss [] []
 unfolding anyDue

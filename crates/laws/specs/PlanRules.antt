@@ -14,6 +14,7 @@
 --   judging, judging-slots    judging rows for a type is the walk over the slots of its plan
 use mathlib.Core.Path.{_≡_, refl, sym, ap, _∙_, subst}
 use mathlib.Core.Bool.{Bool, true, false, _&&_, _||_, true≢false, false≢true}
+use mathlib.Core.Logic.{⊎-elim}
 use mathlib.Core.Option.{some}
 use mathlib.Core.List.{List, [], _∷_, _++_, map}
 use Prim.Native.Nat.{ℕ, zero, suc, _≤_, _<_}
@@ -24,7 +25,7 @@ use Rattle.encoding.specs.Result.{pick}
 use Rattle.encoding.specs.Number.{negative}
 use Rattle.encoding.specs.Types.{Ty}
 use Rattle.encoding.specs.Table.{types, kind, field, mark, tag, isRecord, owns, range, fine, faults, great, memberRules, Member, memberTy, trees, ownRows, requiredOf, optionalOf, required, optional, lookup, base, upward, chain, any}
-use Rattle.encoding.specs.RuleLaws.{member-test, kind-known, base-right, chain-node, Own, own-later, rows-apart, rows-there, mark-known, tags-differ}
+use Rattle.encoding.specs.RuleLaws.{member-test, kind-known, record-kind, base-right, chain-node, Own, own-later, rows-apart, rows-there, mark-known, tags-differ}
 use Rattle.encoding.specs.Message.{Row, noTop}
 use Rattle.encoding.specs.MessageLaws.{top-there}
 use Rattle.encoding.specs.Write.{Slot, rising, slot, slots, planOf, plan, Out, Given, above, begin, judgeAll}
@@ -213,6 +214,10 @@ module _ (T : List ℕ) (t : ℕ) where
 pub top-step : (T : List ℕ) (top : ℕ) → top < types T → 13 ≤ kind T top → noTop T top ≡ false
 unfolding noTop
 top-step T top l k = rw (lt-leb (types T) top l, le-ltb (kind T top) 13 k)
+
+-- a record is a top
+pub record-there : (T : List ℕ) (t : ℕ) → t < types T → isRecord (kind T t) ≡ true → noTop T t ≡ false
+record-there T t l h = top-step T t l (⊎-elim (λ e. omega arith) (λ e. omega arith) (record-kind (kind T t) h))
 
 -- a parameter list is its own chain
 pub list-chain : (T : List ℕ) (t : ℕ) → kind T t ≡ 15 → chain T t ≡ t ∷ []

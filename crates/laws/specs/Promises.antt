@@ -1,7 +1,10 @@
 -- Every promise of `Demands`, with its proof.
-use Rattle.laws.specs.Demands.{ExactTable, Exact, ExactRows, ExactCounts, ExactValues, ReadBack, WriteAgain, OneMessage, RightLists, WrongBytes, RightWritten, TooLong, NewerRead, NewerRefused, NewerReading, OneCounterpart, NewerThere, WriteSame, EarlyRefused, RightMakes}
+use Rattle.laws.specs.Demands.{ExactTable, Exact, ExactRows, ListedRows, RowsApart, RowsRight, RowsOnce, Unambiguous, ExactCounts, ExactValues, ReadBack, WriteAgain, OneMessage, RightLists, WrongBytes, RightWritten, TooLong, NewerRead, NewerRefused, NewerReading, OneCounterpart, NewerThere, WriteSame, EarlyRefused, RightMakes}
 use Rattle.laws.specs.TableExact.{exact-table}
 use Rattle.laws.specs.MessageExact.{exact-message, exact-rows}
+use Rattle.laws.specs.RowsListed.{listed-rows}
+use Rattle.laws.specs.RowsApart.{listed-apart}
+use Rattle.laws.specs.RowsRight.{rows-right, rows-once, unambiguous}
 use Rattle.laws.specs.CountsExact.{exact-counts-from}
 use Rattle.laws.specs.ValueExact.{exact-values}
 use Rattle.laws.specs.WriteBack.{read-back}
@@ -15,6 +18,11 @@ pub record Promises : Type 0 where
   pub table : ExactTable
   pub exact : Exact
   pub rows : ExactRows
+  pub listed : ListedRows
+  pub apart : RowsApart
+  pub rows-right : RowsRight
+  pub once : RowsOnce
+  pub unambiguous : Unambiguous
   pub counts : ExactCounts
   pub values : ExactValues
   pub reads-back : ReadBack
@@ -38,6 +46,11 @@ promises = record {
   table = exact-table;
   exact = exact-message;
   rows = exact-rows;
+  listed = listed-rows;
+  apart = listed-apart;
+  rows-right = rows-right;
+  once = rows-once;
+  unambiguous = unambiguous;
   counts = exact-counts-from exact-message;
   values = exact-values;
   reads-back = read-back;

@@ -30,7 +30,7 @@ use Rattle.encoding.specs.Message.{Row, noTop}
 use Rattle.encoding.specs.Write.{Right, Slot, plan, Chosen, chosen, left, Within, Out, out, stop, next, Given, partOf, prepend}
 use Rattle.encoding.specs.Write
 use Rattle.laws.specs.Demands.{All, end, more, BeginsRight, RowFits, NoneRight, at-row, at-count, TwentyOne}
-use Rattle.laws.specs.PlanLaws.{Pairs, before, Spot, find, find-left, find-down, find-member, anyDue, givenOf, judgeSlot, judgeSlots, SlotsDiffer, out≢stop, Fitting, judgeSlot-step, missed-all, Judged, over, taken, missed, judged-ok, judged-chosen, first-among}
+use Rattle.laws.specs.PlanLaws.{Pairs, before, Spot, find, find-left, find-down, find-member, anyDue, givenOf, judgeSlot, judgeSlots, SlotsDiffer, out≢stop, Fitting, judgeSlot-step, missed-all, Judged, over, taken, missed, judged-ok, judged-chosen, judged-within, first-among}
 use Rattle.laws.specs.PlanRules.{Fit, plan-fit, plan-differ, judging, judging-slots}
 
 not-true : (b : Bool) → (b ≡ true → ⊥) → b ≡ false
@@ -386,11 +386,6 @@ module _ (T : List ℕ) (type : ℕ) (buffer : List ℕ) (rs : List Row) (right 
       let K = judged-ok buffer rs (plan T type) 0 (sym (judging-slots T right type there buffer rs) ∙ h) in
       (record { order = judged-chosen K; within = judged-within K }, judged-fit (plan-fit T right type there) K)
     where
-      judged-within : {ss : List Slot} {rs : List Row} {gs : List Given} → Judged buffer ss rs gs → Within (length buffer) rs
-      judged-within over = tt
-      judged-within (taken e i x K) = (i, judged-within K)
-      judged-within (missed d K) = judged-within K
-
       judged-fit : {ss : List Slot} {rs : List Row} {gs : List Given} → All (Fit T) ss → Judged buffer ss rs gs → All (RowFits T buffer) rs
       judged-fit end over = end
       judged-fit (more {a = s} f F) (taken {r = r} e i x K) =

@@ -2,7 +2,8 @@
 -- An owner lists each of its members at most once: required ones as declared, optionals by rising tag. The owners of a chain take member rows of their own.
 --
 --   pieceRows-most      the rows of one owner are at most the member rows that it takes
---   rows-most           the rows of pieces that conform are at most 1,024
+--   rows-members        the rows of pieces that conform are at most the members of the table
+--   rows-most           so at most 1,024
 use mathlib.Core.Path.{_≡_, refl, ap, subst}
 use mathlib.Core.Bool.{Bool, true, false}
 use mathlib.Core.Option.{Option, none, some}
@@ -135,10 +136,13 @@ module _ (T : List ℕ) (right : faults T ≡ fine) where
       ))
   slices-most top g (passed b nm d ∷ ss) (P, C) s at = slices-most top g ss C (later g) _
 
-  pub rows-most : (top : ℕ) (f : Format) (p : Pieces) → top < types T → Conform T top f p → length (rows T top f p) ≤ 1024
+  pub rows-members : (top : ℕ) (f : Format) (p : Pieces) → top < types T → Conform T top f p → length (rows T top f p) ≤ members T
   unfolding rows
-  rows-most top f (list ps) l (k, g, L) =
+  rows-members top f (list ps) l (k, g, L) =
       let o : owns (kind T top) ≡ true = ap (λ (i : ℕ). owns i) k in
-      omega (arith, pieceRows-most T top ps L 6, taken-next T top o, taken-rises T (suc top) (types T) l, taken-whole T right, members-most T right)
-  rows-most top f (exception ss) l (k, C) = omega (arith, slices-most top f ss C first 6, members-most T right)
-  rows-most top f (class ss) l (k, C) = omega (arith, slices-most top f ss C first 7, members-most T right)
+      omega (arith, pieceRows-most T top ps L 6, taken-next T top o, taken-rises T (suc top) (types T) l, taken-whole T right)
+  rows-members top f (exception ss) l (k, C) = slices-most top f ss C first 6
+  rows-members top f (class ss) l (k, C) = slices-most top f ss C first 7
+
+  pub rows-most : (top : ℕ) (f : Format) (p : Pieces) → top < types T → Conform T top f p → length (rows T top f p) ≤ 1024
+  rows-most top f p l C = omega (arith, rows-members top f p l C, members-most T right)

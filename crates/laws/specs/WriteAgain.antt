@@ -1,39 +1,77 @@
--- An accepted message with nothing skipped, written again with its own rows: its pieces are the ones that the rows make.
+-- An accepted message, written again with its own rows: the rows make its pieces but those that were skipped.
 --
---   level-judged, follow-judged   the rows of an owner, of a chain, are judged right and give just these pieces
+--   keptPieces, keptSlices, kept  what was not skipped; all, where nothing was
+--   level-judged, follow-judged   the rows of an owner, of a chain, are judged right and give just what was kept
 --   Again, again                  the rows of a whole message
 --   write-again, write-same       demand 2: it is the encoding of the pieces in the format asked for, and in its own format the same message
 --   one-pieces, one-message       demand 2: members and bytes, type and format fix the message
 use mathlib.Core.Path.{_≡_, refl, sym, ap, ap₂, _∙_, subst, subst₂}
-use mathlib.Core.Bool.{true, false}
-use mathlib.Core.Logic.{⊎-elim}
+use mathlib.Core.Bool.{Bool, true, false}
 use mathlib.Core.Option.{Option, some}
 use mathlib.Core.List.{List, [], _∷_, _++_, map, append-nil}
 use Prim.Native.Nat.{ℕ, suc, _+_, _≤_}
 use native.Mathlib.Omega.{arith}
 use lib.ListN.{length}
-use borrow.Author.Tests.{ne-eqb}
-use Rattle.encoding.specs.Result.{concat}
+use lib.Dec.{leb}
+use borrow.Author.Tests.{leb-true, leb-false, ne-eqb}
+use Rattle.encoding.specs.Result.{pick, concat}
 use Rattle.encoding.specs.Types.{Form}
 use Rattle.encoding.specs.Value.{exact}
-use Rattle.encoding.specs.Table.{kind, isRecord, fine, faults, chain, Member, lookup}
+use Rattle.encoding.specs.Table.{kind, fine, faults, chain, Member, lookup}
 use Rattle.encoding.specs.Table
-use Rattle.encoding.specs.RuleLaws.{record-kind, named-ok}
+use Rattle.encoding.specs.RuleLaws.{named-ok}
 use Rattle.encoding.specs.Optional.{Piece, required, optional, skipped, pieceBytes, frontBytes, contentBytes, isSkipped}
 use Rattle.encoding.specs.Slice.{Format, compact, sliced, formatNumber, Slice, known, passed, Stand, first, later, slicesBytes, dataBytes, sliceFront, isLast}
 use Rattle.encoding.specs.Message.{Pieces, list, exception, class, encode, encapsulate, noTop, Row, listRow, pieceMember, pieceRows, sliceRows, orZero, firstIn, firstKnown, rows, rowBytes, skippedPieces, skippedIn, passedIn, optionalsSkipped, slicesSkipped}
 use Rattle.encoding.specs.MessageLaws.{length-rows}
 use Rattle.encoding.specs.Write.{Slot, rising, slot, slots, planOf, plan, out, Given, partOf, piecesOf, slicesOf, gathered, noFormat, formatOf}
 use Rattle.encoding.specs.Conform.{Level, Owned, Follow, Slices, Conform}
-use Rattle.laws.specs.Demands.{Follows, All, more, SameMembers, same-member, Below, Complete, WriteAgain, WriteSame, OneMessage}
+use Rattle.laws.specs.Demands.{Follows, All, more, SameMembers, same-member, Complete, WriteAgain, WriteSame, OneMessage}
 use Rattle.laws.specs.OptionalNewer.{lookup-key}
 use Rattle.laws.specs.RowsExact.{Stands, stands-first, stands-next, stands-inside, stands-there, stands-encapsulated, content-stands, others-stand, data-stand, slices-stand, Found, required-found}
 use Rattle.laws.specs.MessageExact.{exact-message}
 use Rattle.laws.specs.RowsBack.{rows-back, accepted-rows-small}
 use Rattle.laws.specs.PlanLaws.{Pairs, alone, before, Ordered, from, from-zero, optional-spot, givenOf, Judged, over, taken, missed, SlotsDiffer, find-judged, judged-chosen, first-among, judged-step}
-use Rattle.laws.specs.PlanRules.{Owner, owner-ordered, slots-owner, Falls, plan-owner, chain-falls, chain-owners, chain-top, plan-differ, list-chain, top-owner, top-step, judging, judging-slots}
+use Rattle.laws.specs.PlanRules.{Owner, owner-ordered, slots-owner, Falls, plan-owner, chain-falls, chain-owners, chain-top, plan-differ, list-chain, record-there, top-owner, judging, judging-slots}
 use Rattle.laws.specs.GatherLaws.{piecesIn, judged-append, judged-owner, slices-own, owns-all}
 use Rattle.laws.specs.MessageWritten.{writing-step}
+
+-- ---- what was not skipped
+
+unfoldable pub keptPieces : List Piece → List Piece
+keptPieces [] = []
+keptPieces (required i b ∷ ps) = required i b ∷ keptPieces ps
+keptPieces (optional k f b ∷ ps) = optional k f b ∷ keptPieces ps
+keptPieces (skipped k f b ∷ ps) = keptPieces ps
+
+unfoldable pub keptSlices : List Slice → List Slice
+keptSlices [] = []
+keptSlices (known o ps ∷ ss) = known o (keptPieces ps) ∷ keptSlices ss
+keptSlices (passed b nm d ∷ ss) = keptSlices ss
+
+unfoldable pub kept : Pieces → Pieces
+kept (list ps) = list (keptPieces ps)
+kept (exception ss) = exception (keptSlices ss)
+kept (class ss) = class (keptSlices ss)
+
+pieces-kept : (ps : List Piece) → skippedPieces ps ≡ 0 → keptPieces ps ≡ ps
+unfolding keptPieces skippedPieces isSkipped
+pieces-kept [] z = refl
+pieces-kept (required i b ∷ ps) z = ap (λ (l : List Piece). required i b ∷ l) (pieces-kept ps (omega arith))
+pieces-kept (optional k f b ∷ ps) z = ap (λ (l : List Piece). optional k f b ∷ l) (pieces-kept ps (omega arith))
+pieces-kept (skipped k f b ∷ ps) z = absurd (omega arith)
+
+slices-kept : (ss : List Slice) → skippedIn ss ≡ 0 → passedIn ss ≡ 0 → keptSlices ss ≡ ss
+unfolding keptSlices skippedIn passedIn
+slices-kept [] z y = refl
+slices-kept (known o ps ∷ ss) z y = ap₂ (λ (l : List Piece) (k : List Slice). known o l ∷ k) (pieces-kept ps (omega arith)) (slices-kept ss (omega arith) y)
+slices-kept (passed b nm d ∷ ss) z y = absurd (omega arith)
+
+complete-kept : (p : Pieces) → Complete p → kept p ≡ p
+unfolding kept optionalsSkipped slicesSkipped
+complete-kept (list ps) Z = ap list (pieces-kept ps (Z .optionals))
+complete-kept (exception ss) Z = ap exception (slices-kept ss (Z .optionals) (Z .slices))
+complete-kept (class ss) Z = ap class (slices-kept ss (Z .optionals) (Z .slices))
 
 -- ---- the rows of one owner
 
@@ -61,143 +99,166 @@ module _ (T m : List ℕ) (t : ℕ) where
   missed-optionals [] = over
   missed-optionals (o ∷ os) = missed refl (missed-optionals os)
 
-  level-judged : Ordered T t → (ms : List Member) → All (Found (Table.required T t)) ms → (least : ℕ) (ps : List Piece) → Level ms (Table.optional T t) least ps → skippedPieces ps ≡ 0
+  -- optionals of small tags may be missed
+  judged-from : (n : ℕ) (ds : List Member) {rs : List Row} {gs : List Given} → Judged m (map (slot t false) (from n ds)) rs gs → Judged m (map (slot t false) ds) rs gs
+  unfolding from slot
+  judged-from n [] K = K
+  judged-from n (d ∷ ds) {rs} {gs} K = go (leb n (d .key)) K (λ K. judged-from n ds K)
+    where
+      go : (q : Bool) → Judged m (map (slot t false) (pick q (d ∷ ds) (from n ds))) rs gs → (Judged m (map (slot t false) (from n ds)) rs gs → Judged m (map (slot t false) ds) rs gs)
+          → Judged m (map (slot t false) (d ∷ ds)) rs gs
+      go true K ih = K
+      go false K ih = missed refl (ih K)
+
+  judged-earlier : (least n : ℕ) → least ≤ n → (ds : List Member) {rs : List Row} {gs : List Given} → Judged m (map (slot t false) (from n ds)) rs gs → Judged m (map (slot t false) (from least ds)) rs gs
+  unfolding from slot
+  judged-earlier least n l [] K = K
+  judged-earlier least n l (d ∷ ds) {rs} {gs} K = go (leb least (d .key)) refl (leb n (d .key)) refl K (λ K. judged-earlier least n l ds K)
+    where
+      go : (p : Bool) → leb least (d .key) ≡ p → (q : Bool) → leb n (d .key) ≡ q → Judged m (map (slot t false) (pick q (d ∷ ds) (from n ds))) rs gs
+          → (Judged m (map (slot t false) (from n ds)) rs gs → Judged m (map (slot t false) (from least ds)) rs gs) → Judged m (map (slot t false) (pick p (d ∷ ds) (from least ds))) rs gs
+      go true e true f K ih = K
+      go true e false f K ih = missed refl (judged-from n ds K)
+      go false e true f K ih = absurd (omega (arith, leb-false least (d .key) e, leb-true n (d .key) f))
+      go false e false f K ih = ih K
+
+  level-judged : Ordered T t → (ms : List Member) → All (Found (Table.required T t)) ms → (least : ℕ) (ps : List Piece) → Level ms (Table.optional T t) least ps
       → (at : ℕ) → Stands m at (concat pieceBytes ps)
-      → Judged m (map (slot t true) ms ++ map (slot t false) (from least (rising (Table.optional T t)))) (pieceRows T t at ps) (map (givenTo t) ps)
-  unfolding pieceRows pieceMember listRow contentBytes skippedPieces isSkipped givenOf slot
-  level-judged O [] F least [] L z at S = missed-optionals (from least (rising (Table.optional T t)))
-  level-judged O [] F least (required i b ∷ ps) L z at S = absurd L
-  level-judged O [] F least (optional k f b ∷ ps) (K, L) z at S =
+      → Judged m (map (slot t true) ms ++ map (slot t false) (from least (rising (Table.optional T t)))) (pieceRows T t at ps) (map (givenTo t) (keptPieces ps))
+  unfolding pieceRows pieceMember listRow contentBytes keptPieces givenOf slot
+  level-judged O [] F least [] L at S = missed-optionals (from least (rising (Table.optional T t)))
+  level-judged O [] F least (required i b ∷ ps) L at S = absurd L
+  level-judged O [] F least (optional k f b ∷ ps) (K, L) at S =
       let d : Member = K .member in
       let key : k ≡ d .key = lookup-key k (Table.optional T t) d (K .found) in
       let p : Piece = optional k f b in
-      let ih = level-judged O [] F (suc k) ps L (omega arith) (at + length (pieceBytes p)) (others-stand T m p ps at S) in
-      subst (λ (o : Option Member). Judged m (map (slot t false) (from least (rising (Table.optional T t)))) (listRow o (at + length (frontBytes p)) b (pieceRows T t (at + length (pieceBytes p)) ps)) (map (givenTo t) (p ∷ ps)))
+      let ih = level-judged O [] F (suc k) ps L (at + length (pieceBytes p)) (others-stand T m p ps at S) in
+      subst (λ (o : Option Member). Judged m (map (slot t false) (from least (rising (Table.optional T t)))) (listRow o (at + length (frontBytes p)) b (pieceRows T t (at + length (pieceBytes p)) ps)) (map (givenTo t) (p ∷ keptPieces ps)))
       (sym (K .found))
       (find-judged (map (slot t false) (from least (rising (Table.optional T t)))) _ (optional-spot t k least (O .rows) (O .keys) (K .found) (K .rises))
       (row-taken (slot t false d) (givenTo t p) (at + length (frontBytes p)) b (ap₂ (λ (n : ℕ) (x : Form). givenTo t (optional n x b)) (sym key) (sym (K .form))) (K .one) (content-stands T m p ps at S)
-      (subst (λ (n : ℕ). Judged m (map (slot t false) (from (suc n) (rising (Table.optional T t)))) (pieceRows T t (at + length (pieceBytes p)) ps) (map (givenTo t) ps)) key ih)))
-  level-judged O [] F least (skipped k f b ∷ ps) L z at S = absurd (omega arith)
-  level-judged O (d ∷ ds) F least [] L z at S = absurd L
-  level-judged O (d ∷ ds) (more q F) least (required i b ∷ ps) (e, x, L) z at S =
+      (subst (λ (n : ℕ). Judged m (map (slot t false) (from (suc n) (rising (Table.optional T t)))) (pieceRows T t (at + length (pieceBytes p)) ps) (map (givenTo t) (keptPieces ps))) key ih)))
+  level-judged O [] F least (skipped k f b ∷ ps) (U, L) at S =
+      judged-earlier least (suc k) (omega (arith, U .rises)) (rising (Table.optional T t))
+      (level-judged O [] F (suc k) ps L (at + length (pieceBytes (skipped k f b))) (others-stand T m (skipped k f b) ps at S))
+  level-judged O (d ∷ ds) F least [] L at S = absurd L
+  level-judged O (d ∷ ds) (more q F) least (required i b ∷ ps) (e, x, L) at S =
       let p : Piece = required i b in
       let found : lookup i (Table.required T t) ≡ some d = rw e q in
-      subst (λ (o : Option Member). Judged m (map (slot t true) (d ∷ ds) ++ map (slot t false) (from least (rising (Table.optional T t)))) (listRow o (at + length (frontBytes p)) b (pieceRows T t (at + length (pieceBytes p)) ps)) (map (givenTo t) (p ∷ ps)))
+      subst (λ (o : Option Member). Judged m (map (slot t true) (d ∷ ds) ++ map (slot t false) (from least (rising (Table.optional T t)))) (listRow o (at + length (frontBytes p)) b (pieceRows T t (at + length (pieceBytes p)) ps)) (map (givenTo t) (p ∷ keptPieces ps)))
       (sym found)
       (row-taken (slot t true d) (givenTo t p) (at + length (frontBytes p)) b (ap (λ (n : ℕ). givenTo t (required n b)) (sym e)) x (content-stands T m p ps at S)
-      (level-judged O ds F least ps L (omega arith) (at + length (pieceBytes p)) (others-stand T m p ps at S)))
-  level-judged O (d ∷ ds) F least (optional k f b ∷ ps) L z at S = absurd L
-  level-judged O (d ∷ ds) F least (skipped k f b ∷ ps) L z at S = absurd L
+      (level-judged O ds F least ps L (at + length (pieceBytes p)) (others-stand T m p ps at S)))
+  level-judged O (d ∷ ds) F least (optional k f b ∷ ps) L at S = absurd L
+  level-judged O (d ∷ ds) F least (skipped k f b ∷ ps) L at S = absurd L
 
-  owned-judged : Ordered T t → (ps : List Piece) → Owned T t ps → skippedPieces ps ≡ 0 → (at : ℕ) → Stands m at (concat pieceBytes ps) → Judged m (slots T t) (pieceRows T t at ps) (map (givenTo t) ps)
+  owned-judged : Ordered T t → (ps : List Piece) → Owned T t ps → (at : ℕ) → Stands m at (concat pieceBytes ps) → Judged m (slots T t) (pieceRows T t at ps) (map (givenTo t) (keptPieces ps))
   unfolding slots
-  owned-judged O ps L z at S =
-      subst (λ (l : List Member). Judged m (map (slot t true) (Table.required T t) ++ map (slot t false) l) (pieceRows T t at ps) (map (givenTo t) ps)) (from-zero (rising (Table.optional T t)))
-      (level-judged O (Table.required T t) (required-found T t) 0 ps L z at S)
+  owned-judged O ps L at S =
+      subst (λ (l : List Member). Judged m (map (slot t true) (Table.required T t) ++ map (slot t false) l) (pieceRows T t at ps) (map (givenTo t) (keptPieces ps))) (from-zero (rising (Table.optional T t)))
+      (level-judged O (Table.required T t) (required-found T t) 0 ps L at S)
 
 -- ---- the rows of a chain
 
--- rows that are judged right for the rows of a chain and make just these slices
+-- rows that are judged right for the rows of a chain and make just what was kept of slices
 record Regains (T m ts : List ℕ) (rs : List Row) (ss : List Slice) : Type 0 where
   gives : List Given
   judged : Judged m (planOf T ts) rs gives
-  same : slicesOf T gives ts ≡ ss
+  same : slicesOf T gives ts ≡ keptSlices ss
 
 module _ (T m : List ℕ) (right : faults T ≡ fine) where
-  follow-judged : (g : Format) (ts : List ℕ) (ss : List Slice) → All (Owner T) ts → Pairs Falls ts → Follow T ts ss → skippedIn ss ≡ 0
+  follow-judged : (g : Format) (ts : List ℕ) (ss : List Slice) → All (Owner T) ts → Pairs Falls ts → Follow T ts ss
       → (s : Stand) (at : ℕ) → Stands m at (slicesBytes g s ss) → Regains T m ts (sliceRows T g s at ts ss) ss
-  unfolding sliceRows planOf slicesOf skippedIn dataBytes
-  follow-judged g [] [] O P F z s at S = record { gives = []; judged = over; same = refl }
-  follow-judged g [] (sl ∷ ss) O P F z s at S = absurd F
-  follow-judged g (t ∷ ts) [] O P F z s at S = absurd F
-  follow-judged g (t ∷ ts) (known o ps ∷ ss) (more x O) (before p P) (e, L, F) z s at S =
+  unfolding sliceRows planOf slicesOf keptSlices dataBytes
+  follow-judged g [] [] O P F s at S = record { gives = []; judged = over; same = refl }
+  follow-judged g [] (sl ∷ ss) O P F s at S = absurd F
+  follow-judged g (t ∷ ts) [] O P F s at S = absurd F
+  follow-judged g (t ∷ ts) (known o ps ∷ ss) (more x O) (before p P) (e, L, F) s at S =
       let d : ℕ = at + length (sliceFront g s (isLast ss) (known o ps)) in
-      let K : Judged m (slots T t) (pieceRows T t d ps) (map (givenTo t) ps) =
-      owned-judged T m t (owner-ordered T t right x) ps L (omega arith) d (stands-first (concat pieceBytes ps) _ (data-stand T m g s (known o ps) ss at S)) in
-      let R = follow-judged g ts ss O P F (omega arith) (later g) _ (slices-stand T m g s (known o ps) ss at S) in
+      let K : Judged m (slots T t) (pieceRows T t d ps) (map (givenTo t) (keptPieces ps)) =
+      owned-judged T m t (owner-ordered T t right x) ps L d (stands-first (concat pieceBytes ps) _ (data-stand T m g s (known o ps) ss at S)) in
+      let R = follow-judged g ts ss O P F (later g) _ (slices-stand T m g s (known o ps) ss at S) in
       record {
-        gives = map (givenTo t) ps ++ R .gives;
+        gives = map (givenTo t) (keptPieces ps) ++ R .gives;
         judged = judged-append K (R .judged);
         same = slices-own T p (judged-owner (λ (o : ℕ). o ≡ t) (slots-owner T t) K) (judged-owner (Falls t) (plan-owner T (Falls t) ts p) (R .judged))
-            ∙ ap₂ (λ (sl : Slice) (l : List Slice). sl ∷ l) (ap₂ known (sym e) (pieces-given t ps)) (R .same);
+            ∙ ap₂ (λ (sl : Slice) (l : List Slice). sl ∷ l) (ap₂ known (sym e) (pieces-given t (keptPieces ps))) (R .same);
       }
-  follow-judged g (t ∷ ts) (passed b nm d ∷ ss) O P F z s at S = absurd F
+  follow-judged g (t ∷ ts) (passed b nm d ∷ ss) O P F s at S = absurd F
 
 -- ---- the rows of a message
 
--- rows that are judged right for a type and make just these pieces, which may have the format
-record Again (T m : List ℕ) (f : Format) (p : Pieces) (rs : List Row) (type : ℕ) : Type 0 where
+-- rows that are judged right for a type and make just what was kept of the pieces, which may have the format
+pub record Again (T m : List ℕ) (f : Format) (p : Pieces) (rs : List Row) (type : ℕ) : Type 0 where
+  pub there : noTop T type ≡ false
+  pub formed : noFormat (kind T type) (formatNumber f) ≡ false
+  pub gives : List Given
+  pub judged : Judged m (plan T type) rs gives
+  pub same : gathered T type gives ≡ kept p
+
+-- the rows of slices, of the first known type
+record AgainIn (T m : List ℕ) (top : ℕ) (rs : List Row) (ss : List Slice) (type : ℕ) : Type 0 where
   there : noTop T type ≡ false
-  formed : noFormat (kind T type) (formatNumber f) ≡ false
-  gives : List Given
-  judged : Judged m (plan T type) rs gives
-  same : gathered T type gives ≡ p
-
--- a record's slices begin with a known one
-record Starts (T : List ℕ) (top : ℕ) (ss : List Slice) : Type 0 where
-  row : ℕ
-  is-first : firstIn T ss ≡ row
-  there : noTop T row ≡ false
-  descends : Below T top row
-  follow : Follow T (chain T row) ss
-
-module _ (T : List ℕ) (top : ℕ) where
-  starts : (f : Format) (ss : List Slice) → Slices T top f ss → passedIn ss ≡ 0 → Starts T top ss
-  unfolding passedIn firstIn orZero
-  starts f [] C z = absurd C
-  starts f (known o ps ∷ ss) C z =
-      let N = named-ok T o (C .row) (C .known) in
-      record { row = C .row; is-first = ap orZero (C .known); there = top-step T (C .row) (N .0) (record-high (kind T (C .row)) (N .1)); descends = C .descends; follow = C .follow }
-    where
-      record-high : (k : ℕ) → isRecord k ≡ true → 13 ≤ k
-      record-high k h = ⊎-elim (λ e. omega arith) (λ e. omega arith) (record-kind k h)
-  starts f (passed b nm d ∷ ss) C z = absurd (omega arith)
+  alike : kind T type ≡ kind T top
+  regains : Regains T m (chain T type) rs ss
 
 formed-record : (k : ℕ) (f : Format) → (k ≡ 15 → ⊥) → noFormat k (formatNumber f) ≡ false
 unfolding noFormat
 formed-record k compact h = ne-eqb k 15 h
 formed-record k sliced h = refl
 
-module _ (T : List ℕ) (right : faults T ≡ fine) (top : ℕ) (there : noTop T top ≡ false) where
-  list-again : (f : Format) (ps : List Piece) → Conform T top f (list ps) → Complete (list ps) → Again T (encapsulate (encode f (list ps))) f (list ps) (rows T top f (list ps)) top
-  unfolding rows encode plan planOf gathered noFormat optionalsSkipped
-  list-again f ps (k, g, L) Z =
-      let m : List ℕ = encapsulate (concat pieceBytes ps) in
-      let K : Judged m (slots T top) (pieceRows T top 6 ps) (map (givenTo top) ps) =
-      owned-judged T m top (owner-ordered T top right (top-owner T right top there)) ps L (Z .optionals) 6 (stands-encapsulated (concat pieceBytes ps)) in
-      let own : piecesOf top (map (givenTo top) ps) ≡ ps = owns-all (judged-owner (λ (o : ℕ). o ≡ top) (slots-owner T top) K) ∙ pieces-given top ps in
-      record {
+module _ (T : List ℕ) (right : faults T ≡ fine) (top : ℕ) where
+  slices-again : (m : List ℕ) (f : Format) (ss : List Slice) → Slices T top f ss → (s : Stand) (at : ℕ) → Stands m at (slicesBytes f s ss)
+      → AgainIn T m top (sliceRows T f s at (chain T (firstIn T ss)) ss) ss (firstIn T ss)
+  unfolding firstIn orZero sliceRows keptSlices dataBytes
+  slices-again m f [] C s at S = absurd C
+  slices-again m f (known o ps ∷ ss) C s at S =
+      let t : ℕ = C .row in
+      let N = named-ok T o t (C .known) in
+      let there : noTop T t ≡ false = record-there T t (N .0) (N .1) in
+      subst (λ (u : ℕ). AgainIn T m top (sliceRows T f s at (chain T u) (known o ps ∷ ss)) (known o ps ∷ ss) u) (sym (ap orZero (C .known))) (record {
         there = there;
-        formed = rw g;
-        gives = map (givenTo top) ps;
-        judged = subst (λ (ss : List Slot). Judged m ss (pieceRows T top 6 ps) (map (givenTo top) ps)) (sym (ap (planOf T) (list-chain T top k) ∙ append-nil (slots T top))) K;
-        same = rw k (ap list own);
-      }
-
-  slices-again : (f : Format) (ss : List Slice) (m : List ℕ) (at : ℕ) → Slices T top f ss → skippedIn ss ≡ 0 → passedIn ss ≡ 0 → Stands m at (slicesBytes f first ss)
-      → (p : Pieces) → ((row : ℕ) (gs : List Given) → kind T row ≡ kind T top → slicesOf T gs (chain T row) ≡ ss → gathered T row gs ≡ p) → (kind T top ≡ 15 → ⊥)
-      → Again T m f p (sliceRows T f first at (chain T (firstIn T ss)) ss) (firstIn T ss)
-  unfolding plan
-  slices-again f ss m at C z y S p makes other =
-      let B = starts T top f ss C y in
-      let t : ℕ = B .row in
-      let k : kind T t ≡ kind T top = sym (chain-top T right t (B .there) top (B .descends) .alike) in
-      let R = follow-judged T m right f (chain T t) ss (chain-owners T right t (B .there)) (chain-falls T right t (B .there)) (B .follow) z first at S in
-      subst (λ (t : ℕ). Again T m f p (sliceRows T f first at (chain T t) ss) t) (sym (B .is-first)) (record {
-        there = B .there;
-        formed = formed-record (kind T t) f (λ e. other (sym k ∙ e));
-        gives = R .gives;
-        judged = R .judged;
-        same = makes t (R .gives) k (R .same);
+        alike = sym (chain-top T right t there top (C .descends) .alike);
+        regains = follow-judged T m right f (chain T t) (known o ps ∷ ss) (chain-owners T right t there) (chain-falls T right t there) (C .follow) s at S;
       })
+  slices-again m f (passed b nm d ∷ ss) (P, C) s at S =
+      let A = slices-again m f ss C (later f) _ (slices-stand T m f s (passed b nm d) ss at S) in
+      record { there = A .there; alike = A .alike; regains = record { gives = A .regains .gives; judged = A .regains .judged; same = A .regains .same } }
 
-  again : (f : Format) (p : Pieces) → Conform T top f p → Complete p → Again T (encapsulate (encode f p)) f p (rows T top f p) (firstKnown T top p)
-  unfolding rows encode firstKnown gathered optionalsSkipped slicesSkipped
-  again f (list ps) C Z = list-again f ps C Z
-  again f (exception ss) (k, C) Z =
-      slices-again f ss _ 6 C (Z .optionals) (Z .slices) (stands-encapsulated _) (exception ss) (λ row gs e s. rw (e, k) (ap exception s)) (λ e. omega arith)
-  again f (class ss) (k, C) Z =
-      slices-again f ss _ 7 C (Z .optionals) (Z .slices) (stands-next (1 ∷ []) _ (stands-encapsulated _) 7 refl) (class ss) (λ row gs e s. rw (e, k) (ap class s)) (λ e. omega arith)
+  record-again : (m : List ℕ) (f : Format) (ss : List Slice) (rs : List Row) (type : ℕ) → AgainIn T m top rs ss type → (kind T top ≡ 15 → ⊥)
+      → (p : Pieces) → ((gs : List Given) → kind T type ≡ kind T top → slicesOf T gs (chain T type) ≡ keptSlices ss → gathered T type gs ≡ kept p) → Again T m f p rs type
+  unfolding plan
+  record-again m f ss rs type A other p makes = record {
+    there = A .there;
+    formed = formed-record (kind T type) f (λ e. other (sym (A .alike) ∙ e));
+    gives = A .regains .gives;
+    judged = A .regains .judged;
+    same = makes (A .regains .gives) (A .alike) (A .regains .same);
+  }
+
+  module _ (there : noTop T top ≡ false) where
+    list-again : (f : Format) (ps : List Piece) → Conform T top f (list ps) → Again T (encapsulate (encode f (list ps))) f (list ps) (rows T top f (list ps)) top
+    unfolding rows encode plan planOf gathered noFormat kept
+    list-again f ps (k, g, L) =
+        let m : List ℕ = encapsulate (concat pieceBytes ps) in
+        let K : Judged m (slots T top) (pieceRows T top 6 ps) (map (givenTo top) (keptPieces ps)) =
+        owned-judged T m top (owner-ordered T top right (top-owner T right top there)) ps L 6 (stands-encapsulated (concat pieceBytes ps)) in
+        let own : piecesOf top (map (givenTo top) (keptPieces ps)) ≡ keptPieces ps = owns-all (judged-owner (λ (o : ℕ). o ≡ top) (slots-owner T top) K) ∙ pieces-given top (keptPieces ps) in
+        record {
+          there = there;
+          formed = rw g;
+          gives = map (givenTo top) (keptPieces ps);
+          judged = subst (λ (ss : List Slot). Judged m ss (pieceRows T top 6 ps) (map (givenTo top) (keptPieces ps))) (sym (ap (planOf T) (list-chain T top k) ∙ append-nil (slots T top))) K;
+          same = rw k (ap list own);
+        }
+
+    pub again : (f : Format) (p : Pieces) → Conform T top f p → Again T (encapsulate (encode f p)) f p (rows T top f p) (firstKnown T top p)
+    unfolding rows encode firstKnown gathered kept
+    again f (list ps) C = list-again f ps C
+    again f (exception ss) (k, C) =
+        record-again _ f ss _ _ (slices-again _ f ss C first 6 (stands-encapsulated _)) (λ e. omega arith) (exception ss) (λ gs e s. rw (e, k) (ap exception s))
+    again f (class ss) (k, C) =
+        record-again _ f ss _ _ (slices-again _ f ss C first 7 (stands-next (1 ∷ []) _ (stands-encapsulated _) 7 refl)) (λ e. omega arith) (class ss) (λ gs e s. rw (e, k) (ap class s))
 
 -- ---- written again
 
@@ -207,14 +268,14 @@ format-again compact = refl
 format-again sliced = refl
 
 -- the rows of a message that follows the rules
-follows-again : (T : List ℕ) (top : ℕ) (m : List ℕ) (f : Format) (p : Pieces) → Follows T top m f p → Complete p → Again T m f p (rows T top f p) (firstKnown T top p)
-follows-again T top m f p F Z =
-    subst (λ (z : List ℕ). Again T z f p (rows T top f p) (firstKnown T top p)) (sym (F .encoded)) (again T (F .table) top (F .top-there) f p (F .conforms) Z)
+pub follows-again : (T : List ℕ) (top : ℕ) (m : List ℕ) (f : Format) (p : Pieces) → Follows T top m f p → Again T m f p (rows T top f p) (firstKnown T top p)
+follows-again T top m f p F =
+    subst (λ (z : List ℕ). Again T z f p (rows T top f p) (firstKnown T top p)) (sym (F .encoded)) (again T (F .table) top (F .top-there) f p (F .conforms))
 
 pub write-again : WriteAgain
 write-again T top m f p n g room yM h Z formed short fits =
     let F = exact-message T top m f p n yM .0 h .0 in
-    let A = follows-again T top m f p F Z in
+    let A = follows-again T top m f p F in
     let type : ℕ = firstKnown T top p in
     let rs : List Row = rows T top f p in
     let S = accepted-rows-small T top m f p n yM h in
@@ -228,7 +289,7 @@ write-again T top m f p n g room yM h Z formed short fits =
         enough = omega (arith, length-rows rs);
         given = A .gives;
         judged = ap (judging T type m) (rows-back S (concat rowBytes rs) [] (sym (append-nil (concat rowBytes rs)))) ∙ right;
-        made = ap₂ (λ (g : Format) (q : Pieces). encapsulate (encode g q)) (sym (format-again g)) (sym (A .same));
+        made = ap₂ (λ (g : Format) (q : Pieces). encapsulate (encode g q)) (sym (format-again g)) (sym (A .same ∙ complete-kept p Z));
       };
       short = short;
       fits = fits;
@@ -237,7 +298,7 @@ write-again T top m f p n g room yM h Z formed short fits =
 pub write-same : WriteSame
 write-same T top m f p n room yM h Z fits =
     let F = exact-message T top m f p n yM .0 h .0 in
-    let A = follows-again T top m f p F Z in
+    let A = follows-again T top m f p F in
     let l : length m ≡ length (encapsulate (encode f p)) = ap length (F .encoded) in
     write-again T top m f p n f room yM h Z (A .formed) (omega (arith, F .short)) (omega arith) ∙ ap out (sym (F .encoded))
 
@@ -257,12 +318,12 @@ pub one-pieces : (T : List ℕ) (top top′ : ℕ) (f : Format) (p p′ : Pieces
     → Conform T top f p → Conform T top′ f p′ → firstKnown T top p ≡ firstKnown T top′ p′ → Complete p → Complete p′
     → SameMembers (encapsulate (encode f p)) (encapsulate (encode f p′)) (rows T top f p) (rows T top′ f p′) → p ≡ p′
 one-pieces T top top′ f p p′ right there there′ C C′ t Z Z′ M =
-    let A = again T right top there f p C Z in
-    let A′ = again T right top′ there′ f p′ C′ Z′ in
+    let A = again T right top there f p C in
+    let A′ = again T right top′ there′ f p′ C′ in
     let K′ : Judged (encapsulate (encode f p′)) (plan T (firstKnown T top p)) (rows T top′ f p′) (A′ .gives) =
     subst (λ (t : ℕ). Judged (encapsulate (encode f p′)) (plan T t) (rows T top′ f p′) (A′ .gives)) (sym t) (A′ .judged) in
     let g : A .gives ≡ A′ .gives = given-same (plan-differ T right (firstKnown T top p) (A .there)) (A .judged) K′ M in
-    sym (A .same) ∙ ap₂ (gathered T) t g ∙ A′ .same
+    sym (A .same ∙ complete-kept p Z) ∙ ap₂ (gathered T) t g ∙ A′ .same ∙ complete-kept p′ Z′
 
 pub one-message : OneMessage
 one-message T top top′ m m′ f p p′ n n′ yM yM′ h h′ t Z Z′ M =

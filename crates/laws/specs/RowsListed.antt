@@ -1,0 +1,88 @@
+-- Each row is of its piece: the message is the encoding of the pieces, so the content of a piece stands where its row says.
+--
+--   level-listed, slices-listed   of the pieces of an owner; of slices
+--   listed-rows                   of a message
+use mathlib.Core.Path.{_≡_, refl, sym, ap, _∙_, subst}
+use mathlib.Core.Option.{Option, some}
+use mathlib.Core.List.{List, [], _∷_}
+use Prim.Native.Nat.{ℕ, suc, _+_}
+use lib.ListN.{length}
+use Rattle.encoding.specs.Result.{concat}
+use Rattle.encoding.specs.Table.{isRecord, fine, faults, Member, lookup, nameOf, named, chain}
+use Rattle.encoding.specs.Table
+use Rattle.encoding.specs.RuleLaws.{named-ok, named-at}
+use Rattle.encoding.specs.Optional.{Piece, required, optional, skipped, frontBytes, contentBytes, pieceBytes}
+use Rattle.encoding.specs.Slice.{Format, Slice, known, passed, Stand, first, later, dataBytes, slicesBytes}
+use Rattle.encoding.specs.Message.{Pieces, list, exception, class, encode, encapsulate, listRow, pieceMember, pieceRows, sliceRows, orZero, firstIn, rows}
+use Rattle.encoding.specs.Conform.{Level, Owned, Follow, Slices, Conform}
+use Rattle.laws.specs.Demands.{All, more, RowOf, ListedOf, a-required, an-optional, a-skipped, ListedIn, a-known, a-passed, Listed, ListedRows}
+use Rattle.laws.specs.RowsExact.{Stands, stands-first, stands-next, stands-there, stands-encapsulated, all-map, Found, required-found, content-stands, others-stand, data-stand, slices-stand}
+use Rattle.laws.specs.MessageExact.{exact-message}
+use Rattle.laws.specs.PlanRules.{Rung, record-there, chain-rungs}
+
+-- ---- the pieces of one owner
+
+module _ (T m : List ℕ) where
+  row-of : (d : Member) (at : ℕ) (b : List ℕ) → Stands m at b → RowOf m d b (record { member = d .row; place = at; len = length b })
+  row-of d at b S = record { member = refl; bytes = stands-there b S; len = refl }
+
+  level-listed : (t : ℕ) (ms : List Member) → All (Found (Table.required T t)) ms → (least : ℕ) (ps : List Piece)
+      → Level ms (Table.optional T t) least ps → (at : ℕ) → Stands m at (concat pieceBytes ps) → ListedOf T m t ps (pieceRows T t at ps)
+  unfolding pieceRows pieceMember contentBytes listRow
+  level-listed t [] F least [] L at S = ListedOf.none-left
+  level-listed t [] F least (required i b ∷ ps) L at S = absurd L
+  level-listed t [] F least (optional k f b ∷ ps) (K, L) at S =
+      let p : Piece = optional k f b in
+      subst (λ (o : Option Member). ListedOf T m t (p ∷ ps) (listRow o (at + length (frontBytes p)) b (pieceRows T t (at + length (pieceBytes p)) ps))) (sym (K .found))
+      (an-optional (K .found) (row-of (K .member) (at + length (frontBytes p)) b (content-stands T m p ps at S)) (level-listed t [] F (suc k) ps L (at + length (pieceBytes p)) (others-stand T m p ps at S)))
+  level-listed t [] F least (skipped k f b ∷ ps) (U, L) at S =
+      a-skipped (level-listed t [] F (suc k) ps L (at + length (pieceBytes (skipped k f b))) (others-stand T m (skipped k f b) ps at S))
+  level-listed t (d ∷ ms) F least [] L at S = absurd L
+  level-listed t (d ∷ ms) (more q F) least (required i b ∷ ps) (e, h, L) at S =
+      let p : Piece = required i b in
+      let found : lookup i (Table.required T t) ≡ some d = rw e q in
+      subst (λ (o : Option Member). ListedOf T m t (p ∷ ps) (listRow o (at + length (frontBytes p)) b (pieceRows T t (at + length (pieceBytes p)) ps))) (sym found)
+      (a-required found (row-of d (at + length (frontBytes p)) b (content-stands T m p ps at S)) (level-listed t ms F least ps L (at + length (pieceBytes p)) (others-stand T m p ps at S)))
+  level-listed t (d ∷ ms) F least (optional k f b ∷ ps) L at S = absurd L
+  level-listed t (d ∷ ms) F least (skipped k f b ∷ ps) L at S = absurd L
+
+  owned-listed : (t : ℕ) (ps : List Piece) → Owned T t ps → (at : ℕ) → Stands m at (concat pieceBytes ps) → ListedOf T m t ps (pieceRows T t at ps)
+  owned-listed t ps L at S = level-listed t (Table.required T t) (required-found T t) 0 ps L at S
+
+  -- ---- slices
+
+  -- of rows that are each the record of its name
+  follow-listed : (g : Format) (ts : List ℕ) (ss : List Slice) → All (λ (t : ℕ). named T (nameOf T t) ≡ some t) ts → Follow T ts ss
+      → (s : Stand) (at : ℕ) → Stands m at (slicesBytes g s ss) → ListedIn T m ss (sliceRows T g s at ts ss)
+  unfolding sliceRows dataBytes
+  follow-listed g [] [] N F s at S = ListedIn.none-left
+  follow-listed g [] (sl ∷ ss) N F s at S = absurd F
+  follow-listed g (t ∷ ts) [] N F s at S = absurd F
+  follow-listed g (t ∷ ts) (known o ps ∷ ss) (more n N) (e, L, F) s at S =
+      a-known (ap (named T) e ∙ n) (owned-listed t ps L _ (stands-first (concat pieceBytes ps) _ (data-stand T m g s (known o ps) ss at S)))
+      (follow-listed g ts ss N F (later g) _ (slices-stand T m g s (known o ps) ss at S))
+  follow-listed g (t ∷ ts) (passed b nm d ∷ ss) N F s at S = absurd F
+
+  slices-listed : (right : faults T ≡ fine) (top : ℕ) (g : Format) (ss : List Slice) → Slices T top g ss → (s : Stand) (at : ℕ) → Stands m at (slicesBytes g s ss)
+      → ListedIn T m ss (sliceRows T g s at (chain T (firstIn T ss)) ss)
+  unfolding sliceRows firstIn dataBytes orZero
+  slices-listed right top g [] C s at S = absurd C
+  slices-listed right top g (known o ps ∷ ss) C s at S =
+      let N = named-ok T o (C .row) (C .known) in
+      rw (C .known) (follow-listed g (chain T (C .row)) (known o ps ∷ ss)
+      (all-map (λ (r : ℕ) (R : Rung T right (C .row) r). named-at T right r (R .below) (ap (λ (k : ℕ). isRecord k) (R .alike) ∙ N .1)) (chain-rungs T right (C .row) (record-there T (C .row) (N .0) (N .1))))
+      (C .follow) s at S)
+  slices-listed right top g (passed b nm d ∷ ss) (P, C) s at S = a-passed (slices-listed right top g ss C (later g) _ (slices-stand T m g s (passed b nm d) ss at S))
+
+-- ---- a message
+
+rows-listed : (T : List ℕ) → faults T ≡ fine → (top : ℕ) (f : Format) (p : Pieces) → Conform T top f p → Listed T (encapsulate (encode f p)) top p (rows T top f p)
+unfolding rows encode
+rows-listed T right top f (list ps) (k, g, L) = owned-listed T _ top ps L 6 (stands-encapsulated _)
+rows-listed T right top f (exception ss) (k, C) = slices-listed T _ right top f ss C first 6 (stands-encapsulated _)
+rows-listed T right top f (class ss) (k, C) = slices-listed T _ right top f ss C first 7 (stands-next (1 ∷ []) _ (stands-encapsulated _) 7 refl)
+
+pub listed-rows : ListedRows
+listed-rows T top m f p n y h =
+    let F = exact-message T top m f p n y .0 h .0 in
+    subst (λ (z : List ℕ). Listed T z top p (rows T top f p)) (sym (F .encoded)) (rows-listed T (F .table) top f p (F .conforms))
