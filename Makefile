@@ -1,12 +1,9 @@
 # The message library of the cabin hubs. Needed: the Rattle kit (rt), gcc and cargo; no network.
 
-VERSION = 0.1.0
 PREFIX = /usr/local
 # make fuzz: how many calls, and a seed to repeat a run (empty: another one each time)
 CALLS = 1000000
 SEED =
-# make stack: recorded calls to make beside the generated ones
-VECTORS =
 
 RT = rt
 CARGO = cargo
@@ -14,32 +11,38 @@ CC = gcc
 CXX = g++
 WARNINGS = -Wall -Wextra -Werror -pedantic
 
+VERSION := $(shell sed -n 's/^\#define ICEHUB_VERSION "\(.*\)"/\1/p' include/icehub.h)
 LIBRARY = target/staticlib/libicehub.a
-# Its arguments: table file, top, message file.
-INSPECT = target/bin/inspect
-SOURCES := crates.txt $(shell find crates -name '*.rt' -o -name '*.antt')
+# The crates that the library is made of: icehub and all that it depends on.
+LIBRARY_CRATES := $(shell awk -F: '{ needs[$$1] = $$2 } END { split("icehub", todo); count = 1; \
+	for (i = 1; i <= count; i++) if (todo[i] in needs && !(todo[i] in seen)) { seen[todo[i]]; print todo[i]; \
+	more = split(needs[todo[i]], next_, " "); for (j = 1; j <= more; j++) todo[++count] = next_[j] } }' crates.txt)
+LIBRARY_SOURCES := $(shell find $(LIBRARY_CRATES:%=crates/%) -name '*.rt' -o -name '*.antt')
+TOOL = target/tool/icehub
+TOOL_SOURCES := $(shell find tools/icehub/src bindings/rust/src -name '*.rs') \
+	tools/icehub/Cargo.toml bindings/rust/Cargo.toml bindings/rust/build.rs
 
 export ICEHUB_LIB_DIR = $(CURDIR)/target/staticlib
 export CARGO_TARGET_DIR = $(CURDIR)/target/cargo
 INDEPENDENT = --offline --release --manifest-path tests/independent/Cargo.toml --features library
 
-.PHONY: help run test callers library example fuzz bench stack bindings samples install clean
+.PHONY: help run test callers library tool example fuzz bench stack bindings samples install clean
 .NOTPARALLEL:
 
 ## help: list what can be made
 help:
-	@sed -n 's/^## \([a-z]*\): /make \1\t/p' Makefile | expand -t 16
+	@sed -n 's/^## \([a-z-]*\): /make \1\t/p' Makefile | expand -t 18
 
-## run: build the library and the inspector, and show the sample messages
-run: $(LIBRARY) target/bin/inspect
+## run: build the library and the tool icehub, and show the sample messages
+run: $(TOOL)
 	@echo && echo '--- a report of a frost guard'
-	@$(INSPECT) samples/report.table 3 samples/report.message
+	@$(TOOL) show samples/report.table 3 samples/report.message
 	@echo && echo '--- a fault from a newer sender, by the older table of a hub'
-	@$(INSPECT) samples/fault.table 2 samples/fault.message
+	@$(TOOL) show samples/fault.table ::Guard::Fault samples/fault.message
 	@echo && echo '--- the same fault, by its sender'\''s table'
-	@$(INSPECT) samples/fault-newer.table 4 samples/fault.message
+	@$(TOOL) show samples/fault-newer.table ::Guard::Fault samples/fault.message
 	@echo && echo '--- the same fault, damaged'
-	@$(INSPECT) samples/fault.table 2 samples/fault-damaged.message
+	@$(TOOL) show samples/fault.table ::Guard::Fault samples/fault-damaged.message || [ $$? -eq 1 ]
 
 ## test: the gate: prove every crate from nothing, try the wrong edits, run the programs, then `make callers`
 test:
@@ -53,12 +56,16 @@ callers: example bindings
 ## library: prove and build the static library, target/staticlib/libicehub.a
 library: $(LIBRARY)
 
-$(LIBRARY): $(SOURCES)
+$(LIBRARY): $(LIBRARY_SOURCES)
 	$(RT) staticlib icehub
 
-target/bin/inspect: $(SOURCES)
-	$(RT) check inspect
-	@touch $@
+## tool: build the tool icehub, target/tool/icehub
+tool: $(TOOL)
+
+$(TOOL): $(LIBRARY) $(TOOL_SOURCES)
+	$(CARGO) build --offline --release --manifest-path tools/icehub/Cargo.toml
+	@mkdir -p $(@D)
+	install -m 755 target/cargo/release/icehub $@
 
 ## example: compile examples/hub.c against the library, as C99 and as C++, and run it
 example: $(LIBRARY)
@@ -79,24 +86,26 @@ fuzz: $(LIBRARY)
 bench: $(LIBRARY)
 	$(CARGO) run $(INDEPENDENT) --bin bench
 
-## stack: measure the deepest stack of each call (VECTORS: files or directories of recorded calls)
+## stack: measure the deepest stack of each call
 stack: $(LIBRARY)
-	$(CARGO) run $(INDEPENDENT) --bin stack -- $(VECTORS)
+	$(CARGO) run $(INDEPENDENT) --bin stack
 
-## bindings: test the Rust crate over the library
+## bindings: test the Rust crate and the tool over the library
 bindings: $(LIBRARY)
 	$(CARGO) test --offline --manifest-path bindings/rust/Cargo.toml
+	$(CARGO) test --offline --manifest-path tools/icehub/Cargo.toml
 
 ## samples: write the sample files anew from samples/README.md
 samples:
 	samples/make.sh
 
-## install: copy header, library and pkg-config file below PREFIX
-install: $(LIBRARY)
-	install -d $(DESTDIR)$(PREFIX)/include $(DESTDIR)$(PREFIX)/lib/pkgconfig
-	install -m 644 include/icehub.h $(DESTDIR)$(PREFIX)/include
-	install -m 644 $(LIBRARY) $(DESTDIR)$(PREFIX)/lib
-	sed 's|@PREFIX@|$(PREFIX)|; s|@VERSION@|$(VERSION)|' include/icehub.pc.in >$(DESTDIR)$(PREFIX)/lib/pkgconfig/icehub.pc
+## install: copy tool, header, library and pkg-config file below PREFIX
+install: $(TOOL)
+	install -d '$(DESTDIR)$(PREFIX)/bin' '$(DESTDIR)$(PREFIX)/include' '$(DESTDIR)$(PREFIX)/lib/pkgconfig'
+	install -m 755 $(TOOL) '$(DESTDIR)$(PREFIX)/bin'
+	install -m 644 include/icehub.h '$(DESTDIR)$(PREFIX)/include'
+	install -m 644 $(LIBRARY) '$(DESTDIR)$(PREFIX)/lib'
+	sed 's|@PREFIX@|$(PREFIX)|; s|@VERSION@|$(VERSION)|' include/icehub.pc.in >'$(DESTDIR)$(PREFIX)/lib/pkgconfig/icehub.pc'
 
 ## clean: remove all that was built, proofs' results too
 clean:

@@ -176,6 +176,13 @@ pub struct Fields<'a> {
     rest: Rest<'a>,
 }
 
+impl<'a> Fields<'a> {
+    /// The struct.
+    pub fn of(&self) -> TypeRow<'a> {
+        self.of
+    }
+}
+
 impl<'a> Iterator for Fields<'a> {
     type Item = Value<'a>;
 

@@ -1,0 +1,141 @@
+//! The command line, and the help.
+
+use crate::input::Source;
+use crate::show;
+use std::ffi::OsString;
+
+/// What is to be done.
+#[derive(Debug, PartialEq)]
+pub enum Command {
+    Help(&'static str),
+    Version,
+    Show(show::Request),
+    Table(Source),
+}
+
+const HELP: &str = "\
+icehub: shows messages of Ice encoding 1.1 by their type table
+
+  icehub show [--json] [--hex] TABLE TOP FILE..   show messages, or why they are refused
+  icehub table TABLE                              show a type table, or where it breaks a rule
+  icehub --version                                print the version
+  icehub --help, icehub COMMAND --help            print help
+
+Exit status: 0 everything accepted, 1 something refused, 2 something could not be done (arguments, files).
+";
+
+const SHOW_HELP: &str = "\
+icehub show [--json] [--hex] TABLE TOP FILE..
+
+Shows each message: its members with their places and values, or its refusal in words with the bytes around its place.
+
+  TABLE    the type table, a file
+  TOP      the wanted type: the number of its row, counted from 0, or the name of an exception or class
+  FILE..   the messages, one in each file; - is standard input
+  --json   one JSON object a line for each message; the summary goes to standard error
+  --hex    the FILEs are hex text: pairs of digits, with any white space between them
+  --       what follows is no option
+
+With several FILEs each message has its file's name, and a summary comes at the end. If that takes more than a second
+and standard error is a terminal, a line there says how far it is.
+
+In JSON, a struct is a list of its members' values, a dictionary a list of objects with key and value (jq's
+from_entries), an enumerator its number, a nil proxy null, a string that is not UTF-8 an object with its bytes in hex, and
+a float that is no number one of the strings NaN, Infinity and -Infinity. A long is a number with all its digits; jq
+before 1.7 rounds those beyond 2^53.
+
+  icehub show --json report.table 3 *.message | jq -c 'select(.accepted | not) | [.file, .refusal, .place]'
+
+Exit status: 0 all messages accepted, 1 some refused, 2 something could not be done (arguments, files).
+";
+
+const TABLE_HELP: &str = "\
+icehub table TABLE
+
+Shows a type table: its types with their members, names and bases, and which of them can be a top. If the table breaks a
+rule it shows the row, its fields and what the rules ask of such a row.
+
+  TABLE    the type table, a file; - is standard input
+
+Exit status: 0 no rule is broken, 1 a rule is broken, 2 something could not be done (arguments, files).
+";
+
+/// The command of these words, or what is wrong with them.
+pub fn parse(words: impl IntoIterator<Item = OsString>) -> Result<Command, String> {
+    let mut words = words.into_iter();
+    let Some(first) = words.next() else {
+        return Err("a command is missing; see icehub --help".to_string());
+    };
+    match first.to_str() {
+        Some("--help" | "-h" | "help") => Ok(Command::Help(HELP)),
+        Some("--version" | "-V") => Ok(Command::Version),
+        Some("show") => parse_show(words),
+        Some("table") => parse_table(words),
+        _ => Err(format!("{} is no command; see icehub --help", first.to_string_lossy())),
+    }
+}
+
+/// The words after a command.
+#[derive(Default)]
+struct Words {
+    options: Vec<&'static str>,
+    operands: Vec<OsString>,
+}
+
+/// The options and the other words, in order. None where help is asked for.
+fn split(
+    words: impl Iterator<Item = OsString>,
+    known: &[&'static str],
+    command: &str,
+) -> Result<Option<Words>, String> {
+    let (mut found, mut ended) = (Words::default(), false);
+    for word in words {
+        let text = word.to_str().unwrap_or_default();
+        if ended || !text.starts_with('-') || text == "-" {
+            found.operands.push(word);
+        } else if text == "--" {
+            ended = true;
+        } else if text == "--help" || text == "-h" {
+            return Ok(None);
+        } else if let Some(option) = known.iter().find(|&&option| option == text) {
+            found.options.push(*option);
+        } else {
+            return Err(format!("{text} is no option of {command}; see icehub {command} --help"));
+        }
+    }
+    Ok(Some(found))
+}
+
+fn parse_show(words: impl Iterator<Item = OsString>) -> Result<Command, String> {
+    let Some(Words { options, operands }) = split(words, &["--json", "--hex"], "show")? else {
+        return Ok(Command::Help(SHOW_HELP));
+    };
+    let mut operands = operands.into_iter();
+    let (Some(table), Some(top)) = (operands.next(), operands.next()) else {
+        return Err("TABLE or TOP is missing; see icehub show --help".to_string());
+    };
+    let files: Vec<_> = operands.map(Source::new).collect();
+    if files.is_empty() {
+        return Err("a FILE is missing; see icehub show --help".to_string());
+    }
+    let table = Source::new(table);
+    if files.iter().chain([&table]).filter(|&source| *source == Source::Standard).count() > 1 {
+        return Err("- is named twice: standard input can be read only once".to_string());
+    }
+    let top = match top.into_string() {
+        Ok(top) => top,
+        Err(top) => return Err(format!("TOP is no text: {}", top.to_string_lossy())),
+    };
+    let is = |option| options.contains(&option);
+    Ok(Command::Show(show::Request { json: is("--json"), hex: is("--hex"), table, top, files }))
+}
+
+fn parse_table(words: impl Iterator<Item = OsString>) -> Result<Command, String> {
+    let Some(Words { operands, .. }) = split(words, &[], "table")? else {
+        return Ok(Command::Help(TABLE_HELP));
+    };
+    match <[OsString; 1]>::try_from(operands) {
+        Ok([table]) => Ok(Command::Table(Source::new(table))),
+        Err(_) => Err("table takes one TABLE; see icehub table --help".to_string()),
+    }
+}
