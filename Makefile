@@ -9,7 +9,7 @@ RT = rt
 CARGO = cargo
 CC = gcc
 CXX = g++
-WARNINGS = -Wall -Wextra -Werror -pedantic
+WARNINGS = -Wall -Wextra -Wconversion -Wsign-conversion -Wshadow -Werror -pedantic
 
 VERSION := $(shell sed -n 's/^\#define ICEHUB_VERSION "\(.*\)"/\1/p' include/icehub.h)
 LIBRARY = target/staticlib/libicehub.a
@@ -67,16 +67,20 @@ $(TOOL): $(LIBRARY) $(TOOL_SOURCES)
 	@mkdir -p $(@D)
 	install -m 755 target/cargo/release/icehub $@
 
-## example: compile examples/hub.c against the library, as C99 and as C++, and run it
+## example: compile each of examples/*.c and tests/c/*.c against the library, as C99 and as C++98, and run it
 example: $(LIBRARY)
 	@mkdir -p target/example
-	$(CC) -std=c99 $(WARNINGS) -Iinclude examples/hub.c $(LIBRARY) -o target/example/hub
-ifneq ($(shell command -v $(CXX) 2>/dev/null),)
-	$(CXX) -x c++ -std=c++98 $(WARNINGS) -Iinclude -fsyntax-only examples/hub.c
-else
-	@echo 'no $(CXX): not compiled as C++'
-endif
-	target/example/hub
+	@for source in examples/*.c tests/c/*.c; do \
+		program=target/example/$$(basename $$source .c); \
+		echo "--- $$source"; \
+		$(CC) -std=c99 $(WARNINGS) -Iinclude $$source $(LIBRARY) -o $$program && $$program || exit 1; \
+		if command -v $(CXX) >/dev/null; then \
+			$(CXX) -x c++ -std=c++98 $(WARNINGS) -Iinclude $$source -x none $(LIBRARY) -o $$program-c++ && \
+				$$program-c++ >/dev/null || exit 1; \
+		else \
+			echo 'no $(CXX): not compiled as C++'; \
+		fi; \
+	done
 
 ## fuzz: compare the library with the independent implementation on CALLS calls from SEED
 fuzz: $(LIBRARY)
