@@ -1,6 +1,8 @@
 -- What a table that breaks no rule gives: `faults T ≡ fine`.
 --
---   header-test, type-test, member-test   each test of the header's or a row's rules is false
+--   header-right, type-right, member-right   each pass is fine: no test of the header or of a row is true
+--   header-test, row-test, member-row-test, member-test   each such test is false
+--   row-begins, sum-right          what the tests of the member rows taken tell
 --   any-none                       no number of a range passes a test
 --   members-most, types-most       at most 1,024 members and 256 types
 --   kind-known                     a kind is at most 15
@@ -49,7 +51,7 @@ unfolding faultAt
 faultAt-fine place zero h = refl
 faultAt-fine place (suc c) h = let z : _≡_ {A = ℕ} 0 1 = cc in absurd (omega arith)
 
-pass-fine : (place : ℕ → ℕ) (rules : ℕ → List (ℕ × Bool)) (i k : ℕ) → pass place rules (range i k) ≡ fine → (r : ℕ) → i ≤ r → r < i + k → firstOf (rules r) ≡ 0
+pub pass-fine : (place : ℕ → ℕ) (rules : ℕ → List (ℕ × Bool)) (i k : ℕ) → pass place rules (range i k) ≡ fine → (r : ℕ) → i ≤ r → r < i + k → firstOf (rules r) ≡ 0
 unfolding pass range
 pass-fine place rules i zero h r l m = absurd (omega arith)
 pass-fine place rules i (suc k) h r l m =
@@ -301,20 +303,42 @@ module _ (T : List ℕ) (turn : (t : ℕ) → t < types T → owns (kind T t) �
     pub turn-owner : ownerOf T m (types T) ≡ t
     turn-owner = owner-among (types T) below (omega arith)
 
--- ---- a header that breaks no rule
+-- ---- the tests of the header or of a row that breaks no rule
 
 module _ (T : List ℕ) (right : headerRules T ≡ fine) where
-  header-tests : (i : ℕ) → getD (headerTests T) i (0, false) .1 ≡ false
+  pub header-test : (i : ℕ) → getD (headerTests T) i (0, false) .1 ≡ false
   unfolding headerRules headerTests
-  header-tests i = test-at (headerTests T) tt (faultAt-fine 0 (firstOf (headerTests T)) right) i
+  header-test i = test-at (headerTests T) tt (faultAt-fine 0 (firstOf (headerTests T)) right) i
 
   types-few : types T ≤ 256
   unfolding headerTests
-  types-few = ltb-false 256 (types T) (either-false (eqb (types T) 0) (ltb 256 (types T)) (header-tests 2) .1)
+  types-few = ltb-false 256 (types T) (either-false (eqb (types T) 0) (ltb 256 (types T)) (header-test 2) .1)
 
   members-few : members T ≤ 1024
   unfolding headerTests
-  members-few = ltb-false 1024 (members T) (header-tests 3)
+  members-few = ltb-false 1024 (members T) (header-test 3)
+
+pub row-test : (T : List ℕ) (t : ℕ) → firstOf (typeRules T t) ≡ 0 → (i : ℕ) → getD (typeRules T t) i (0, false) .1 ≡ false
+unfolding typeRules
+row-test T t h i = test-at (typeRules T t) tt h i
+
+-- an owner begins at the number taken before
+pub row-begins : (T : List ℕ) (t : ℕ) → firstOf (typeRules T t) ≡ 0 → owns (kind T t) ≡ true → field T t 0 ≡ taken T t
+unfolding typeRules
+row-begins T t h o =
+    eqb-true (field T t 0) (taken T t) (not-false (eqb (field T t 0) (taken T t)) (both-false (owns (kind T t)) (not (eqb (field T t 0) (taken T t))) (row-test T t h 6) o))
+
+pub sum-right : (T : List ℕ) → sumRules T ≡ fine → taken T (types T) ≡ members T
+unfolding sumRules
+sum-right T h = go (eqb (taken T (types T)) (members T)) refl (faultAt-fine 0 _ h)
+  where
+    go : (b : Bool) → eqb (taken T (types T)) (members T) ≡ b → _≡_ {A = ℕ} (pick b 0 35) 0 → taken T (types T) ≡ members T
+    go true e h = eqb-true (taken T (types T)) (members T) e
+    go false e h = absurd (omega arith)
+
+pub member-row-test : (T : List ℕ) (m : ℕ) → firstOf (memberRules T m) ≡ 0 → (i : ℕ) → getD (memberRules T m) i (0, false) .1 ≡ false
+unfolding memberRules
+member-row-test T m h i = test-at (memberRules T m) tt h i
 
 -- ---- what no broken rule gives
 
@@ -324,12 +348,32 @@ AboveRecord T zero = Unit {0}
 AboveRecord T (suc r) = (r < types T) × (isRecord (kind T r) ≡ true)
 
 module _ (T : List ℕ) (right : faults T ≡ fine) where
-  header-right : headerRules T ≡ fine
+  -- each pass is fine
+  pub header-right : headerRules T ≡ fine
   unfolding faults passes
   header-right = orElse-fine (headerRules T) _ right .0
 
-  pub header-test : (i : ℕ) → getD (headerTests T) i (0, false) .1 ≡ false
-  header-test = header-tests T header-right
+  after-header : passes (pass (rowAt T) (typeRules T) (range 0 (types T)) ∷ sumRules T ∷ pass (memberAt T) (memberRules T) (range 0 (members T)) ∷ []) ≡ fine
+  unfolding faults passes
+  after-header = orElse-fine (headerRules T) _ right .1
+
+  after-types : passes (sumRules T ∷ pass (memberAt T) (memberRules T) (range 0 (members T)) ∷ []) ≡ fine
+  unfolding passes
+  after-types = orElse-fine (pass (rowAt T) (typeRules T) (range 0 (types T))) _ after-header .1
+
+  pub type-right : (t : ℕ) → t < types T → firstOf (typeRules T t) ≡ 0
+  unfolding passes
+  type-right t l = pass-fine (rowAt T) (typeRules T) 0 (types T) (orElse-fine (pass (rowAt T) (typeRules T) (range 0 (types T))) _ after-header .0) t (omega arith) (omega arith)
+
+  pub taken-whole : taken T (types T) ≡ members T
+  unfolding passes
+  taken-whole = sum-right T (orElse-fine (sumRules T) _ after-types .0)
+
+  pub member-right : (m : ℕ) → m < members T → firstOf (memberRules T m) ≡ 0
+  unfolding passes
+  member-right m l =
+      pass-fine (memberAt T) (memberRules T) 0 (members T)
+      (orElse-fine (pass (memberAt T) (memberRules T) (range 0 (members T))) _ (orElse-fine (sumRules T) _ after-types .1) .0) m (omega arith) (omega arith)
 
   pub types-most : types T ≤ 256
   types-most = types-few T header-right
@@ -337,33 +381,11 @@ module _ (T : List ℕ) (right : faults T ≡ fine) where
   pub members-most : members T ≤ 1024
   members-most = members-few T header-right
 
-  pub type-test : (t : ℕ) → t < types T → (i : ℕ) → getD (typeRules T t) i (0, false) .1 ≡ false
-  unfolding faults passes typeRules
-  type-test t l i =
-      let a = orElse-fine (headerRules T) _ right in
-      let b = orElse-fine (pass (rowAt T) (typeRules T) (range 0 (types T))) _ (a .1) in
-      test-at (typeRules T t) tt (pass-fine (rowAt T) (typeRules T) 0 (types T) (b .0) t (omega arith) (omega arith)) i
+  type-test : (t : ℕ) → t < types T → (i : ℕ) → getD (typeRules T t) i (0, false) .1 ≡ false
+  type-test t l = row-test T t (type-right t l)
 
   pub member-test : (m : ℕ) → m < members T → (i : ℕ) → getD (memberRules T m) i (0, false) .1 ≡ false
-  unfolding faults passes memberRules
-  member-test m l i =
-      let a = orElse-fine (headerRules T) _ right in
-      let b = orElse-fine (pass (rowAt T) (typeRules T) (range 0 (types T))) _ (a .1) in
-      let c = orElse-fine (sumRules T) _ (b .1) in
-      let d = orElse-fine (pass (memberAt T) (memberRules T) (range 0 (members T))) _ (c .1) in
-      test-at (memberRules T m) tt (pass-fine (memberAt T) (memberRules T) 0 (members T) (d .0) m (omega arith) (omega arith)) i
-
-  pub taken-whole : taken T (types T) ≡ members T
-  unfolding faults passes sumRules
-  taken-whole =
-      let a = orElse-fine (headerRules T) _ right in
-      let b = orElse-fine (pass (rowAt T) (typeRules T) (range 0 (types T))) _ (a .1) in
-      let c = orElse-fine (sumRules T) _ (b .1) in
-      go (eqb (taken T (types T)) (members T)) refl (faultAt-fine 0 _ (c .0))
-    where
-      go : (b : Bool) → eqb (taken T (types T)) (members T) ≡ b → _≡_ {A = ℕ} (pick b 0 35) 0 → taken T (types T) ≡ members T
-      go true e h = eqb-true (taken T (types T)) (members T) e
-      go false e h = absurd (omega arith)
+  member-test m l = member-row-test T m (member-right m l)
 
   pub kind-known : (t : ℕ) → t < types T → kind T t ≤ 15
   unfolding typeRules
@@ -432,9 +454,7 @@ module _ (T : List ℕ) (right : faults T ≡ fine) where
   named-short nm t e = let n = named-ok T nm t e in subst (λ (l : List ℕ). length l ≤ 255) (sym (n .2)) (name-short t (n .0) (n .1))
 
   pub taken-at : (t : ℕ) → t < types T → owns (kind T t) ≡ true → field T t 0 ≡ taken T t
-  unfolding typeRules
-  taken-at t l o =
-      eqb-true (field T t 0) (taken T t) (not-false (eqb (field T t 0) (taken T t)) (both-false (owns (kind T t)) (not (eqb (field T t 0) (taken T t))) (type-test t l 6) o))
+  taken-at t l = row-begins T t (type-right t l)
 
   pub rows-apart : (t r m : ℕ) → t < types T → r < types T → owns (kind T t) ≡ true → owns (kind T r) ≡ true
       → field T t 0 ≤ m → m < field T t 0 + field T t 1 → field T r 0 ≤ m → m < field T r 0 + field T r 1 → t ≡ r
@@ -470,12 +490,12 @@ module _ (T : List ℕ) (right : faults T ≡ fine) where
 
 -- ---- where a broken rule stands
 
-orElse-fault : (f g : Fault) (c p : ℕ) → orElse f g ≡ fault c p → (f ≡ fault c p) ⊎ ((f ≡ fine) × (g ≡ fault c p))
+pub orElse-fault : (f g : Fault) (c p : ℕ) → orElse f g ≡ fault c p → (f ≡ fault c p) ⊎ ((f ≡ fine) × (g ≡ fault c p))
 unfolding orElse
 orElse-fault fine g c p h = inr (refl, h)
 orElse-fault (fault d q) g c p h = inl h
 
-faultAt-place : (place n c p : ℕ) → faultAt place n ≡ fault c p → p ≡ place
+pub faultAt-place : (place n c p : ℕ) → faultAt place n ≡ fault c p → p ≡ place
 unfolding faultAt
 faultAt-place place zero c p h = let z : _≡_ {A = ℕ} 0 1 = cc in absurd (omega arith)
 faultAt-place place (suc n) c p h = cc

@@ -10,6 +10,7 @@
 --   ValidType T t                32 to 38: a type row
 --   ValidMember T o m            32, 34, 36, 38: a member row of owner o
 --   Valid T                      the whole table
+--   FirstBroken T p              the first broken rule is at p: of the header, of a type row, of the member sum, of a member row
 use mathlib.Core.Path.{_≡_}
 use mathlib.Core.List.{List, [], _∷_}
 use Prim.Native.Nat.{ℕ, suc, _+_, _*_, _^_, _≤_, _<_}
@@ -141,3 +142,18 @@ pub record Valid (T : List ℕ) : Type 0 where
   pub type : (t : ℕ) → t < types T → ValidType T t
   pub all-taken : TakenBefore T (types T) (members T)
   pub member : (o m : ℕ) → Owner T o m → ValidMember T o m
+
+-- ---- the first broken rule
+
+-- every type row is valid up to row n
+abbrev pub TypesValid : List ℕ → ℕ → Type 0
+TypesValid T n = (t : ℕ) → t < n → ValidType T t
+
+-- the order is header, type rows, member sum at place 0, member rows; a rule over two rows is judged at the later, one on a member at its member row;
+-- a row's place is its first byte
+pub data FirstBroken (T : List ℕ) (p : ℕ) : Type 0 where
+  in-header : (ValidHeader T → ⊥) → p ≡ 0 → FirstBroken T p
+  in-type : ValidHeader T → (t : ℕ) → t < types T → TypesValid T t → (ValidType T t → ⊥) → p ≡ rowAt T t → FirstBroken T p
+  in-sum : ValidHeader T → TypesValid T (types T) → (TakenBefore T (types T) (members T) → ⊥) → p ≡ 0 → FirstBroken T p
+  in-member : ValidHeader T → TypesValid T (types T) → TakenBefore T (types T) (members T) → (o m : ℕ) → Owner T o m
+      → ((q i : ℕ) → i < m → Owner T q i → ValidMember T q i) → (ValidMember T o m → ⊥) → p ≡ memberAt T m → FirstBroken T p

@@ -4,6 +4,7 @@
 -- Tables and messages are lists of numbers; a message is one of bytes, `Bytes m`.
 --
 --   ExactTable     a table breaks no rule exactly if it is valid, said by properties apart from the passes that look for a broken rule
+--   TablePlace     the place of a broken rule: 0, or the first byte of the first row that is not valid
 --   Exact          demand 2, first sentence: a message is accepted exactly when it is the encoding of pieces that conform, and those are read
 --   ExactRows      each listed row lies in the message, and its bytes are exactly one value of its member's type
 --   ListedRows     the rows are those of the pieces that are not skipped: each has its piece's member and bytes
@@ -40,7 +41,7 @@ use Rattle.encoding.specs.NumberLaws.{Bytes}
 use Rattle.encoding.specs.Types.{Ty, Form, Bits}
 use Rattle.encoding.specs.Value.{exact}
 use Rattle.encoding.specs.Table.{types, fine, faults, memberTy, trees, named, any, chain, range, kind, fault, members, Member, lookup}
-use Rattle.encoding.specs.Valid.{Valid}
+use Rattle.encoding.specs.Valid.{Valid, FirstBroken}
 use Rattle.encoding.specs.Table
 use Rattle.encoding.specs.Optional.{Piece, required, optional, skipped}
 use Rattle.encoding.specs.Slice.{Format, compact, sliced, formatNumber, Slice, known, passed, idOf}
@@ -55,6 +56,10 @@ use Rattle.laws.specs.Grammar.{IsValue}
 -- Rules out a rule that is left out, and one that is judged too strictly: a table with every property of `Valid` is refused nowhere.
 abbrev pub ExactTable : Type 0
 ExactTable = (T : List ℕ) → (faults T ≡ fine → Valid T) × (Valid T → faults T ≡ fine)
+
+-- Rules out a place that is made up, and rows judged in another order.
+abbrev pub TablePlace : Type 0
+TablePlace = (T : List ℕ) (p : ℕ) → ((class : ℕ) → faults T ≡ fault class p → FirstBroken T p) × (FirstBroken T p → (class : ℕ) × (faults T ≡ fault class p))
 
 -- ---- demand 2: what is accepted
 

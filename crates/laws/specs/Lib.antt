@@ -11,6 +11,7 @@ pub mod OptionalExact
 pub mod SliceExact
 pub mod MessageExact
 pub mod TableExact
+pub mod TablePlace
 pub mod Small
 pub mod RowsBack
 pub mod Lose

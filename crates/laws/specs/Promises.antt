@@ -1,6 +1,7 @@
 -- Every promise of `Demands`, with its proof.
-use Rattle.laws.specs.Demands.{ExactTable, Exact, ExactRows, ListedRows, RowsApart, RowsRight, RowsOnce, Unambiguous, ExactCounts, ExactValues, ReadBack, WriteAgain, OneMessage, RightLists, WrongBytes, RightWritten, TooLong, NewerRead, NewerRefused, NewerReading, OneCounterpart, NewerThere, WriteSame, EarlyRefused, RightMakes}
+use Rattle.laws.specs.Demands.{ExactTable, TablePlace, Exact, ExactRows, ListedRows, RowsApart, RowsRight, RowsOnce, Unambiguous, ExactCounts, ExactValues, ReadBack, WriteAgain, OneMessage, RightLists, WrongBytes, RightWritten, TooLong, NewerRead, NewerRefused, NewerReading, OneCounterpart, NewerThere, WriteSame, EarlyRefused, RightMakes}
 use Rattle.laws.specs.TableExact.{exact-table}
+use Rattle.laws.specs.TablePlace.{table-place}
 use Rattle.laws.specs.MessageExact.{exact-message, exact-rows}
 use Rattle.laws.specs.RowsListed.{listed-rows}
 use Rattle.laws.specs.RowsApart.{listed-apart}
@@ -16,6 +17,7 @@ use Rattle.laws.specs.Witness.{newer-there}
 
 pub record Promises : Type 0 where
   pub table : ExactTable
+  pub table-at : TablePlace
   pub exact : Exact
   pub rows : ExactRows
   pub listed : ListedRows
@@ -44,6 +46,7 @@ pub record Promises : Type 0 where
 pub promises : Promises
 promises = record {
   table = exact-table;
+  table-at = table-place;
   exact = exact-message;
   rows = exact-rows;
   listed = listed-rows;

@@ -1,0 +1,147 @@
+-- A table with a row of each kind, byte by byte: what its rows mean, and which rule is broken, and where, if one byte is another.
+-- It fixes the layout (where each row and each field is) and the class of each rule.
+--
+--   sample                          the table
+--   Meaning, sample-means           its trees, members, names and bases
+--   Change, changes, changes-told   for each rule, one byte changed: the class and the place of the fault
+use mathlib.Core.Path.{_≡_, refl}
+use mathlib.Core.List.{List, [], _∷_, _++_, map}
+use mathlib.Core.Option.{none, some}
+use Prim.Native.Nat.{ℕ, suc}
+use lib.ListN.{take, drop}
+use Rattle.encoding.specs.Result
+use Rattle.encoding.specs.Number
+use Rattle.encoding.specs.Types.{upto, short, int, long, float, double, Ty, nil, cons, bool, byte, string, proxy, num, enum, struct, seq, dict, broken}
+use Rattle.encoding.specs.Table
+
+-- ---- the table
+
+-- FGT, version 1, 17 types, 8 members, 16 name bytes, zero
+abbrev sampleHeader : List ℕ
+sampleHeader = 70 ∷ 71 ∷ 84 ∷ 1 ∷ 0 ∷ 17 ∷ 0 ∷ 8 ∷ 0 ∷ 16 ∷ 0 ∷ 0 ∷ []
+
+abbrev sampleTypes : List ℕ
+sampleTypes =
+    0 ∷ 0 ∷ 0 ∷ 0 ∷ 0 ∷ 0 ∷ 0 ∷ 0 ∷ 0 ∷ 0 ∷ 0 ∷ 0  -- 0, at 12: bool
+    ∷ 1 ∷ 0 ∷ 0 ∷ 0 ∷ 0 ∷ 0 ∷ 0 ∷ 0 ∷ 0 ∷ 0 ∷ 0 ∷ 0  -- 1, at 24: byte
+    ∷ 2 ∷ 0 ∷ 0 ∷ 0 ∷ 0 ∷ 0 ∷ 0 ∷ 0 ∷ 0 ∷ 0 ∷ 0 ∷ 0  -- 2, at 36: short
+    ∷ 3 ∷ 0 ∷ 0 ∷ 0 ∷ 0 ∷ 0 ∷ 0 ∷ 0 ∷ 0 ∷ 0 ∷ 0 ∷ 0  -- 3, at 48: int
+    ∷ 4 ∷ 0 ∷ 0 ∷ 0 ∷ 0 ∷ 0 ∷ 0 ∷ 0 ∷ 0 ∷ 0 ∷ 0 ∷ 0  -- 4, at 60: long
+    ∷ 5 ∷ 0 ∷ 0 ∷ 0 ∷ 0 ∷ 0 ∷ 0 ∷ 0 ∷ 0 ∷ 0 ∷ 0 ∷ 0  -- 5, at 72: float
+    ∷ 6 ∷ 0 ∷ 0 ∷ 0 ∷ 0 ∷ 0 ∷ 0 ∷ 0 ∷ 0 ∷ 0 ∷ 0 ∷ 0  -- 6, at 84: double
+    ∷ 7 ∷ 0 ∷ 0 ∷ 0 ∷ 0 ∷ 0 ∷ 0 ∷ 0 ∷ 0 ∷ 0 ∷ 0 ∷ 0  -- 7, at 96: string
+    ∷ 8 ∷ 0 ∷ 44 ∷ 1 ∷ 2 ∷ 0 ∷ 0 ∷ 0 ∷ 0 ∷ 0 ∷ 0 ∷ 0  -- 8, at 108: enum up to 300 + 65,536 * 2
+    ∷ 9 ∷ 0 ∷ 0 ∷ 0 ∷ 2 ∷ 0 ∷ 0 ∷ 0 ∷ 0 ∷ 0 ∷ 0 ∷ 0  -- 9, at 120: struct of members 0, 1
+    ∷ 10 ∷ 0 ∷ 9 ∷ 0 ∷ 0 ∷ 0 ∷ 0 ∷ 0 ∷ 0 ∷ 0 ∷ 0 ∷ 0  -- 10, at 132: sequence of 9
+    ∷ 11 ∷ 0 ∷ 7 ∷ 0 ∷ 10 ∷ 0 ∷ 0 ∷ 0 ∷ 0 ∷ 0 ∷ 0 ∷ 0  -- 11, at 144: dictionary of 7 to 10
+    ∷ 12 ∷ 0 ∷ 0 ∷ 0 ∷ 0 ∷ 0 ∷ 0 ∷ 0 ∷ 0 ∷ 0 ∷ 0 ∷ 0  -- 12, at 156: proxy
+    ∷ 13 ∷ 0 ∷ 2 ∷ 0 ∷ 1 ∷ 0 ∷ 0 ∷ 0 ∷ 1 ∷ 0 ∷ 4 ∷ 0  -- 13, at 168: exception Base of member 2
+    ∷ 14 ∷ 0 ∷ 3 ∷ 0 ∷ 2 ∷ 0 ∷ 0 ∷ 0 ∷ 5 ∷ 0 ∷ 4 ∷ 0  -- 14, at 180: class Cars of members 3, 4
+    ∷ 15 ∷ 0 ∷ 5 ∷ 0 ∷ 1 ∷ 0 ∷ 0 ∷ 0 ∷ 0 ∷ 0 ∷ 0 ∷ 0  -- 15, at 192: parameter list of member 5
+    ∷ 13 ∷ 0 ∷ 6 ∷ 0 ∷ 2 ∷ 0 ∷ 14 ∷ 0 ∷ 9 ∷ 0 ∷ 7 ∷ 0 ∷ []  -- 16, at 204: exception Derived of members 6, 7, base 13
+
+abbrev sampleMembers : List ℕ
+sampleMembers =
+    1 ∷ 0 ∷ 0 ∷ 0 ∷ 0 ∷ 0 ∷ 0 ∷ 0  -- 0, at 216: byte
+    ∷ 8 ∷ 0 ∷ 0 ∷ 0 ∷ 0 ∷ 0 ∷ 0 ∷ 0  -- 1, at 224: enum
+    ∷ 7 ∷ 0 ∷ 0 ∷ 0 ∷ 0 ∷ 0 ∷ 0 ∷ 0  -- 2, at 232: string
+    ∷ 11 ∷ 0 ∷ 1 ∷ 0 ∷ 5 ∷ 0 ∷ 1 ∷ 0  -- 3, at 240: optional(5 + 65,536) dictionary
+    ∷ 12 ∷ 0 ∷ 0 ∷ 0 ∷ 0 ∷ 0 ∷ 0 ∷ 0  -- 4, at 248: proxy
+    ∷ 3 ∷ 0 ∷ 1 ∷ 0 ∷ 1 ∷ 0 ∷ 0 ∷ 0  -- 5, at 256: optional(1) int
+    ∷ 4 ∷ 0 ∷ 1 ∷ 0 ∷ 6 ∷ 0 ∷ 0 ∷ 0  -- 6, at 264: optional(6) long
+    ∷ 2 ∷ 0 ∷ 1 ∷ 0 ∷ 7 ∷ 0 ∷ 0 ∷ 0 ∷ []  -- 7, at 272: optional(7) short
+
+abbrev nameBase : List ℕ
+nameBase = 66 ∷ 97 ∷ 115 ∷ 101 ∷ []
+
+abbrev nameCars : List ℕ
+nameCars = 67 ∷ 97 ∷ 114 ∷ 115 ∷ []
+
+abbrev nameDerived : List ℕ
+nameDerived = 68 ∷ 101 ∷ 114 ∷ 105 ∷ 118 ∷ 101 ∷ 100 ∷ []
+
+-- the names are at 280, the first of their bytes unused
+pub sample : List ℕ
+sample = sampleHeader ++ sampleTypes ++ sampleMembers ++ (46 ∷ nameBase) ++ nameCars ++ nameDerived
+
+-- ---- what it means
+
+abbrev member : ℕ → ℕ → Ty → Table.Member
+member r k t = record { row = r; key = k; ty = t }
+
+abbrev pair : Ty
+pair = struct (cons byte (cons (enum (upto 131372)) nil))
+
+pub record Meaning (T : List ℕ) : Type 0 where
+  pub fine : Table.faults T ≡ Table.fine
+  pub trees : Table.trees T ≡ bool ∷ byte ∷ num short ∷ num int ∷ num long ∷ num float ∷ num double ∷ string ∷ enum (upto 131372) ∷ pair ∷ seq pair ∷ dict string (seq pair)
+      ∷ proxy ∷ broken ∷ broken ∷ broken ∷ broken ∷ []
+  pub required : map (Table.required T) (9 ∷ 13 ∷ 14 ∷ 15 ∷ 16 ∷ [])
+      ≡ (member 0 0 byte ∷ member 1 1 (enum (upto 131372)) ∷ []) ∷ (member 2 0 string ∷ []) ∷ (member 4 0 proxy ∷ []) ∷ [] ∷ [] ∷ []
+  pub optional : map (Table.optional T) (9 ∷ 13 ∷ 14 ∷ 15 ∷ 16 ∷ [])
+      ≡ [] ∷ [] ∷ (member 3 65541 (dict string (seq pair)) ∷ []) ∷ (member 5 1 (num int) ∷ []) ∷ (member 6 6 (num long) ∷ member 7 7 (num short) ∷ []) ∷ []
+  pub names : map (Table.nameOf T) (13 ∷ 14 ∷ 16 ∷ []) ≡ nameBase ∷ nameCars ∷ nameDerived ∷ []
+  pub named : map (Table.named T) (nameBase ∷ nameCars ∷ nameDerived ∷ (46 ∷ nameBase) ∷ []) ≡ some 13 ∷ some 14 ∷ some 16 ∷ none ∷ []
+  pub chains : map (Table.chain T) (13 ∷ 14 ∷ 15 ∷ 16 ∷ []) ≡ (13 ∷ []) ∷ (14 ∷ []) ∷ (15 ∷ []) ∷ (16 ∷ 13 ∷ []) ∷ []
+
+pub sample-means : Meaning sample
+unfolding sample Result.firstOf Result.sameBytes Number.val Number.negative Table.at Table.types Table.members Table.names Table.typesAt Table.rowAt Table.membersAt Table.memberAt Table.namesAt Table.kind Table.field Table.memberType Table.mark Table.tag Table.takes Table.range Table.nameOf Table.orElse Table.faultAt Table.any Table.headerTests Table.headerRules Table.used Table.taken Table.noPart Table.noBase Table.alike Table.typeRules Table.sumRules Table.ownerOf Table.tagAlike Table.memberRules Table.pass Table.passes Table.faults Table.memberTy Table.memberTys Table.ownRows Table.rowTy Table.grow Table.tys Table.typeRows Table.trees Table.requiredOf Table.optionalOf Table.required Table.optional Table.search Table.named Table.base Table.upward Table.climb Table.chain
+sample-means = record { fine = refl; trees = refl; required = refl; optional = refl; names = refl; named = refl; chains = refl }
+
+-- ---- one byte changed
+
+-- the byte at a place, what it is changed to, and the fault: its class and its place
+pub record Change : Type 0 where
+  pub at : ℕ
+  pub to : ℕ
+  pub class : ℕ
+  pub place : ℕ
+
+-- the sample with the byte changed
+pub changed : Change → List ℕ
+changed c = take (c .at) sample ++ (c .to ∷ drop (suc (c .at)) sample)
+
+abbrev change : ℕ → ℕ → ℕ → ℕ → Change
+change i v c p = record { at = i; to = v; class = c; place = p }
+
+pub changes : List Change
+changes =
+    change 2 85 31 0  -- mark FGU
+    ∷ change 3 2 31 0  -- version 2
+    ∷ change 4 1 31 0  -- version 257
+    ∷ change 5 0 31 0  -- no types
+    ∷ change 6 1 31 0  -- 273 types
+    ∷ change 8 4 31 0  -- 1,032 members
+    ∷ change 10 32 31 0  -- 8,208 name bytes
+    ∷ change 11 1 31 0  -- zero byte
+    ∷ change 9 15 31 0  -- a byte after the names
+    ∷ change 13 1 32 12  -- zero byte of row 0
+    ∷ change 136 1 32 132  -- a sequence's b
+    ∷ change 23 1 32 12  -- a bool's e
+    ∷ change 144 16 33 144  -- kind 16, its fields unjudged
+    ∷ change 134 10 34 132  -- a sequence of itself
+    ∷ change 146 11 34 144  -- a dictionary with itself as key
+    ∷ change 148 11 34 144  -- with itself as value
+    ∷ change 210 17 34 204  -- a base that is the row itself
+    ∷ change 210 15 34 204  -- an exception with a class as base
+    ∷ change 170 3 35 168  -- a member passed over
+    ∷ change 208 1 35 0  -- a member left over
+    ∷ change 124 0 36 120  -- an empty struct
+    ∷ change 178 0 37 168  -- an empty name
+    ∷ change 179 1 37 168  -- a name of 260 bytes
+    ∷ change 214 8 37 204  -- a name that ends after the name bytes
+    ∷ change 188 1 37 180  -- a class with the name of an exception before it
+    ∷ change 113 128 38 108  -- an enumerator above 2^31 - 1
+    ∷ change 219 1 32 216  -- zero byte of member 0
+    ∷ change 220 1 32 216  -- a required member with a tag
+    ∷ change 216 9 34 216  -- a struct as its own member's type
+    ∷ change 264 13 34 264  -- an exception as a member's type
+    ∷ change 258 2 36 256  -- mark 2
+    ∷ change 218 1 36 216  -- an optional in a struct
+    ∷ change 263 128 38 256  -- a tag above 2^31 - 1
+    ∷ change 276 6 38 272  -- two optionals of an owner with one tag
+    ∷ []
+
+pub changes-told : map (λ c. Table.faults (changed c)) changes ≡ map (λ c. Table.fault (c .class) (c .place)) changes
+unfolding sample changed changes Result.firstOf Result.sameBytes Number.val Number.negative Table.at Table.types Table.members Table.names Table.typesAt Table.rowAt Table.membersAt Table.memberAt Table.namesAt Table.kind Table.field Table.memberType Table.mark Table.tag Table.takes Table.range Table.nameOf Table.orElse Table.faultAt Table.any Table.headerTests Table.headerRules Table.used Table.taken Table.noPart Table.noBase Table.alike Table.typeRules Table.sumRules Table.ownerOf Table.tagAlike Table.memberRules Table.pass Table.passes Table.faults
+changes-told = refl
