@@ -4,6 +4,8 @@ PREFIX = /usr/local
 # make fuzz: how many calls, and a seed to repeat a run (empty: another one each time)
 CALLS = 1000000
 SEED =
+# make stack: the recorded calls to make besides the generated ones
+RECORDED = crates/replay crates/replay_write
 
 RT = rt
 CARGO = cargo
@@ -90,9 +92,9 @@ fuzz: $(LIBRARY)
 bench: $(LIBRARY)
 	$(CARGO) run $(INDEPENDENT) --bin bench
 
-## stack: measure the deepest stack of each call
+## stack: measure the deepest stack of each call, on the gate's recorded calls (or RECORDED) and generated ones
 stack: $(LIBRARY)
-	$(CARGO) run $(INDEPENDENT) --bin stack
+	$(CARGO) run $(INDEPENDENT) --bin stack -- $(RECORDED)
 
 ## bindings: test the Rust crate and the tool over the library
 bindings: $(LIBRARY)

@@ -11,6 +11,7 @@ pub mod calls;
 pub mod ffi;
 pub mod gen;
 pub mod json;
+pub mod replay;
 pub mod spec;
 
 mod read;

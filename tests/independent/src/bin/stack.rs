@@ -1,14 +1,16 @@
 //! stack [PATH...]: the deepest stack of each call of the library, in bytes with its return address and the arguments
-//! that lie on the stack. Made are the recorded calls of these directories (their *.jsonl) and files, generated calls,
-//! and calls under tables of 256 types, each type nested in the next. Each call runs on a painted stack of its own:
-//! where the paint ends is how deep it went. x86-64 only.
+//! that lie on the stack. Made are recorded calls, generated calls, and calls under tables of 256 types, each type nested
+//! in the next. A PATH has recorded calls: crates/replay or crates/replay_write, another directory with *.jsonl in it, or
+//! such a file. Each call runs on a painted stack of its own: where the paint ends is how deep it went. x86-64 only.
 
 use independent::calls::Call;
 use independent::ffi;
 use independent::gen::Calls;
+use independent::replay;
 use independent::spec::Spec;
 use std::arch::asm;
 use std::collections::BTreeMap;
+use std::path::Path;
 use std::{env, fs, process};
 
 const GENERATED: usize = 20_000;
@@ -55,19 +57,31 @@ extern "C" fn run(call: &mut &mut dyn FnMut()) {
     call();
 }
 
-/// Recorded calls of the files and directories.
-fn recorded(paths: &[String]) -> Result<Vec<Call>, std::io::Error> {
+/// The recorded calls of a path, or what is wrong with it.
+fn recorded(path: &str) -> Result<Vec<Call>, String> {
+    let read = |file: &Path| fs::read(file).map_err(|error| format!("{}: {error}", file.display()));
+    let path = Path::new(path);
+    let replayed = match path.file_name().and_then(|name| name.to_str()) {
+        Some("replay") => Some(replay::reader_calls as fn(&[u8]) -> Option<Vec<Call>>),
+        Some("replay_write") => Some(replay::writer_calls as fn(&[u8]) -> Option<Vec<Call>>),
+        _ => None,
+    };
+    if let Some(calls) = replayed {
+        return calls(&read(&path.join("stdin"))?).ok_or(format!("{}: no recorded calls", path.display()));
+    }
+    let mut files = vec![path.to_path_buf()];
+    if path.is_dir() {
+        let entries = fs::read_dir(path).map_err(|error| format!("{}: {error}", path.display()))?;
+        files = entries.flatten().map(|entry| entry.path()).collect();
+        files.retain(|file| file.extension().is_some_and(|extension| extension == "jsonl"));
+    }
     let mut calls = vec![];
-    for path in paths {
-        let mut files = vec![path.into()];
-        if fs::metadata(path)?.is_dir() {
-            files = fs::read_dir(path)?.map(|entry| entry.map(|entry| entry.path())).collect::<Result<_, _>>()?;
-            files.retain(|file| file.extension().is_some_and(|extension| extension == "jsonl"));
-        }
-        for file in files {
-            let text = fs::read_to_string(file)?;
-            calls.extend(text.lines().filter_map(Call::parse).map(|(call, _)| call));
-        }
+    for file in files {
+        let text = String::from_utf8_lossy(&read(&file)?).into_owned();
+        calls.extend(text.lines().filter_map(Call::parse).map(|(call, _)| call));
+    }
+    if calls.is_empty() {
+        return Err(format!("{}: no recorded calls", path.display()));
     }
     Ok(calls)
 }
@@ -99,8 +113,8 @@ fn nested(leaf: (u8, &[u8]), kind: u8, before: &[u8]) -> [Call; 2] {
 }
 
 fn main() {
-    let paths: Vec<String> = env::args().skip(1).collect();
-    let recorded = recorded(&paths).unwrap_or_else(|error| {
+    let recorded = env::args().skip(1).map(|path| recorded(&path)).collect::<Result<Vec<_>, _>>();
+    let recorded = recorded.map(|calls| calls.concat()).unwrap_or_else(|error| {
         eprintln!("{error}");
         process::exit(2)
     });
@@ -118,7 +132,8 @@ fn main() {
     let mut stack = Stack::new();
     let own = stack.depth(&mut || {});
     let mut deepest = BTreeMap::new();
-    let generated = Calls::new(SEED).take(GENERATED).collect();
+    let generated: Vec<_> = Calls::new(SEED).take(GENERATED).collect();
+    println!("{} recorded, {} generated and {} nested calls", recorded.len(), generated.len(), nested.len());
     for (column, calls) in [recorded, generated, nested].iter().enumerate() {
         for call in calls {
             ffi::each(call, |name, made| {
@@ -129,7 +144,10 @@ fn main() {
         }
     }
     println!("{:<32} {:>10} {:>10} {:>10}", "bytes of stack", "recorded", "generated", "nested");
-    for (name, [recorded, generated, nested]) in deepest {
+    // A call that no column has is shown as none, not as 0 bytes.
+    let shown = |depth: usize| if depth == 0 { "none".to_string() } else { depth.to_string() };
+    for (name, depths) in deepest {
+        let [recorded, generated, nested] = depths.map(shown);
         println!("{name:<32} {recorded:>10} {generated:>10} {nested:>10}");
     }
 }
