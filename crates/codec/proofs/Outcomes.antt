@@ -29,9 +29,9 @@ use Rattle.encoding.specs.declared.Writing.{Writing}
 use Rattle.encoding.specs.declared.Writing.the-variants.{Written, Rejected}
 use Rattle.encoding.specs.Write.{Out, out, stop, next, begin, above, judgeAll, noFormat, bounded, tableRules, early, unless, rowsGiven, message, writing, output, writingOf}
 use Rattle.wire.specs.StepLaws.{rest-is}
-use Rattle.table.specs.Checks.{verdictOf}
-use Rattle.table.specs.declared.Verdict.{Verdict}
-use Rattle.table.specs.declared.Verdict.the-variants.{Fine, Broken}
+use Rattle.rules.specs.Checks.{verdictOf}
+use Rattle.rules.specs.declared.Verdict.{Verdict}
+use Rattle.rules.specs.declared.Verdict.the-variants.{Fine, Broken}
 use Rattle.writer.specs.declared.Outcome.{Outcome}
 use Rattle.writer.specs.declared.Outcome.the-variants.{Made, Stopped}
 use Rattle.writer.specs.Messages.{written, outcomeOf}

@@ -18,9 +18,9 @@ use Rattle.encoding.specs.Table.{types, kind, Fault, fine, fault, faults, ruleN
 use Rattle.encoding.specs.Message.{Read, body, noTop, limit, afterRules, unless, rules, rows}
 use Rattle.encoding.specs.MessageLaws.{rules-body}
 use Rattle.wire.specs.StepLaws.{rest-is}
-use Rattle.table.specs.Checks.{verdictOf}
-use Rattle.table.specs.declared.Verdict.{Verdict}
-use Rattle.table.specs.declared.Verdict.the-variants.{Fine, Broken}
+use Rattle.rules.specs.Checks.{verdictOf}
+use Rattle.rules.specs.declared.Verdict.{Verdict}
+use Rattle.rules.specs.declared.Verdict.the-variants.{Fine, Broken}
 use Rattle.level.specs.Fill.{fill}
 use Rattle.reader.specs.Walks.{bodyWalk}
 use Rattle.reader.specs.declared.Walk.{Walk}

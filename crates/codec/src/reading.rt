@@ -5,7 +5,7 @@ ghost use Rattle.encoding.specs.NumberLaws.{Bytes};
 ghost use Rattle.codec.specs.Told.{Walked, low, toldOf, rowCount};
 use encoding::Reading;
 use reader::Walk;
-use table::Verdict;
+use rules::Verdict;
 
 // How many bytes there are; each is below 256.
 pub fn count(s: &[u8]) -> usize
@@ -25,7 +25,7 @@ pub fn walk(table: &[u8], top: usize, message: &[u8], out: &mut [u8]) -> Walk
     // A part taken anew is handed on as two numbers; a slice as it came is copied through memory.
     let table = &table[0..];
     let message = &message[0..];
-    let v = table::rules::check(table);
+    let v = rules::check(table);
     match v {
         Verdict::Broken(c, p) => {
             return Walk::Stop(1, p);
@@ -42,7 +42,7 @@ pub fn walk(table: &[u8], top: usize, message: &[u8], out: &mut [u8]) -> Walk
         return Walk::Stop(3, 0);
     }
     let mut shapes = [0u8; 256];
-    table::shapes::fill(table, &mut shapes);
+    shapes::fill(table, &mut shapes);
     reader::body(table, &shapes, top, message, out)
 }
 

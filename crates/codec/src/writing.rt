@@ -1,6 +1,6 @@
 // What the writer's calls are made of: the judgements before the rows, the outcome, and the answer made of it.
 use encoding::Writing;
-use table::Verdict;
+use rules::Verdict;
 use writer::Outcome;
 ghost use mathlib.Core.Path.{_≡_};
 ghost use Prim.Native.Nat.{_<_};
@@ -63,7 +63,7 @@ fn judged(
     ensures { λ r. ⌜ (r ≡ outcomeOf (writing (now (table .entry)) top format count (now (rows .entry)) (now (buffer .entry)) (length (now (out .entry))))) × Fits r ⌝ }
     ensures { λ _. ⌜ now (out .exit) ≡ output (writing (now (table .entry)) top format count (now (rows .entry)) (now (buffer .entry)) (length (now (out .entry)))) (now (out .entry)) ⌝ }
 {
-    let v = table::rules::check(table);
+    let v = rules::check(table);
     match v {
         Verdict::Broken(c, p) => Outcome::Stopped(1, p),
         Verdict::Fine => {
@@ -72,7 +72,7 @@ fn judged(
                 return Outcome::Stopped(n, 0);
             }
             let mut shapes = [0u8; 256];
-            table::shapes::fill(table, &mut shapes);
+            shapes::fill(table, &mut shapes);
             writer::write_rows(table, &shapes, top, format, count, rows, buffer, out)
         }
     }

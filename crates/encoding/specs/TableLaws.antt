@@ -1,5 +1,6 @@
 -- What a row's tree is, by the row's kind, in terms of the trees of the rows below it; and a row's chain, by its base.
 --
+--   rows-below                     at most 256 rows have a tree
 --   length-tys                     the first n rows have n trees
 --   tys-at                         the tree of a row among the trees below any higher row
 --   ty-row, ty-past                the tree of a row that has one is made from the trees below it; any other row is broken
@@ -24,7 +25,15 @@ use lib.Dec.{leb}
 use borrow.Author.Tests.{leb-true, ne-eqb, lt-ltb, le-ltb}
 use Rattle.encoding.specs.Result.{pick}
 use Rattle.encoding.specs.Types.{upto, short, int, long, float, double, Ty, nil, cons, broken, bool, byte, string, proxy, num, enum, struct, seq, dict}
-use Rattle.encoding.specs.Table.{kind, field, members, memberType, range, memberTy, memberTys, ownRows, rowTy, grow, tys, typeRows, trees, tyOf, isRecord, base, upward, climb, chain}
+use Rattle.encoding.specs.Table.{types, kind, field, members, memberType, range, memberTy, memberTys, ownRows, rowTy, grow, tys, typeRows, trees, tyOf, isRecord, base, upward, climb, chain}
+
+pub rows-below : (T : List ℕ) → typeRows T ≤ 256
+unfolding typeRows
+rows-below T = go (leb (types T) 256) refl
+  where
+    go : (b : Bool) → leb (types T) 256 ≡ b → pick b (types T) 256 ≤ 256
+    go true e = leb-true _ _ e
+    go false e = omega arith
 
 module _ (T : List ℕ) where
   pub length-tys : (n : ℕ) → length (tys T n) ≡ n

@@ -30,7 +30,7 @@ use Rattle.wire.specs.Steps.{sizedOf}
 use Rattle.table.specs.declared.FoundMember.{FoundMember}
 use Rattle.table.specs.declared.FoundMember.the-variants.{At, Nothing}
 use Rattle.table.specs.Found.{memberFound}
-use Rattle.table.specs.Shapes.{shapesOf, formIn}
+use Rattle.shapes.specs.Shapes.{shapesOf, formIn}
 use Rattle.table.specs.Tags.{optionalFrom}
 use Rattle.wire.specs.StepLaws.{rest-is, sized-is, sized-isnt}
 use Rattle.level.specs.declared.Front.{Front}

@@ -20,8 +20,8 @@ use Rattle.encoding.specs.Types.{formOf}
 use Rattle.encoding.specs.Table.{members, memberType, memberTy, trees, tyOf, Member, lookup}
 use Rattle.table.specs.declared.FoundMember.the-variants.{At, Nothing}
 use Rattle.table.specs.Found.{memberFound}
-use Rattle.table.specs.Shapes.{shapesOf, formIn}
-use Rattle.table.specs.ShapesLaws.{form-row}
+use Rattle.shapes.specs.Shapes.{shapesOf, formIn}
+use Rattle.shapes.specs.ShapesLaws.{form-row}
 use Rattle.table.specs.Tags.{optionalFrom}
 use Rattle.table.specs.TagsLaws.{found-own}
 use Rattle.table.proofs.Places.{member-row, no-member}

@@ -20,7 +20,7 @@ use Rattle.encoding.specs.Value.{value}
 use Rattle.encoding.specs.Table.{tyOf, Member, lookup}
 use Rattle.encoding.specs.Optional.{optional, skipped, Header, header, extent, part, content, optionalOf}
 use Rattle.encoding.specs.OptionalLaws.{held-header, held-extent}
-use Rattle.table.specs.Shapes.{shapesOf, formIn}
+use Rattle.shapes.specs.Shapes.{shapesOf, formIn}
 use Rattle.table.specs.Tags.{optionalFrom}
 use Rattle.wire.specs.StepLaws.{rest-is}
 use Rattle.level.specs.declared.Head.{Head}

@@ -29,7 +29,7 @@ use Rattle.encoding.specs.ValueLaws.{held-value}
 use Rattle.encoding.specs.Table.{tyOf}
 use Rattle.encoding.specs.Optional.{extent, part}
 use Rattle.encoding.specs.OptionalLaws.{held-part, ends-part}
-use Rattle.table.specs.Shapes.{shapesOf, widthIn, isTextIn}
+use Rattle.shapes.specs.Shapes.{shapesOf, widthIn, isTextIn}
 use Rattle.value.proofs.CycleLaws.{row-wide, row-text}
 use Rattle.wire.specs.declared.Step.{Step}
 use Rattle.wire.specs.declared.Step.the-variants.{Took, Fault}

@@ -22,7 +22,7 @@ use Rattle.encoding.specs.Types.{bits}
 use Rattle.encoding.specs.Table.{members, memberType, Member, lookup}
 use Rattle.encoding.specs.Table
 use Rattle.encoding.specs.Optional.{Piece, required, optional, skipped, Header, firstForm, headerTail}
-use Rattle.table.specs.Shapes.{shapesOf, formIn}
+use Rattle.shapes.specs.Shapes.{shapesOf, formIn}
 use Rattle.level.specs.declared.Members.{Members}
 use Rattle.level.specs.declared.Members.the-variants.{Read, Refused}
 use Rattle.level.specs.declared.Optional.{Optional}

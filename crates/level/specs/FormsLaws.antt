@@ -5,7 +5,7 @@ use mathlib.Core.Path.{_≡_, refl}
 use mathlib.Core.Bool.{Bool, true, false, _&&_}
 use Rattle.encoding.specs.Result.{pick}
 use Rattle.encoding.specs.Types.{short, int, long, float, double, Ty, broken, bool, byte, string, proxy, num, enum, struct, seq, dict, fixed, fixeds, single, own, counted, sized, formOf}
-use Rattle.table.specs.Shapes.{formNumber}
+use Rattle.shapes.specs.Shapes.{formNumber}
 use Rattle.level.specs.Forms.{formNamed}
 
 counted-named : (b : Bool) → formNamed (formNumber (pick b counted sized)) ≡ pick b counted sized

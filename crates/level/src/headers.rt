@@ -5,7 +5,7 @@ ghost use mathlib.Core.Bool.{_&&_};
 ghost use lib.Dec.{ltb};
 ghost use Rattle.encoding.specs.Types.{bits, bitsOf};
 ghost use Rattle.encoding.specs.Optional.{header};
-ghost use Rattle.table.specs.Shapes.{shapesOf};
+ghost use Rattle.shapes.specs.Shapes.{shapesOf};
 ghost use Rattle.table.specs.Tags.{optionalFrom};
 ghost use Rattle.level.specs.Forms.{formNamed};
 ghost use Rattle.level.specs.Answers.{front, frontOf, early, headOf};
@@ -100,7 +100,7 @@ pub fn header(
             match found {
                 FoundMember::At(m, of) => {
                     let ty = crate::type_of(table::members(table), m, of);
-                    let form = table::shapes::form(shapes, ty);
+                    let form = shapes::form(shapes, ty);
                     if k == form_bits(form) {
                         Head::Known(m, ty, tag, n, form)
                     } else {

@@ -16,7 +16,7 @@ ghost use Rattle.encoding.specs.Message.{rowBytes, pieceRows};
 ghost use Rattle.wire.specs.Put.{put};
 ghost use Rattle.wire.specs.Steps.{stepOf};
 ghost use Rattle.wire.specs.declared.Step.the-variants.{Took};
-ghost use Rattle.table.specs.Shapes.{shapesOf};
+ghost use Rattle.shapes.specs.Shapes.{shapesOf};
 ghost use Rattle.table.specs.Tags.{optionalStart};
 ghost use Rattle.level.specs.Fill.{fill};
 ghost use Rattle.level.specs.Answers.{membersOf, typeOf};

@@ -5,7 +5,7 @@ ghost use Rattle.encoding.specs.Result.{bytes, inside};
 ghost use Rattle.encoding.specs.Value.{value};
 ghost use Rattle.encoding.specs.Table.{tyOf};
 ghost use Rattle.encoding.specs.Optional.{part, optionalOf};
-ghost use Rattle.table.specs.Shapes.{shapesOf};
+ghost use Rattle.shapes.specs.Shapes.{shapesOf};
 ghost use Rattle.table.specs.Tags.{optionalFrom};
 ghost use Rattle.level.specs.Forms.{formNamed};
 ghost use Rattle.level.specs.Answers.{partOf, optionalAnswer};
@@ -22,14 +22,14 @@ fn used_up(table: &[u8], shapes: &[u8; 256], t: usize, s: &[u8], f: usize) -> Pa
     let p = crate::extents::part(s, f);
     match p {
         Part::Is(a, e) => {
-            let w = table::shapes::width(shapes, t);
+            let w = shapes::width(shapes, t);
             if 0 < w {
                 if w == e - a {
                     return Part::Is(a, e);
                 }
             }
             if f == 8 {
-                if table::shapes::is_text(shapes, t) {
+                if shapes::is_text(shapes, t) {
                     return Part::Is(a, e);
                 }
             }

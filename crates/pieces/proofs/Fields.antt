@@ -22,8 +22,8 @@ use Rattle.encoding.specs.Table.{field, tag, trees, tyOf, memberTy}
 use Rattle.encoding.specs.Optional.{required, optional, isOptional}
 use Rattle.encoding.specs.Message.{Row}
 use Rattle.encoding.specs.Write.{stop, Reached, reach, given, partOf, rowAt}
-use Rattle.table.specs.Shapes.{formNumber, shapesOf, formIn}
-use Rattle.table.specs.ShapesLaws.{form-row}
+use Rattle.shapes.specs.Shapes.{formNumber, shapesOf, formIn}
+use Rattle.shapes.specs.ShapesLaws.{form-row}
 use Rattle.wire.specs.Put.{put, headerBits}
 use Rattle.wire.specs.PutLaws.{header-bits}
 use Rattle.pieces.specs.declared.Cursor.{Cursor}

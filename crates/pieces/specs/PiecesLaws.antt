@@ -14,7 +14,7 @@ use Rattle.encoding.specs.Number.{leBytes, sizeBytes}
 use Rattle.encoding.specs.Types.{bits, Form, bare, own, counted, sized, bitsOf}
 use Rattle.encoding.specs.TypesLaws.{bits-below}
 use Rattle.encoding.specs.Optional.{required, optional, headerBytes, lengthBytes, frontBytes, contentBytes, pieceBytes}
-use Rattle.table.specs.Shapes.{formNumber}
+use Rattle.shapes.specs.Shapes.{formNumber}
 use Rattle.pieces.specs.Pieces.{headerField, formBits, lengthField, optionalField}
 
 form-bits : (f : Form) → bits (bitsOf f) ≡ formBits (formNumber f)

@@ -11,7 +11,7 @@ ghost use lib.ListN.{length};
 ghost use Rattle.encoding.specs.Result.{pick};
 ghost use Rattle.encoding.specs.Table.{tyOf};
 ghost use Rattle.encoding.specs.Write.{partOf};
-ghost use Rattle.table.specs.Shapes.{shapesOf};
+ghost use Rattle.shapes.specs.Shapes.{shapesOf};
 ghost use Rattle.pieces.specs.Puts.{Puts};
 ghost use Rattle.pieces.specs.Judged.{partForm};
 ghost use Rattle.pieces.specs.Pieces.{rowOf, headerField, formBits, lengthField, optionalField, RowPut};
@@ -147,14 +147,7 @@ pub fn put_row(
             if fault != 0 {
                 return Placed::Wrong(fault);
             }
-            let end = put_optional(
-                out,
-                at,
-                c.least - 1,
-                table::shapes::form(shapes, t),
-                row,
-                buffer,
-            );
+            let end = put_optional(out, at, c.least - 1, shapes::form(shapes, t), row, buffer);
             Placed::Row(c, end, true)
         }
         Reach::Above => Placed::Stop,

@@ -10,7 +10,7 @@ ghost use Rattle.encoding.specs.Result.{ok, must};
 ghost use Rattle.encoding.specs.Number.{byte};
 ghost use Rattle.encoding.specs.Message.{Read, markerForm, body, rows};
 ghost use Rattle.wire.specs.Steps.{stepOf};
-ghost use Rattle.table.specs.Shapes.{shapesOf};
+ghost use Rattle.shapes.specs.Shapes.{shapesOf};
 ghost use Rattle.level.specs.Fill.{fill};
 ghost use Rattle.reader.specs.Walks.{capsule, markerOf, endedWalk, bodyWalk};
 use wire::Step;

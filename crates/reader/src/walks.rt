@@ -9,7 +9,7 @@ ghost use Rattle.encoding.specs.Result.{ok, pick};
 ghost use Rattle.encoding.specs.Optional.{Piece};
 ghost use Rattle.encoding.specs.Message.{parameters, pieceRows};
 ghost use Rattle.encoding.specs.Slice.{sliced as in-slices, compact, formatNumber, Chain, slices};
-ghost use Rattle.table.specs.Shapes.{shapesOf};
+ghost use Rattle.shapes.specs.Shapes.{shapesOf};
 ghost use Rattle.table.specs.Tags.{optionalFrom};
 ghost use Rattle.level.specs.Fill.{fill};
 ghost use Rattle.reader.specs.Stages.{stageOf};

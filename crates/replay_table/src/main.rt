@@ -4,7 +4,7 @@
 // One of them has 250 struct rows, each with four members of the row before: their trees are never walked.
 use libc::STDIN_FILENO;
 use libc::STDOUT_FILENO;
-use table::Verdict;
+use rules::Verdict;
 
 fn numbers(number: u64, place: u64, class: u64) {
     io::print_decimal(STDOUT_FILENO, number);
@@ -22,17 +22,17 @@ fn letter(form: usize) {
 
 fn forms(table: &[u8]) {
     let mut shapes = [0u8; 256];
-    table::shapes::fill(table, &mut shapes);
+    shapes::fill(table, &mut shapes);
     let n = table::rows(table);
     let mut t = 0;
     while t < n {
-        letter(table::shapes::form(&shapes, t));
+        letter(shapes::form(&shapes, t));
         t += 1;
     }
 }
 
 fn judge(table: &[u8]) {
-    let v = table::rules::check(table);
+    let v = rules::check(table);
     match v {
         Verdict::Fine => {
             numbers(0, 0, 0);

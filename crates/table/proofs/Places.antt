@@ -20,9 +20,8 @@ use native.Mathlib.Omega.{arith}
 use lib.ListN.{length, take, drop, getD, drop-of-length-le}
 use lib.Seq.{drop-drop}
 use borrow.Author.Tests.{le-leb, lt-leb}
-use Rattle.table.specs.ShapesLaws.{rows-below}
 use Rattle.encoding.specs.Table.{at, types, members, typesAt, rowAt, membersAt, memberAt, kind, field, memberType, mark, tag, typeRows, trees, tyOf, memberTy}
-use Rattle.encoding.specs.TableLaws.{ty-past, member-past, member-whole}
+use Rattle.encoding.specs.TableLaws.{rows-below, ty-past, member-past, member-whole}
 use Rattle.wire.specs.StepLaws.{rest-is}
 use Rattle.wire.specs.At.{at-byte, at-past, at-within}
 use Rattle.table.specs.Rows.{IsMemberAt, IsMemberRow}

@@ -3,9 +3,5 @@ pub mod Found
 pub mod Rows
 pub mod Names
 pub mod NamesLaws
-pub mod Shapes
-pub mod ShapesLaws
-pub mod Checks
-pub mod ChecksLaws
 pub mod Tags
 pub mod TagsLaws

@@ -1,10 +1,7 @@
 // The type table: what its bytes say. Each look-up equals its definition on any bytes: past the end is 0.
-// naming.rt has the records' names, chain.rt bases and members, shapes.rt the shape of each row,
-// rules.rt the check of every rule.
+// naming.rt has the records' names, chain.rt bases and members.
 pub mod chain;
 pub mod naming;
-pub mod rules;
-pub mod shapes;
 
 ghost use mathlib.Core.Path.{_≡_};
 ghost use Prim.Native.Nat.{_+_, _*_, _≤_, _<_};
@@ -22,12 +19,6 @@ pub enum Found {
 pub enum FoundMember {
     At(usize, usize),
     Nothing,
-}
-
-// No rule is broken; or the first that is, as its class and its place.
-pub enum Verdict {
-    Fine,
-    Broken(usize, usize),
 }
 
 // A type row: its kind, its zero byte, its fields a to e.
@@ -64,7 +55,7 @@ pub fn members(table: &[u8]) -> usize
 }
 
 // N of the header.
-fn names(table: &[u8]) -> usize
+pub fn names(table: &[u8]) -> usize
     ensures { λ r. ⌜ (r ≡ names (now (table .entry))) × (r < 65536) ⌝ }
 {
     wire::short_at(table, 9)
@@ -117,7 +108,7 @@ pub fn kind(table: &[u8], t: usize) -> usize
 }
 
 // The kind of a type row whose first byte lies inside the table.
-fn kind_in(table: &[u8], t: usize) -> usize
+pub fn kind_in(table: &[u8], t: usize) -> usize
     requires { ⌜ 12 + 12 * t < length (now table) ⌝ }
     ensures { λ r. ⌜ (r ≡ kind (now (table .entry)) t) × (r < 256) ⌝ }
 {
@@ -203,7 +194,7 @@ fn type_row_outside(table: &[u8], t: usize) -> TypeRow
 }
 
 // Type row t whole, which lies inside the table.
-fn type_row_in(table: &[u8], t: usize) -> TypeRow
+pub fn type_row_in(table: &[u8], t: usize) -> TypeRow
     requires { ⌜ 24 + 12 * t ≤ length (now table) ⌝ }
     ensures { λ r. ⌜ IsTypeRow (now (table .entry)) t r ⌝ }
 {
@@ -266,7 +257,7 @@ fn member_row_outside(table: &[u8], m: usize) -> MemberRow
 }
 
 // The member row that begins at `start` whole, which lies inside the table.
-fn member_row_in(table: &[u8], start: usize) -> MemberRow
+pub fn member_row_in(table: &[u8], start: usize) -> MemberRow
     requires { ⌜ start + 8 ≤ length (now table) ⌝ }
     ensures { λ r. ⌜ IsMemberAt (now (table .entry)) start r ⌝ }
 {
@@ -333,7 +324,7 @@ pub fn is_record(k: usize) -> bool
 }
 
 // A row of kind k takes member rows.
-fn owns(k: usize) -> bool
+pub fn owns(k: usize) -> bool
     ensures { λ r. ⌜ r ≡ owns k ⌝ }
 {
     if k == 9 {

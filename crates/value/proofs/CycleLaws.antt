@@ -33,8 +33,8 @@ use Rattle.encoding.specs.Table.{kind, field, members, memberType, range, membe
 use Rattle.encoding.specs.TableLaws.{tys-at, ty-row, ty-past, below-none, row-broken, member-in, member-past, members-more, members-none}
 use Rattle.encoding.specs.Value.{value, values, whole, exact}
 use Rattle.encoding.specs.ValueLaws.{held-value}
-use Rattle.table.specs.Shapes.{widthOf, shapesOf, widthIn, widthBelow, isTextIn, isBoolIn, isEnumIn}
-use Rattle.table.specs.ShapesLaws.{width-takes, width-row, text-row, bool-row, enum-row}
+use Rattle.shapes.specs.Shapes.{widthOf, shapesOf, widthIn, widthBelow, isTextIn, isBoolIn, isEnumIn}
+use Rattle.shapes.specs.ShapesLaws.{width-takes, width-row, text-row, bool-row, enum-row}
 use Rattle.wire.specs.declared.Step.{Step}
 use Rattle.wire.specs.declared.Step.the-variants.{Took, Fault}
 use Rattle.wire.specs.declared.Sized.{Sized}

@@ -19,7 +19,7 @@ use Rattle.encoding.specs.Types.{Ty, broken}
 use Rattle.encoding.specs.Table.{tys}
 use Rattle.encoding.specs.Value.{value}
 use Rattle.encoding.specs.Proxy.{identity, text, modeForm, versions, endpoint, endpoints}
-use Rattle.table.specs.Shapes.{isTextIn}
+use Rattle.shapes.specs.Shapes.{isTextIn}
 
 -- the tree of row e among the trees of the rows below t
 unfoldable pub partTy : List ℕ → ℕ → ℕ → Ty

@@ -12,7 +12,7 @@ ghost use Rattle.encoding.specs.Types.{struct, seq, dict};
 ghost use Rattle.encoding.specs.Table.{field, tys, tyOf, memberTys, ownRows};
 ghost use Rattle.encoding.specs.Value.{value, exact};
 ghost use Rattle.wire.specs.Steps.{stepOf};
-ghost use Rattle.table.specs.Shapes.{shapesOf, widthBelow};
+ghost use Rattle.shapes.specs.Shapes.{shapesOf, widthBelow};
 ghost use Rattle.value.specs.Parts.{partTy, entry, isTextBelow};
 use wire::Sized;
 use wire::Step;
@@ -53,7 +53,7 @@ fn part(table: &[u8], shapes: &[u8; 256], t: usize, e: usize, s: &[u8]) -> Step
     ensures { λ r. ⌜ r ≡ stepOf (value (partTy (now (table .entry)) t e) (now (s .entry))) ⌝ }
 {
     if e < t {
-        let w = table::shapes::width(shapes, e);
+        let w = shapes::width(shapes, e);
         if 0 < w {
             if w <= s.len() {
                 return Step::Took(w);
@@ -102,7 +102,7 @@ fn is_text_below(shapes: &[u8; 256], t: usize, k: usize) -> bool
     ensures { λ r. ⌜ r ≡ isTextBelow (now (shapes .entry)) t k ⌝ }
 {
     if k < t {
-        return table::shapes::is_text(shapes, k);
+        return shapes::is_text(shapes, k);
     }
     false
 }
@@ -116,7 +116,7 @@ fn sequence(table: &[u8], shapes: &[u8; 256], t: usize, s: &[u8]) -> Step
     match z {
         Sized::Is(n, k) => {
             let e = table::field_a(table, t);
-            let w = table::shapes::width_below(shapes, t, e);
+            let w = shapes::width_below(shapes, t, e);
             if 0 < w {
                 if n * w <= s.len() - k {
                     return Step::Took(k + n * w);
@@ -138,7 +138,7 @@ fn elements(table: &[u8], shapes: &[u8; 256], t: usize, e: usize, n: usize, s: &
     ensures { λ r. ⌜ r ≡ stepOf (times n (value (partTy (now (table .entry)) t e)) (now (s .entry))) ⌝ }
 {
     if e < t {
-        if table::shapes::is_text(shapes, e) {
+        if shapes::is_text(shapes, e) {
             return plain::texts(s, n);
         }
     }
@@ -186,7 +186,7 @@ fn entries(table: &[u8], shapes: &[u8; 256], t: usize, n: usize, s: &[u8]) -> St
     let key = table::field_a(table, t);
     let val = table::field_b(table, t);
     let text = is_text_below(shapes, t, key);
-    let w = table::shapes::width_below(shapes, t, val);
+    let w = shapes::width_below(shapes, t, val);
     let mut left = n;
     let mut at: usize = 0;
     while left > 0 {
@@ -267,19 +267,19 @@ pub fn read_member(table: &[u8], shapes: &[u8; 256], t: usize, s: &[u8]) -> Step
     requires { ⌜ now shapes ≡ shapesOf (now table) ⌝ }
     ensures { λ r. ⌜ r ≡ stepOf (value (tyOf (now (table .entry)) t) (now (s .entry))) ⌝ }
 {
-    let w = table::shapes::width(shapes, t);
+    let w = shapes::width(shapes, t);
     if 0 < w {
         if w <= s.len() {
             return Step::Took(w);
         }
     }
-    if table::shapes::is_text(shapes, t) {
+    if shapes::is_text(shapes, t) {
         return plain::text(s);
     }
-    if table::shapes::is_bool(shapes, t) {
+    if shapes::is_bool(shapes, t) {
         return plain::bool(s);
     }
-    if table::shapes::is_enum(shapes, t) {
+    if shapes::is_enum(shapes, t) {
         let row = table::type_row(table, t);
         return plain::enumerator(s, row.a + 65536 * row.b);
     }
@@ -291,7 +291,7 @@ pub fn exact_value(table: &[u8], shapes: &[u8; 256], t: usize, s: &[u8]) -> bool
     requires { ⌜ now shapes ≡ shapesOf (now table) ⌝ }
     ensures { λ r. ⌜ r ≡ exact (tyOf (now (table .entry)) t) (now (s .entry)) ⌝ }
 {
-    let w = table::shapes::width(shapes, t);
+    let w = shapes::width(shapes, t);
     if 0 < w {
         if w <= s.len() {
             return w == s.len();

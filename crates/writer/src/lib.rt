@@ -8,7 +8,7 @@ ghost use mathlib.Core.Path.{_≡_};
 ghost use Prim.Native.Nat.{_≤_, _<_};
 ghost use lib.ListN.{length};
 ghost use Rattle.encoding.specs.Write.{output};
-ghost use Rattle.table.specs.Shapes.{shapesOf};
+ghost use Rattle.shapes.specs.Shapes.{shapesOf};
 ghost use Rattle.writer.specs.Messages.{written, outcomeOf};
 
 // Where the bytes put end, the next row, whether an optional member was put, and the number of the refusal at that row or 0.

@@ -7,7 +7,7 @@ ghost use lib.ListN.{length};
 ghost use Rattle.encoding.specs.Table.{chain};
 ghost use Rattle.encoding.specs.Slice.{first, slicesBytes};
 ghost use Rattle.encoding.specs.Message.{encapsulate};
-ghost use Rattle.table.specs.Shapes.{shapesOf};
+ghost use Rattle.shapes.specs.Shapes.{shapesOf};
 ghost use Rattle.writer.specs.Slices.{formatBy, slicesFrom};
 ghost use Rattle.writer.specs.Messages.{contentsOf, AllPut};
 

@@ -9,7 +9,7 @@ ghost use Prim.Native.Nat.{_+_, _≤_, _<_};
 ghost use lib.ListN.{length};
 ghost use Rattle.encoding.specs.Result.{pick};
 ghost use Rattle.encoding.specs.Table.{nameOf};
-ghost use Rattle.table.specs.Shapes.{shapesOf};
+ghost use Rattle.shapes.specs.Shapes.{shapesOf};
 ghost use Rattle.pieces.specs.Puts.{Puts};
 ghost use Rattle.writer.specs.Slices.{formatBy, idField, frontField, RowsPut, DataPut, SlicePut};
 

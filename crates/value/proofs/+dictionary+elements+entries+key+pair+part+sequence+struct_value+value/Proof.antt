@@ -48,9 +48,9 @@ use Rattle.table.proofs.field_b.Reads as field-b-reads
 use Rattle.table.proofs.kind.Reads as kind-reads
 use Rattle.table.proofs.member_row.Reads as member-row-reads
 use Rattle.table.proofs.members.Reads as members-reads
-use Rattle.table.proofs.shapes.is_text.Reads as is-text-reads
-use Rattle.table.proofs.shapes.width.Reads as width-reads
-use Rattle.table.proofs.shapes.width_below.Reads as width-below-reads
+use Rattle.shapes.proofs.is_text.Reads as is-text-reads
+use Rattle.shapes.proofs.width.Reads as width-reads
+use Rattle.shapes.proofs.width_below.Reads as width-below-reads
 use Rattle.table.proofs.type_row.Reads as type-row-reads
 use Rattle.value.proofs.is_text_below.Reads as is-text-below-reads
 use Rattle.value.proofs.plain.bool.Reads as bool-reads

@@ -1,0 +1,1032 @@
+-- What the tests of the check tell, rule by rule, and its loops. Assumes nothing.
+--
+--   whole-..                   a row read whole is the table's
+--   at-below                   a number of k bytes is below 256 ^ k
+--   marked-..                  the first five bytes, read as an int and a byte
+--   header-..                  the header's rules in the code's order
+--   set-.., clear-..           fields that are not 0, from one on
+--   unused-..                  those that a kind does not use
+--   part-.., base-..           references to rows below
+--   Before, before-.., alike-is   the loop over the names of rows before, and that it finds what is alike
+--   past-.., Plain, plain-..   how far no row is a record; alike-from: names are alike from there on or nowhere
+--   enum-.. list-..            the rules of each kind; kind-.. those of a row by its kind; row-.. all of a type row
+--   share-.., Sum, sum-..      the member rows that rows take
+--   basic-..                   a basic row breaks no rule and takes no member rows
+--   Types, types-..            the pass over the type rows and the member sum
+--   Tags, tags-..              the loop over the tags before; alike-above, alike-below only of a tag below a bound
+--   required-.., optional-.., member-..   the rules of a member row
+--   Fields, fields, tag-of     the eight bytes of a member row as one number, by its fields
+--   usual-..                   the tests of a usual row, and that it breaks no rule but perhaps that of its type
+--   Owner, owner-..            the member rows of one owner, each of its class (class-..), read whole or usual; Owners, owners-.. of all owners
+--   check-..                   the passes one after another; check-rows, check-all-rows the type rows lie inside, all rows do
+use Prim.Native.Nat.{ℕ, zero, suc, _+_, _-_, _*_, _/_, _%_, _^_, _≤_, _<_, max}
+use mathlib.Core.Path.{_≡_, refl, sym, ap, ap₂, _∙_}
+use mathlib.Core.Bool.{Bool, true, false, _&&_, _||_, not}
+use mathlib.Core.List.{List, [], _∷_, _++_}
+use mathlib.Core.Logic.{⊎-elim}
+use native.Mathlib.Nat.{add-zero, eq-or-lt-of-le}
+use native.Mathlib.Numerals.{add-one, sub-one}
+use native.Mathlib.Omega.{arith}
+use lib.ListN.{length, take, drop, getD, List·getD-eq-default}
+use lib.Seq.{take-take}
+use lib.Dec.{eqb, leb, ltb}
+use borrow.Author.Tests.{eqb-true, eqb-false, leb-true, ltb-true, ltb-false, not-true, not-false, lt-ltb, le-ltb, le-leb, lt-leb, eq-eqb, ne-eqb}
+use Rattle.encoding.specs.Result.{pick, firstOf, sameBytes}
+use Rattle.encoding.specs.ResultLaws.{both-true, either-false, sameBytes-ok}
+use Rattle.encoding.specs.Number.{val, leBytes, negative}
+use Rattle.encoding.specs.NumberLaws.{leBytes-val}
+use Rattle.encoding.specs.Table.{at, types, members, names, typesAt, rowAt, membersAt, memberAt, namesAt, kind, field, memberType, mark, tag, isRecord, owns, nameOf, range, any, used, taken, noPart, alike, typeRules, headerTests, headerRules, sumRules, faultAt, Fault, fine, fault, orElse, pass, passes, faults}
+use Rattle.wire.specs.At.{at-more, at-split}
+use Rattle.table.specs.Names.{nameStart, isNamed}
+use Rattle.table.specs.NamesLaws.{name-part}
+use Rattle.rules.specs.Checks.{verdictOf, isSetFrom, noBaseOf, alikeFrom, enumRules, structRules, seqRules, dictRules, recordRules, listRules, kindRules, rowRules, share, isBasic, past, typePass, memberPass, isOptionalOf, isTagBefore, isTagAlike, requiredRules, optionalRules, memberRulesBy, memberRulesOf, isUsual, ownerPass, ownersPass, MembersThere, OwnersThere}
+use Rattle.rules.specs.ChecksLaws.{row-rules, or-assoc, table-length, owners-pass, owners-there}
+use Rattle.table.specs.Rows.{typeRowOf, memberRowOf, IsTypeRow, IsMemberAt, IsMemberRow}
+use Rattle.table.specs.declared.TypeRow.{TypeRow}
+use Rattle.table.specs.declared.MemberRow.{MemberRow}
+use Rattle.rules.specs.declared.Verdict.{Verdict}
+use Rattle.rules.specs.declared.Verdict.the-variants.{Fine, Broken}
+use Rattle.table.proofs.Places.{row-shows, members-begin-at, member-placed}
+use Rattle.table.proofs.Ranges.{range-more, range-none, range-left, range-empty, any-here, any-next, any-none, any-never, any-past}
+use Rattle.table.proofs.ByKind.{by-kind}
+use Rattle.table.proofs.Labels.{record-named, record-short, record-none}
+
+-- ---- rows read whole
+
+whole-type : (T : List ℕ) (t : ℕ) (r : TypeRow) → IsTypeRow T t r → r ≡ typeRowOf T t
+whole-type T t r i = go (i .kind-is) (i .spare-is) (i .a-is) (i .b-is) (i .c-is) (i .d-is) (i .e-is)
+  where
+    go : {k s a b c d e : ℕ} → k ≡ kind T t → s ≡ at T 1 (rowAt T t + 1) → a ≡ field T t 0 → b ≡ field T t 1 → c ≡ field T t 2 → d ≡ field T t 3 → e ≡ field T t 4
+        → _≡_ {A = TypeRow} (record { kind = k; spare = s; a = a; b = b; c = c; d = d; e = e }) (typeRowOf T t)
+    go ek es ea eb ec ed ee = rw (ek, es, ea, eb, ec, ed, ee)
+
+whole-member : (T : List ℕ) (m : ℕ) (r : MemberRow) → IsMemberRow T m r → r ≡ memberRowOf T m
+whole-member T m r i = go (i .of-is) (i .mark-is) (i .spare-is) (i .tag-is)
+  where
+    go : {t k s g : ℕ} → t ≡ memberType T m → k ≡ mark T m → s ≡ at T 1 (memberAt T m + 3) → g ≡ tag T m
+        → _≡_ {A = MemberRow} (record { of = t; mark = k; spare = s; tag = g }) (memberRowOf T m)
+    go et ek es eg = rw (et, ek, es, eg)
+
+-- ---- numbers of bytes
+
+-- a number of k bytes is below 256 ^ k
+at-below : (T : List ℕ) → ((i : ℕ) → getD T i 0 < 256) → (k p : ℕ) → at T k p < 256 ^ k
+unfolding at val
+at-below T small zero p = omega arith
+at-below T small (suc k) p = omega (arith, at-more T k p, small p, at-below T small k (suc p))
+
+-- ---- header
+
+module _ (n : ℕ) where
+  pub marked-other : (T : List ℕ) → n ≡ at T 4 0 → (n ≡ 22300486 → ⊥) → false ≡ sameBytes (take 5 T) (70 ∷ 71 ∷ 84 ∷ 1 ∷ 0 ∷ [])
+  unfolding at val
+  marked-other T en h = go (sameBytes (take 5 T) (70 ∷ 71 ∷ 84 ∷ 1 ∷ 0 ∷ [])) refl
+    where
+      go : (s : Bool) → sameBytes (take 5 T) (70 ∷ 71 ∷ 84 ∷ 1 ∷ 0 ∷ []) ≡ s → false ≡ s
+      go true e = absurd (h (en ∙ ap val (sym (take-take 4 5 T (omega arith))) ∙ ap (λ (l : List ℕ). val (take 4 l)) (sameBytes-ok (take 5 T) (70 ∷ 71 ∷ 84 ∷ 1 ∷ 0 ∷ []) e)))
+      go false e = refl
+
+  pub marked-last : (T : List ℕ) → 5 ≤ length T → ((i : ℕ) → getD T i 0 < 256) → n ≡ at T 4 0 → n ≡ 22300486 → (v : ℕ) → v ≡ at T 1 4 → eqb v 0 ≡ sameBytes (take 5 T) (70 ∷ 71 ∷ 84 ∷ 1 ∷ 0 ∷ [])
+  unfolding at val leBytes sameBytes
+  marked-last (a ∷ b ∷ c ∷ d ∷ e ∷ r) long small en eh v ev =
+      let front : 70 ∷ 71 ∷ 84 ∷ 1 ∷ [] ≡ a ∷ b ∷ c ∷ d ∷ [] = ap (leBytes 4) (sym eh ∙ en) ∙ leBytes-val (a ∷ b ∷ c ∷ d ∷ []) (small 0, (small 1, (small 2, (small 3, tt)))) in
+      let ee : v ≡ e = omega arith in
+      rw ee (go (eqb e 0)) ∙ ap (λ (l : List ℕ). sameBytes (l ++ (e ∷ [])) (70 ∷ 71 ∷ 84 ∷ 1 ∷ 0 ∷ [])) front
+    where
+      go : (q : Bool) → q ≡ q && true
+      go true = refl
+      go false = refl
+  marked-last [] long small en eh v ev = absurd (omega arith)
+  marked-last (a ∷ []) long small en eh v ev = absurd (omega arith)
+  marked-last (a ∷ b ∷ []) long small en eh v ev = absurd (omega arith)
+  marked-last (a ∷ b ∷ c ∷ []) long small en eh v ev = absurd (omega arith)
+  marked-last (a ∷ b ∷ c ∷ d ∷ []) long small en eh v ev = absurd (omega arith)
+
+pub header-short : (T : List ℕ) → length T < 12 → faultAt 0 31 ≡ headerRules T
+unfolding headerRules headerTests firstOf typesAt
+header-short T h = rw (lt-ltb _ _ h) (go (not (sameBytes (take 5 T) (70 ∷ 71 ∷ 84 ∷ 1 ∷ 0 ∷ []))))
+  where
+    go : (b : Bool) → faultAt 0 31 ≡ faultAt 0 (pick b 31 31)
+    go true = refl
+    go false = refl
+
+module _ (T : List ℕ) (long : 12 ≤ length T) (s : Bool) (es : s ≡ sameBytes (take 5 T) (70 ∷ 71 ∷ 84 ∷ 1 ∷ 0 ∷ [])) where
+  pub header-mark : not s ≡ true → faultAt 0 31 ≡ headerRules T
+  unfolding headerRules headerTests firstOf
+  header-mark q = rw (← es, q)
+
+  module _ (marked : not s ≡ false) (t : ℕ) (et : t ≡ types T) where
+    pub header-none : t ≡ 0 → faultAt 0 31 ≡ headerRules T
+    unfolding headerRules headerTests firstOf typesAt
+    header-none z = rw (← es, marked, le-ltb _ _ long, ← et, eq-eqb t 0 z)
+
+    module _ (some : t ≡ 0 → ⊥) where
+      pub header-types : 256 < t → faultAt 0 31 ≡ headerRules T
+      unfolding headerRules headerTests firstOf typesAt
+      header-types h = rw (← es, marked, le-ltb _ _ long, ← et, ne-eqb t 0 some, lt-ltb _ _ h)
+
+      module _ (few : t ≤ 256) (m : ℕ) (em : m ≡ members T) where
+        pub header-members : 1024 < m → faultAt 0 31 ≡ headerRules T
+        unfolding headerRules headerTests firstOf typesAt
+        header-members h = rw (← es, marked, le-ltb _ _ long, ← et, ne-eqb t 0 some, le-ltb _ _ few, ← em, lt-ltb _ _ h)
+
+        module _ (small : m ≤ 1024) (n : ℕ) (en : n ≡ names T) where
+          pub header-names : 8192 < n → faultAt 0 31 ≡ headerRules T
+          unfolding headerRules headerTests firstOf typesAt
+          header-names h = rw (← es, marked, le-ltb _ _ long, ← et, ne-eqb t 0 some, le-ltb _ _ few, ← em, le-ltb _ _ small, ← en, lt-ltb _ _ h)
+
+          module _ (short : n ≤ 8192) (b : ℕ) (eb : b ≡ at T 1 11) where
+            pub header-spare : (b ≡ 0 → ⊥) → faultAt 0 31 ≡ headerRules T
+            unfolding headerRules headerTests firstOf typesAt
+            header-spare h = rw (← es, marked, le-ltb _ _ long, ← et, ne-eqb t 0 some, le-ltb _ _ few, ← em, le-ltb _ _ small, ← en, le-ltb _ _ short, ← eb, ne-eqb b 0 h)
+
+            module _ (spare : b ≡ 0) where
+              pub header-length : (length T ≡ 12 + 12 * t + 8 * m + n → ⊥) → faultAt 0 31 ≡ headerRules T
+              unfolding headerRules headerTests firstOf typesAt namesAt memberAt membersAt rowAt
+              header-length h = rw (← es, marked, le-ltb _ _ long, ← et, ne-eqb t 0 some, le-ltb _ _ few, ← em, le-ltb _ _ small, ← en, le-ltb _ _ short, ← eb, eq-eqb b 0 spare, ne-eqb _ _ h)
+
+              pub header-fine : length T ≡ 12 + 12 * t + 8 * m + n → faultAt 0 0 ≡ headerRules T
+              unfolding headerRules headerTests firstOf typesAt namesAt memberAt membersAt rowAt
+              header-fine h = rw (← es, marked, le-ltb _ _ long, ← et, ne-eqb t 0 some, le-ltb _ _ few, ← em, le-ltb _ _ small, ← en, le-ltb _ _ short, ← eb, eq-eqb b 0 spare, eq-eqb _ _ h)
+
+-- ---- fields that a kind does not use
+
+module _ (r : TypeRow) where
+  pub set-a : (r .a ≡ 0 → ⊥) → true ≡ isSetFrom r 0
+  unfolding isSetFrom any
+  set-a h = rw (ne-eqb (r .a) 0 h)
+
+  pub clear-a : r .a ≡ 0 → (b : Bool) → b ≡ isSetFrom r 1 → b ≡ isSetFrom r 0
+  unfolding isSetFrom any
+  clear-a h b q = q ∙ sym (rw (eq-eqb (r .a) 0 h))
+
+  pub set-b : (r .b ≡ 0 → ⊥) → true ≡ isSetFrom r 1
+  unfolding isSetFrom any
+  set-b h = rw (ne-eqb (r .b) 0 h)
+
+  pub clear-b : r .b ≡ 0 → (b : Bool) → b ≡ isSetFrom r 2 → b ≡ isSetFrom r 1
+  unfolding isSetFrom any
+  clear-b h b q = q ∙ sym (rw (eq-eqb (r .b) 0 h))
+
+  pub set-c : (r .c ≡ 0 → ⊥) → true ≡ isSetFrom r 2
+  unfolding isSetFrom any
+  set-c h = rw (ne-eqb (r .c) 0 h)
+
+  module _ (c : r .c ≡ 0) where
+    pub set-d : (r .d ≡ 0 → ⊥) → true ≡ isSetFrom r 2
+    unfolding isSetFrom any
+    set-d h = rw (eq-eqb (r .c) 0 c, ne-eqb (r .d) 0 h)
+
+    pub clear-d : r .d ≡ 0 → not (eqb (r .e) 0) ≡ isSetFrom r 2
+    unfolding isSetFrom any
+    clear-d h = rw (eq-eqb (r .c) 0 c, eq-eqb (r .d) 0 h) (go (not (eqb (r .e) 0)))
+      where
+        go : (b : Bool) → b ≡ b || false
+        go true = refl
+        go false = refl
+
+-- by the kind
+used-low : (k : ℕ) → k < 8 → 0 ≡ used k
+unfolding used
+used-low = by-kind (λ n. n < 8 → 0 ≡ used n)
+    (λ h. refl) (λ h. refl) (λ h. refl) (λ h. refl) (λ h. refl) (λ h. refl) (λ h. refl) (λ h. refl)
+    (λ h. absurd (omega arith)) (λ h. absurd (omega arith)) (λ h. absurd (omega arith)) (λ h. absurd (omega arith)) (λ h. absurd (omega arith))
+    (λ n l h. absurd (omega arith))
+
+used-two : (k : ℕ) → 8 ≤ k → (k ≡ 10 → ⊥) → (k ≡ 12 → ⊥) → (k ≡ 13 → ⊥) → (k ≡ 14 → ⊥) → k < 16 → 2 ≡ used k
+unfolding used
+used-two = by-kind (λ n. 8 ≤ n → (n ≡ 10 → ⊥) → (n ≡ 12 → ⊥) → (n ≡ 13 → ⊥) → (n ≡ 14 → ⊥) → n < 16 → 2 ≡ used n)
+    (λ h a b c d l. absurd (omega arith)) (λ h a b c d l. absurd (omega arith)) (λ h a b c d l. absurd (omega arith)) (λ h a b c d l. absurd (omega arith))
+    (λ h a b c d l. absurd (omega arith)) (λ h a b c d l. absurd (omega arith)) (λ h a b c d l. absurd (omega arith)) (λ h a b c d l. absurd (omega arith))
+    (λ h a b c d l. refl) (λ h a b c d l. refl) (λ h a b c d l. absurd (a refl)) (λ h a b c d l. refl) (λ h a b c d l. absurd (b refl))
+    (λ n g h a b c d l. let z : n ≡ 15 = omega arith in rw z)
+
+module _ (r : TypeRow) (k : ℕ) (b : Bool) where
+  pub unused-low : k < 8 → b ≡ isSetFrom r 0 → b ≡ isSetFrom r (used k)
+  unused-low h e = e ∙ ap (isSetFrom r) (used-low k h)
+
+  pub unused-seq : k ≡ 10 → b ≡ isSetFrom r 1 → b ≡ isSetFrom r (used k)
+  unfolding used
+  unused-seq h e = rw h e
+
+  pub unused-proxy : k ≡ 12 → b ≡ isSetFrom r 0 → b ≡ isSetFrom r (used k)
+  unfolding used
+  unused-proxy h e = rw h e
+
+  pub unused-two : 8 ≤ k → (k ≡ 10 → ⊥) → (k ≡ 12 → ⊥) → (k ≡ 13 → ⊥) → (k ≡ 14 → ⊥) → k < 16 → b ≡ isSetFrom r 2 → b ≡ isSetFrom r (used k)
+  unused-two h x y z w l e = e ∙ ap (isSetFrom r) (used-two k h x y z w l)
+
+module _ (r : TypeRow) (k : ℕ) where
+  none-set : false ≡ isSetFrom r 5
+  unfolding isSetFrom any range
+  none-set = refl
+
+  pub unused-exception : k ≡ 13 → false ≡ isSetFrom r (used k)
+  unfolding used
+  unused-exception h = rw h none-set
+
+  pub unused-class : k ≡ 14 → false ≡ isSetFrom r (used k)
+  unfolding used
+  unused-class h = rw h none-set
+
+  pub unused-unknown : 16 ≤ k → false ≡ isSetFrom r (used k)
+  unfolding used
+  unused-unknown h = rw (List·getD-eq-default {A = ℕ} (0 ∷ 0 ∷ 0 ∷ 0 ∷ 0 ∷ 0 ∷ 0 ∷ 0 ∷ 2 ∷ 2 ∷ 1 ∷ 2 ∷ 0 ∷ 5 ∷ 5 ∷ 2 ∷ []) 5 {n = k} h) none-set
+
+-- ---- references
+
+module _ (T : List ℕ) (t r : ℕ) where
+  pub part-above : t ≤ r → true ≡ noPart T t r
+  unfolding noPart
+  part-above h = rw (le-leb _ _ h)
+
+  pub part-below : (k : ℕ) → r < t → k ≡ kind T r → ltb 12 k ≡ noPart T t r
+  unfolding noPart
+  part-below k h e = rw (lt-leb _ _ h, e)
+
+module _ (T : List ℕ) (t k b : ℕ) where
+  pub base-free : b ≡ 0 → false ≡ noBaseOf T t k b
+  unfolding noBaseOf
+  base-free z = rw z
+
+  pub base-over : (b ≡ 0 → ⊥) → t < b → true ≡ noBaseOf T t k b
+  unfolding noBaseOf
+  base-over z h = go b z h
+    where
+      go : (b : ℕ) → (b ≡ 0 → ⊥) → t < b → true ≡ noBaseOf T t k b
+      go zero z h = absurd (omega arith)
+      go (suc r) z h = let l : t ≤ r = omega arith in rw (le-leb _ _ l)
+
+  pub base-kinds : (b ≡ 0 → ⊥) → b ≤ t → (j : ℕ) → j ≡ kind T (b - 1) → not (eqb j k) ≡ noBaseOf T t k b
+  unfolding noBaseOf
+  base-kinds z h j ej = rw ej (go b z h)
+    where
+      go : (b : ℕ) → (b ≡ 0 → ⊥) → b ≤ t → not (eqb (kind T (b - 1)) k) ≡ noBaseOf T t k b
+      go zero z h = absurd (omega arith)
+      go (suc r) z h = let l : r < t = omega arith in rw (lt-leb _ _ l, sub-one)
+
+-- ---- names
+
+pub record Before (T nm : List ℕ) (from t r : ℕ) : Type 0 where
+  pub rest : any (isNamed T nm) (range from (t - from)) ≡ any (isNamed T nm) (range r (t - r))
+
+pub before-begin : (T nm : List ℕ) (from t : ℕ) → Before T nm from t from
+before-begin T nm from t = record { rest = refl }
+
+module _ (T nm : List ℕ) (from t r : ℕ) (inv : Before T nm from t r) where
+  module _ (h : r < t) where
+    before-next : false ≡ isNamed T nm r → Before T nm from t (r + 1)
+    before-next e = record { rest = inv .rest ∙ any-next (isNamed T nm) r t h (sym e) }
+
+    module _ (row : TypeRow) (er : IsTypeRow T r row) (b : Bool) (eb : b ≡ isRecord (row .kind)) where
+      pub before-plain : b ≡ false → Before T nm from t (r + 1)
+      before-plain q = before-next (record-none T nm r (row .kind) (er .kind-is) b eb q)
+
+      module _ (q : b ≡ true) where
+        pub before-short : row .e < length nm → Before T nm from t (r + 1)
+        before-short l = before-next (record-short T nm r (row .kind) (er .kind-is) b eb q (row .e) (er .e-is) l)
+
+        module _ (s : Bool) (es : s ≡ sameBytes nm (nameOf T r)) where
+          named : s ≡ isNamed T nm r
+          named = record-named T nm r (row .kind) (er .kind-is) b eb s q es
+
+          pub before-here : s ≡ true → true ≡ any (isNamed T nm) (range from (t - from))
+          before-here y = sym (inv .rest ∙ any-here (isNamed T nm) r t h (sym named ∙ y))
+
+          pub before-other : s ≡ false → Before T nm from t (r + 1)
+          before-other y = before-next (sym y ∙ named)
+
+  pub before-end : t ≤ r → false ≡ any (isNamed T nm) (range from (t - from))
+  before-end h = sym (inv .rest ∙ any-none (isNamed T nm) r t h)
+
+same-sym : (a b : List ℕ) → sameBytes a b ≡ sameBytes b a
+unfolding sameBytes
+same-sym [] [] = refl
+same-sym [] (y ∷ b) = refl
+same-sym (x ∷ a) [] = refl
+same-sym (x ∷ a) (y ∷ b) = ap₂ _&&_ (go (eqb x y) refl) (same-sym a b)
+  where
+    go : (t : Bool) → eqb x y ≡ t → eqb x y ≡ eqb y x
+    go true e = e ∙ sym (eq-eqb y x (sym (eqb-true x y e)))
+    go false e = e ∙ sym (ne-eqb y x (λ q. eqb-false x y e (sym q)))
+
+any-same : (f g : ℕ → Bool) → ((i : ℕ) → f i ≡ g i) → (l : List ℕ) → any f l ≡ any g l
+unfolding any
+any-same f g h [] = refl
+any-same f g h (i ∷ l) = rw (h i, any-same f g h l)
+
+pub alike-is : (T : List ℕ) (from t a n : ℕ) (r : Bool) → a ≡ nameStart T t → n ≡ length (nameOf T t)
+    → r ≡ any (isNamed T (take (a + n - a) (drop a T))) (range from (t - from)) → r ≡ alikeFrom T from t
+unfolding alikeFrom
+alike-is T from t a n r s e h =
+    let z : a + n - a ≡ length (nameOf T t) = omega arith in
+    h ∙ rw (z, s, name-part T t)
+
+-- how far no row is a record
+module _ (from t : ℕ) (b : Bool) where
+  pub past-plain : from ≡ t → b ≡ true → t + 1 ≡ past from t b
+  unfolding past
+  past-plain e q = rw (eq-eqb from t e, q)
+
+  pub past-record : from ≡ t → b ≡ false → from ≡ past from t b
+  unfolding past
+  past-record e q = rw (eq-eqb from t e, q)
+
+  pub past-before : (from ≡ t → ⊥) → from ≡ past from t b
+  unfolding past
+  past-before h = rw (ne-eqb from t h)
+
+-- no row before `from` is a record, and `from` is not behind row t
+pub record Plain (T : List ℕ) (t from : ℕ) : Type 0 where
+  pub within : from ≤ t
+  pub plain : (r : ℕ) → r < from → isRecord (kind T r) ≡ false
+
+plain-begin : (T : List ℕ) → Plain T 0 0
+plain-begin T = record { within = omega arith; plain = λ r h. absurd (omega arith) }
+
+module _ (T : List ℕ) (t from : ℕ) (inv : Plain T t from) where
+  plain-next : (b : Bool) → (b ≡ true → isRecord (kind T t) ≡ false) → Plain T (t + 1) (past from t b)
+  unfolding past
+  plain-next b e = go (eqb from t) refl b refl
+    where
+      stays : Plain T (t + 1) from
+      stays = record { within = omega (arith, inv .within); plain = inv .plain }
+
+      go : (d : Bool) → eqb from t ≡ d → (c : Bool) → b ≡ c → Plain T (t + 1) (pick (d && c) (t + 1) from)
+      go true q true y = record {
+        within = omega arith;
+        plain = λ r h. ⊎-elim
+            (λ z. ap (λ (i : ℕ). isRecord (kind T i)) z ∙ e y)
+            (λ z. inv .plain r (omega (arith, eqb-true from t q)))
+            (eq-or-lt-of-le {n = r} {m = t} (omega arith));
+      }
+      go true q false y = stays
+      go false q c y = stays
+
+  -- rows that are no records have no name to be alike
+  alike-from : alikeFrom T from t ≡ alike T t
+  unfolding alikeFrom alike
+  alike-from =
+      sym (any-past (isNamed T (nameOf T t)) from t (inv .within) (λ r h. ap (λ (b : Bool). b && sameBytes (nameOf T t) (nameOf T r)) (inv .plain r h)))
+      ∙ any-same _ _ (λ i. ap (λ (y : Bool). isRecord (kind T i) && y) (same-sym (nameOf T t) (nameOf T i))) (range 0 t)
+
+-- ---- the rules of each kind
+
+module _ (r : TypeRow) where
+  pub enum-great : 2147483648 ≤ r .a + 65536 * r .b → 38 ≡ firstOf (enumRules r)
+  unfolding firstOf enumRules negative
+  enum-great h = rw (le-leb (2 ^ 31) (r .a + 65536 * r .b) h)
+
+  pub enum-fine : r .a + 65536 * r .b < 2147483648 → 0 ≡ firstOf (enumRules r)
+  unfolding firstOf enumRules negative
+  enum-fine h = rw (lt-leb (2 ^ 31) (r .a + 65536 * r .b) h)
+
+module _ (r : TypeRow) (n : ℕ) where
+  pub struct-first : (r .a ≡ n → ⊥) → 35 ≡ firstOf (structRules r n)
+  unfolding firstOf structRules
+  struct-first h = rw (ne-eqb (r .a) n h)
+
+  pub list-first : (r .a ≡ n → ⊥) → 35 ≡ firstOf (listRules r n)
+  unfolding firstOf listRules
+  list-first h = rw (ne-eqb (r .a) n h)
+
+  pub list-fine : r .a ≡ n → 0 ≡ firstOf (listRules r n)
+  unfolding firstOf listRules
+  list-fine h = rw (eq-eqb (r .a) n h)
+
+  module _ (first : r .a ≡ n) where
+    pub struct-empty : r .b ≡ 0 → 36 ≡ firstOf (structRules r n)
+    unfolding firstOf structRules
+    struct-empty z = rw (eq-eqb (r .a) n first, eq-eqb (r .b) 0 z)
+
+    pub struct-fine : (r .b ≡ 0 → ⊥) → 0 ≡ firstOf (structRules r n)
+    unfolding firstOf structRules
+    struct-fine z = rw (eq-eqb (r .a) n first, ne-eqb (r .b) 0 z)
+
+module _ (T : List ℕ) (t : ℕ) (r : TypeRow) (b : Bool) (eb : b ≡ noPart T t (r .a)) where
+  pub seq-broken : b ≡ true → 34 ≡ firstOf (seqRules T t r)
+  unfolding firstOf seqRules
+  seq-broken q = rw (← eb, q)
+
+  pub seq-fine : b ≡ false → 0 ≡ firstOf (seqRules T t r)
+  unfolding firstOf seqRules
+  seq-fine q = rw (← eb, q)
+
+  pub dict-key : b ≡ true → 34 ≡ firstOf (dictRules T t r)
+  unfolding firstOf dictRules
+  dict-key q = rw (← eb, q)
+
+  module _ (key : b ≡ false) (s : Bool) (es : s ≡ noPart T t (r .b)) where
+    pub dict-value : s ≡ true → 34 ≡ firstOf (dictRules T t r)
+    unfolding firstOf dictRules
+    dict-value q = rw (← eb, key, ← es, q)
+
+    pub dict-fine : s ≡ false → 0 ≡ firstOf (dictRules T t r)
+    unfolding firstOf dictRules
+    dict-fine q = rw (← eb, key, ← es, q)
+
+module _ (T : List ℕ) (t : ℕ) (r : TypeRow) (n : ℕ) (s b : Bool) (eb : b ≡ noBaseOf T t (r .kind) (r .c)) where
+  pub record-base : b ≡ true → 34 ≡ firstOf (recordRules T t r n s)
+  unfolding firstOf recordRules
+  record-base q = rw (← eb, q)
+
+  module _ (base : b ≡ false) where
+    pub record-first : (r .a ≡ n → ⊥) → 35 ≡ firstOf (recordRules T t r n s)
+    unfolding firstOf recordRules
+    record-first h = rw (← eb, base, ne-eqb (r .a) n h)
+
+    module _ (first : r .a ≡ n) where
+      pub record-empty : r .e ≡ 0 → 37 ≡ firstOf (recordRules T t r n s)
+      unfolding firstOf recordRules
+      record-empty z = rw (← eb, base, eq-eqb (r .a) n first, eq-eqb (r .e) 0 z)
+
+      module _ (some : r .e ≡ 0 → ⊥) where
+        pub record-long : 255 < r .e → 37 ≡ firstOf (recordRules T t r n s)
+        unfolding firstOf recordRules
+        record-long h = rw (← eb, base, eq-eqb (r .a) n first, ne-eqb (r .e) 0 some, lt-ltb 255 (r .e) h)
+
+        module _ (short : r .e ≤ 255) (k : ℕ) (ek : k ≡ names T) where
+          pub record-outside : k < r .d + r .e → 37 ≡ firstOf (recordRules T t r n s)
+          unfolding firstOf recordRules
+          record-outside h = rw (← eb, base, eq-eqb (r .a) n first, ne-eqb (r .e) 0 some, le-ltb 255 (r .e) short, ← ek, lt-ltb k (r .d + r .e) h)
+
+          module _ (within : r .d + r .e ≤ k) (a : Bool) (ea : a ≡ s) where
+            pub record-alike : a ≡ true → 37 ≡ firstOf (recordRules T t r n s)
+            unfolding firstOf recordRules
+            record-alike q = rw (← eb, base, eq-eqb (r .a) n first, ne-eqb (r .e) 0 some, le-ltb 255 (r .e) short, ← ek, le-ltb k (r .d + r .e) within, ← ea, q)
+
+            pub record-fine : a ≡ false → 0 ≡ firstOf (recordRules T t r n s)
+            unfolding firstOf recordRules
+            record-fine q = rw (← eb, base, eq-eqb (r .a) n first, ne-eqb (r .e) 0 some, le-ltb 255 (r .e) short, ← ek, le-ltb k (r .d + r .e) within, ← ea, q)
+
+module _ (T : List ℕ) (t : ℕ) (r : TypeRow) (n c : ℕ) (s : Bool) where
+  pub kind-enum : r .kind ≡ 8 → c ≡ firstOf (enumRules r) → c ≡ firstOf (kindRules T t r n s)
+  unfolding kindRules enumRules
+  kind-enum e h = rw e h
+
+  pub kind-struct : r .kind ≡ 9 → c ≡ firstOf (structRules r n) → c ≡ firstOf (kindRules T t r n s)
+  unfolding kindRules structRules
+  kind-struct e h = rw e h
+
+  pub kind-seq : r .kind ≡ 10 → c ≡ firstOf (seqRules T t r) → c ≡ firstOf (kindRules T t r n s)
+  unfolding kindRules seqRules
+  kind-seq e h = rw e h
+
+  pub kind-dict : r .kind ≡ 11 → c ≡ firstOf (dictRules T t r) → c ≡ firstOf (kindRules T t r n s)
+  unfolding kindRules dictRules
+  kind-dict e h = rw e h
+
+  pub kind-list : r .kind ≡ 15 → c ≡ firstOf (listRules r n) → c ≡ firstOf (kindRules T t r n s)
+  unfolding kindRules listRules
+  kind-list e h = rw e h
+
+  module _ (e8 : r .kind ≡ 8 → ⊥) (e9 : r .kind ≡ 9 → ⊥) (e10 : r .kind ≡ 10 → ⊥) (e11 : r .kind ≡ 11 → ⊥) (b : Bool) (eb : b ≡ isRecord (r .kind)) where
+    pub kind-record : b ≡ true → c ≡ firstOf (recordRules T t r n s) → c ≡ firstOf (kindRules T t r n s)
+    unfolding kindRules
+    kind-record q h = rw (ne-eqb (r .kind) 8 e8, ne-eqb (r .kind) 9 e9, ne-eqb (r .kind) 10 e10, ne-eqb (r .kind) 11 e11, sym eb ∙ q) h
+
+    pub kind-plain : b ≡ false → (r .kind ≡ 15 → ⊥) → 0 ≡ firstOf (kindRules T t r n s)
+    unfolding kindRules firstOf
+    kind-plain q e = rw (ne-eqb (r .kind) 8 e8, ne-eqb (r .kind) 9 e9, ne-eqb (r .kind) 10 e10, ne-eqb (r .kind) 11 e11, sym eb ∙ q, ne-eqb (r .kind) 15 e)
+
+module _ (T : List ℕ) (t : ℕ) (r : TypeRow) (n : ℕ) (s : Bool) where
+  pub row-spare : (r .spare ≡ 0 → ⊥) → 32 ≡ firstOf (rowRules T t r n s)
+  unfolding firstOf rowRules
+  row-spare h = rw (ne-eqb (r .spare) 0 h)
+
+  module _ (spare : r .spare ≡ 0) (u : Bool) (eu : u ≡ isSetFrom r (used (r .kind))) where
+    pub row-unused : u ≡ true → 32 ≡ firstOf (rowRules T t r n s)
+    unfolding firstOf rowRules
+    row-unused q = rw (eq-eqb (r .spare) 0 spare, ← eu, q)
+
+    module _ (none : u ≡ false) where
+      pub row-unknown : 15 < r .kind → 33 ≡ firstOf (rowRules T t r n s)
+      unfolding firstOf rowRules
+      row-unknown h = rw (eq-eqb (r .spare) 0 spare, ← eu, none, lt-ltb 15 (r .kind) h)
+
+      pub row-known : r .kind ≤ 15 → (c : ℕ) → c ≡ firstOf (kindRules T t r n s) → c ≡ firstOf (rowRules T t r n s)
+      unfolding firstOf rowRules
+      row-known h c e = e ∙ sym (rw (eq-eqb (r .spare) 0 spare, ← eu, none, le-ltb 15 (r .kind) h))
+
+-- ---- the member rows that rows take
+
+module _ (r : TypeRow) (b : Bool) (eb : b ≡ owns (r .kind)) where
+  pub share-own : b ≡ true → r .b ≡ share r
+  unfolding share
+  share-own q = rw (sym eb ∙ q)
+
+  pub share-none : b ≡ false → 0 ≡ share r
+  unfolding share
+  share-none q = rw (sym eb ∙ q)
+
+pub record Sum (T : List ℕ) (t sum : ℕ) : Type 0 where
+  pub so-far : sum ≡ taken T t
+  pub bound : sum ≤ 65535 * t
+
+pub sum-begin : (T : List ℕ) → Sum T 0 0
+unfolding taken
+sum-begin T = record { so-far = refl; bound = omega arith }
+
+pub sum-next : (T : List ℕ) (t sum s : ℕ) → Sum T t sum → s ≡ share (typeRowOf T t) → s < 65536 → Sum T (t + 1) (sum + s)
+unfolding taken share
+sum-next T t sum s inv e h = record { so-far = rw (add-one, inv .so-far, e); bound = omega (arith, inv .bound) }
+
+-- ---- basic rows
+
+module _ (T : List ℕ) (t n : ℕ) (en : n ≡ at (take (12 + 12 * t + 12 - (12 + 12 * t)) (drop (12 + 12 * t) T)) 4 0) where
+  first-is : n ≡ at T 4 (rowAt T t)
+  first-is = en ∙ row-shows T t 12 (omega arith) .same 4 0 (omega arith) ∙ rw add-zero
+
+  pub basic-other : 8 ≤ n → false ≡ isBasic T t
+  unfolding isBasic
+  basic-other h = rw (← first-is, le-ltb n 8 h)
+
+  pub basic-rest : n < 8 → (v : ℕ) → v ≡ at (take (12 + 12 * t + 12 - (12 + 12 * t)) (drop (12 + 12 * t) T)) 8 4 → eqb v 0 ≡ isBasic T t
+  unfolding isBasic
+  basic-rest h v ev = rw (← first-is, lt-ltb n 8 h) (ap (λ (z : ℕ). eqb z 0) (ev ∙ row-shows T t 12 (omega arith) .same 8 4 (omega arith)))
+
+-- a number that is 0 begins with a short that is 0, and so does what is behind it
+zero-parts : (T : List ℕ) (k p : ℕ) → at T (2 + k) p ≡ 0 → (at T 2 p ≡ 0) × (at T k (p + 2) ≡ 0)
+zero-parts T k p h = (omega (arith, at-split T 2 k p), omega (arith, at-split T 2 k p))
+
+-- a kind below 8 takes no member rows
+low-owns : (k : ℕ) → k < 8 → owns k ≡ false
+low-owns k h = rw (ne-eqb k 9 (λ e. omega arith), ne-eqb k 13 (λ e. omega arith), ne-eqb k 14 (λ e. omega arith), ne-eqb k 15 (λ e. omega arith))
+
+module _ (T : List ℕ) (t : ℕ) (basic : isBasic T t ≡ true) where
+  basic-tests : (at T 4 (rowAt T t) < 8) × (at T 8 (rowAt T t + 4) ≡ 0)
+  unfolding isBasic
+  basic-tests = let b = both-true (ltb (at T 4 (rowAt T t)) 8) _ basic in (ltb-true _ _ (b .0), eqb-true _ _ (b .1))
+
+  basic-kind : kind T t < 8
+  unfolding kind
+  basic-kind = omega (arith, at-split T 2 2 (rowAt T t), at-split T 1 1 (rowAt T t), basic-tests .0)
+
+  basic-spare : at T 1 (rowAt T t + 1) ≡ 0
+  basic-spare = omega (arith, at-split T 2 2 (rowAt T t), at-split T 1 1 (rowAt T t), basic-tests .0)
+
+  basic-field : (i p : ℕ) → rowAt T t + 2 + 2 * i ≡ p → at T 2 p ≡ 0 → field T t i ≡ 0
+  unfolding field
+  basic-field i p e h = ap (at T 2) e ∙ h
+
+  basic-clear : false ≡ isSetFrom (typeRowOf T t) 0
+  unfolding isSetFrom any
+  basic-clear =
+      let p = rowAt T t in
+      let a : at T 2 (p + 2) ≡ 0 = omega (arith, at-split T 2 2 p, basic-tests .0) in
+      let b = zero-parts T 6 (p + 4) (basic-tests .1) in
+      let c = zero-parts T 4 (p + 4 + 2) (b .1) in
+      let d = zero-parts T 2 (p + 4 + 2 + 2) (c .1) in
+      rw (basic-field 0 _ (omega arith) a, basic-field 1 _ (omega arith) (b .0), basic-field 2 _ (omega arith) (c .0), basic-field 3 _ (omega arith) (d .0), basic-field 4 _ (omega arith) (d .1))
+
+  basic-plain : isRecord (kind T t) ≡ false
+  basic-plain =
+      let z = either-false (eqb (kind T t) 9) _ (low-owns (kind T t) basic-kind) in
+      either-false (isRecord (kind T t)) _ (z .1) .0
+
+  basic-rules : 0 ≡ firstOf (typeRules T t)
+  basic-rules =
+      let l = basic-kind in
+      let r = typeRowOf T t in
+      row-known T t r (taken T t) (alike T t) basic-spare false (unused-low r (kind T t) false l basic-clear) refl (omega arith) 0
+      (kind-plain T t r (taken T t) 0 (alike T t) (λ e. omega arith) (λ e. omega arith) (λ e. omega arith) (λ e. omega arith) (isRecord (kind T t)) refl basic-plain (λ e. omega arith))
+      ∙ row-rules T t
+
+  basic-share : 0 ≡ share (typeRowOf T t)
+  basic-share = share-none (typeRowOf T t) (owns (kind T t)) refl (low-owns (kind T t) basic-kind)
+
+-- ---- a pass
+
+module _ (place : ℕ → ℕ) (f : ℕ → List (ℕ × Bool)) (r c : ℕ) (l : List ℕ) (e : c ≡ firstOf (f r)) where
+  pass-fault : (c ≡ 0 → ⊥) → verdictOf (pass place f (r ∷ l)) ≡ Broken c (place r)
+  unfolding pass verdictOf orElse faultAt
+  pass-fault h = rw (← e) (go c h)
+    where
+      go : (c : ℕ) → (c ≡ 0 → ⊥) → verdictOf (orElse (faultAt (place r) c) (pass place f l)) ≡ Broken c (place r)
+      go zero h = absurd (h refl)
+      go (suc c) h = refl
+
+  pass-next : c ≡ 0 → pass place f (r ∷ l) ≡ pass place f l
+  unfolding pass orElse faultAt
+  pass-next h = rw (← e, h)
+
+or-verdict : (f g : Fault) → verdictOf f ≡ Fine → verdictOf (orElse f g) ≡ verdictOf g
+unfolding verdictOf orElse
+or-verdict fine g e = refl
+or-verdict (fault c p) g e = let z : _≡_ {A = ℕ} 0 1 = cc in absurd (omega arith)
+
+or-broken : (f g : Fault) (c p : ℕ) → verdictOf f ≡ Broken c p → verdictOf (orElse f g) ≡ Broken c p
+unfolding verdictOf orElse
+or-broken fine g c p e = let z : _≡_ {A = ℕ} 0 1 = cc in absurd (omega arith)
+or-broken (fault k q) g c p e = e
+
+is-fine : (f : Fault) → verdictOf f ≡ Fine → f ≡ fine
+unfolding verdictOf
+is-fine fine e = refl
+is-fine (fault c p) e = let z : _≡_ {A = ℕ} 0 1 = cc in absurd (omega arith)
+
+-- over the type rows, and the member sum
+pub record Types (T : List ℕ) (n t prior from : ℕ) : Type 0 where
+  pub within : t ≤ n
+  pub few : n < 65536
+  pub sum : Sum T t prior
+  pub plain : Plain T t from
+  pub rest : verdictOf (typePass T) ≡ verdictOf (pass (rowAt T) (typeRules T) (range t (n - t)))
+
+pub types-begin : (T : List ℕ) → ((i : ℕ) → getD T i 0 < 256) → (n : ℕ) → n ≡ types T → Types T n 0 0 0
+unfolding typePass types
+types-begin T small n e = let z : n - 0 ≡ types T = omega arith in record { within = omega arith; few = omega (arith, at-below T small 2 5); sum = sum-begin T; plain = plain-begin T; rest = rw z }
+
+module _ (T : List ℕ) (n t prior from : ℕ) (inv : Types T n t prior from) where
+  module _ (e : n ≡ types T) (h : n ≤ t) (m : ℕ) (em : m ≡ members T) where
+    rows-fine : verdictOf (orElse (typePass T) (sumRules T)) ≡ verdictOf (sumRules T)
+    unfolding verdictOf pass
+    rows-fine = or-verdict (typePass T) (sumRules T) (inv .rest ∙ rw (range-none t n h))
+
+    sum-is : prior ≡ taken T (types T)
+    sum-is = let z : t ≡ types T = omega (arith, inv .within) in inv .sum .so-far ∙ ap (taken T) z
+
+    pub types-sum : (prior ≡ m → ⊥) → Broken 35 0 ≡ verdictOf (orElse (typePass T) (sumRules T))
+    unfolding sumRules faultAt verdictOf
+    types-sum z = sym (rows-fine ∙ rw (← sum-is, ← em, ne-eqb prior m z))
+
+    pub types-end : prior ≡ m → Fine ≡ verdictOf (orElse (typePass T) (sumRules T))
+    unfolding sumRules faultAt verdictOf
+    types-end z = sym (rows-fine ∙ rw (← sum-is, ← em, eq-eqb prior m z))
+
+  pub types-basic : t < n → (b : Bool) → b ≡ isBasic T t → b ≡ true → (f : ℕ) → f ≡ past from t true → Types T n (t + 1) prior f
+  types-basic h b e q f ef =
+      let basic = sym e ∙ q in
+      record {
+        within = omega arith;
+        few = inv .few;
+        sum = rw add-zero at (sum-next T t prior 0 (inv .sum) (basic-share T t basic) (omega arith));
+        plain = rw ef (plain-next T t from (inv .plain) true (λ y. basic-plain T t basic));
+        rest = inv .rest ∙ rw (range-more t n h) (ap verdictOf (pass-next (rowAt T) (typeRules T) t 0 (range (t + 1) (n - (t + 1))) (basic-rules T t basic) refl));
+      }
+
+  module _ (h : t < n) (r : TypeRow) (er : IsTypeRow T t r) (c : ℕ) (e : c ≡ firstOf (rowRules T t r prior (alikeFrom T from t))) where
+    types-row : c ≡ firstOf (typeRules T t)
+    types-row =
+        e ∙ ap₂ (λ (z : TypeRow) (y : ℕ). firstOf (rowRules T t z y (alikeFrom T from t))) (whole-type T t r er) (inv .sum .so-far)
+        ∙ ap (λ (b : Bool). firstOf (rowRules T t (typeRowOf T t) (taken T t) b)) (alike-from T t from (inv .plain)) ∙ row-rules T t
+
+    pub types-fault : (c ≡ 0 → ⊥) → Broken c (12 + 12 * t) ≡ verdictOf (orElse (typePass T) (sumRules T))
+    unfolding rowAt typesAt
+    types-fault z = sym (or-broken (typePass T) (sumRules T) c (12 + 12 * t) (inv .rest ∙ rw (range-more t n h) (pass-fault (rowAt T) (typeRules T) t c (range (t + 1) (n - (t + 1))) types-row z)))
+
+    pub types-next : c ≡ 0 → (s : ℕ) → s ≡ share r → s ≤ r .b → (b : Bool) → b ≡ isRecord (r .kind) → (f : ℕ) → f ≡ past from t (not b) → Types T n (t + 1) (prior + s) f
+    types-next z s es hs b eb f ef = record {
+      within = omega arith;
+      few = inv .few;
+      sum = sum-next T t prior s (inv .sum) (es ∙ ap share (whole-type T t r er)) (omega (arith, er .b-small));
+      plain = rw ef (plain-next T t from (inv .plain) (not b) (λ q. sym (eb ∙ ap isRecord (er .kind-is)) ∙ not-true b q));
+      rest = inv .rest ∙ rw (range-more t n h) (ap verdictOf (pass-next (rowAt T) (typeRules T) t c (range (t + 1) (n - (t + 1))) types-row z));
+    }
+
+-- ---- member rows
+
+module _ (T : List ℕ) (g i : ℕ) (r : MemberRow) (er : IsMemberRow T i r) where
+  pub tagged-is : r .mark ≡ 1 → eqb (r .tag) g ≡ isOptionalOf T g i
+  tagged-is e = rw (eq-eqb (mark T i) 1 (sym (er .mark-is) ∙ e), er .tag-is)
+
+  pub tagged-not : (r .mark ≡ 1 → ⊥) → false ≡ isOptionalOf T g i
+  tagged-not h = rw (ne-eqb (mark T i) 1 (λ q. h (er .mark-is ∙ q)))
+
+pub record Tags (T : List ℕ) (first m g i : ℕ) : Type 0 where
+  pub rest : isTagBefore T first m g ≡ any (isOptionalOf T g) (range i (m - i))
+
+pub tags-begin : (T : List ℕ) (first m g : ℕ) → Tags T first m g first
+unfolding isTagBefore
+tags-begin T first m g = record { rest = refl }
+
+module _ (T : List ℕ) (first m g i : ℕ) (inv : Tags T first m g i) where
+  module _ (h : i < m) (b : Bool) (e : b ≡ isOptionalOf T g i) where
+    pub tags-here : b ≡ true → true ≡ isTagBefore T first m g
+    tags-here q = sym (inv .rest ∙ any-here (isOptionalOf T g) i m h (sym e ∙ q))
+
+    pub tags-next : b ≡ false → Tags T first m g (i + 1)
+    tags-next q = record { rest = inv .rest ∙ any-next (isOptionalOf T g) i m h (sym e ∙ q) }
+
+  pub tags-end : m ≤ i → false ≡ isTagBefore T first m g
+  tags-end h = sym (inv .rest ∙ any-none (isOptionalOf T g) i m h)
+
+module _ (T : List ℕ) (first m above g : ℕ) where
+  pub alike-above : above ≤ g → false ≡ isTagAlike T first m above g
+  unfolding isTagAlike
+  alike-above h = rw (le-ltb g above h)
+
+  pub alike-below : g < above → (b : Bool) → b ≡ isTagBefore T first m g → b ≡ isTagAlike T first m above g
+  unfolding isTagAlike
+  alike-below h b e = rw (lt-ltb g above h) e
+
+-- the rules of a member row
+module _ (T : List ℕ) (o : ℕ) (r : MemberRow) where
+  pub required-tag : (r .tag ≡ 0 → ⊥) → 32 ≡ firstOf (requiredRules T o r)
+  unfolding firstOf requiredRules
+  required-tag h = rw (ne-eqb (r .tag) 0 h)
+
+  module _ (zero-tag : r .tag ≡ 0) (b : Bool) (eb : b ≡ noPart T o (r .of)) where
+    pub required-part : b ≡ true → 34 ≡ firstOf (requiredRules T o r)
+    unfolding firstOf requiredRules
+    required-part q = rw (eq-eqb (r .tag) 0 zero-tag, ← eb, q)
+
+    pub required-fine : b ≡ false → 0 ≡ firstOf (requiredRules T o r)
+    unfolding firstOf requiredRules
+    required-fine q = rw (eq-eqb (r .tag) 0 zero-tag, ← eb, q)
+
+module _ (T : List ℕ) (o : ℕ) (own : TypeRow) (r : MemberRow) (b : Bool) (eb : b ≡ noPart T o (r .of)) (s : Bool) where
+  pub optional-part : b ≡ true → 34 ≡ firstOf (optionalRules T o own r s)
+  unfolding firstOf optionalRules
+  optional-part q = rw (← eb, q)
+
+  module _ (part : b ≡ false) where
+    pub optional-mark : 1 < r .mark → 36 ≡ firstOf (optionalRules T o own r s)
+    unfolding firstOf optionalRules
+    optional-mark h = rw (← eb, part, lt-ltb 1 (r .mark) h)
+
+    module _ (marked : r .mark ≤ 1) where
+      pub optional-struct : own .kind ≡ 9 → 36 ≡ firstOf (optionalRules T o own r s)
+      unfolding firstOf optionalRules
+      optional-struct h = rw (← eb, part, le-ltb 1 (r .mark) marked, eq-eqb (own .kind) 9 h)
+
+      module _ (other : own .kind ≡ 9 → ⊥) where
+        pub optional-great : 2147483648 ≤ r .tag → 38 ≡ firstOf (optionalRules T o own r s)
+        unfolding firstOf optionalRules negative
+        optional-great h = rw (← eb, part, le-ltb 1 (r .mark) marked, ne-eqb (own .kind) 9 other, le-leb (2 ^ 31) (r .tag) h)
+
+        module _ (small : r .tag < 2147483648) (t : Bool) (et : t ≡ s) where
+          pub optional-alike : t ≡ true → 38 ≡ firstOf (optionalRules T o own r s)
+          unfolding firstOf optionalRules negative
+          optional-alike q = rw (← eb, part, le-ltb 1 (r .mark) marked, ne-eqb (own .kind) 9 other, lt-leb (2 ^ 31) (r .tag) small, ← et, q)
+
+          pub optional-fine : t ≡ false → 0 ≡ firstOf (optionalRules T o own r s)
+          unfolding firstOf optionalRules negative
+          optional-fine q = rw (← eb, part, le-ltb 1 (r .mark) marked, ne-eqb (own .kind) 9 other, lt-leb (2 ^ 31) (r .tag) small, ← et, q)
+
+module _ (T : List ℕ) (o : ℕ) (own : TypeRow) (r : MemberRow) (s : Bool) where
+  pub member-spare : (r .spare ≡ 0 → ⊥) → 32 ≡ firstOf (memberRulesBy T o own r s)
+  unfolding firstOf memberRulesBy
+  member-spare h = rw (ne-eqb (r .spare) 0 h)
+
+  module _ (spare : r .spare ≡ 0) (c : ℕ) where
+    pub member-required : r .mark ≡ 0 → c ≡ firstOf (requiredRules T o r) → c ≡ firstOf (memberRulesBy T o own r s)
+    unfolding firstOf memberRulesBy
+    member-required h e = e ∙ sym (rw (eq-eqb (r .spare) 0 spare, eq-eqb (r .mark) 0 h))
+
+    pub member-optional : (r .mark ≡ 0 → ⊥) → c ≡ firstOf (optionalRules T o own r s) → c ≡ firstOf (memberRulesBy T o own r s)
+    unfolding firstOf memberRulesBy
+    member-optional h e = e ∙ sym (rw (eq-eqb (r .spare) 0 spare, ne-eqb (r .mark) 0 h))
+
+-- over the members of one owner; the tags before m are below `above`
+pub record Owner (T : List ℕ) (o start : ℕ) (own : TypeRow) (left m above : ℕ) : Type 0 where
+  pub bytes : (i : ℕ) → getD T i 0 < 256
+  pub starts : start ≡ membersAt T
+  pub own-is : IsTypeRow T o own
+  pub below : (i : ℕ) → field T o 0 ≤ i → i < m → tag T i < above
+  pub rest : verdictOf (ownerPass T o) ≡ verdictOf (pass (memberAt T) (memberRulesOf T o) (range m left))
+
+-- none taken; some that are not there; the loop begins
+module _ (T : List ℕ) (o left : ℕ) (own : TypeRow) (eo : IsTypeRow T o own) (el : left ≡ share own) where
+  left-is : left ≡ share (typeRowOf T o)
+  left-is = el ∙ ap share (whole-type T o own eo)
+
+  pub owner-none : left ≡ 0 → Fine ≡ verdictOf (ownerPass T o)
+  unfolding ownerPass verdictOf pass range
+  owner-none z = rw (← left-is, z)
+
+  pub owner-short : (left ≡ 0 → ⊥) → (k : ℕ) → k ≡ members T → k < own .a + left → MembersThere T o → Broken 35 0 ≡ verdictOf (ownerPass T o)
+  owner-short z k ek h all = absurd (omega (arith, all .there (omega (arith, left-is)), left-is, eo .a-is))
+
+  pub owner-begin : ((i : ℕ) → getD T i 0 < 256) → (n : ℕ) → n ≡ types T → Owner T o (12 + 12 * n) own left (own .a) 0
+  unfolding ownerPass
+  owner-begin small n en = record {
+    bytes = small;
+    starts = members-begin-at T n en;
+    own-is = eo;
+    below = λ i l h. absurd (omega (arith, eo .a-is));
+    rest = rw (eo .a-is, left-is);
+  }
+
+-- the tests of a usual row
+module _ (x above : ℕ) (u : Bool) where
+  pub usual-small : x < 65536 → true ≡ isUsual x u above
+  unfolding isUsual
+  usual-small h = rw (lt-ltb x 65536 h)
+
+  module _ (great : 65536 ≤ x) where
+    pub usual-struct : not u ≡ true → false ≡ isUsual x u above
+    unfolding isUsual
+    usual-struct q = rw (le-ltb x 65536 great, not-true u q)
+
+    module _ (optional : not u ≡ false) where
+      pub usual-mark : (x / 65536 % 65536 ≡ 1 → ⊥) → false ≡ isUsual x u above
+      unfolding isUsual
+      usual-mark h = rw (le-ltb x 65536 great, not-false u optional, ne-eqb (x / 65536 % 65536) 1 h)
+
+      module _ (marked : x / 65536 % 65536 ≡ 1) where
+        pub usual-below : x / 4294967296 < above → false ≡ isUsual x u above
+        unfolding isUsual
+        usual-below h = rw (le-ltb x 65536 great, not-false u optional, eq-eqb (x / 65536 % 65536) 1 marked, lt-leb above (x / 4294967296) h)
+
+        pub usual-last : above ≤ x / 4294967296 → ltb (x / 4294967296) 2147483648 ≡ isUsual x u above
+        unfolding isUsual
+        usual-last h = rw (le-ltb x 65536 great, not-false u optional, eq-eqb (x / 65536 % 65536) 1 marked, le-leb above (x / 4294967296) h)
+
+-- the eight bytes of a member row as one number: its fields, each below its bound
+record Fields (r : MemberRow) (x : ℕ) : Type 0 where
+  whole : x ≡ r .of + 65536 * r .mark + 16777216 * r .spare + 4294967296 * r .tag
+  of-small : r .of < 65536
+  mark-small : r .mark < 256
+  spare-small : r .spare < 256
+
+fields : (T : List ℕ) → ((i : ℕ) → getD T i 0 < 256) → (m x : ℕ) → x ≡ at T 8 (memberAt T m) → Fields (memberRowOf T m) x
+unfolding memberType mark tag
+fields T small m x e =
+    let p = memberAt T m in
+    let z : at T 1 (p + 2 + 1) ≡ at T 1 (p + 3) = ap (at T 1) (omega arith) in
+    record {
+      whole = omega (arith, at-split T 4 4 p, at-split T 2 2 p, at-split T 1 1 (p + 2));
+      of-small = at-below T small 2 p;
+      mark-small = at-below T small 1 (p + 2);
+      spare-small = at-below T small 1 (p + 3);
+    }
+
+tag-of : (r : MemberRow) (x : ℕ) → Fields r x → x / 4294967296 ≡ r .tag
+tag-of r x parts = omega (arith, parts .whole, parts .of-small, parts .mark-small, parts .spare-small)
+
+-- a member row that is usual breaks no rule but perhaps that of its type
+module _ (T : List ℕ) (o : ℕ) (own : TypeRow) (r : MemberRow) (x above : ℕ) (parts : Fields r x) (s : Bool) (new : above ≤ r .tag → s ≡ false) (b : Bool) (eb : b ≡ noPart T o (r .of)) where
+  usual-required : x < 65536 → pick b 34 0 ≡ firstOf (memberRulesBy T o own r s)
+  unfolding firstOf requiredRules
+  usual-required h =
+      let z : r .tag ≡ 0 = omega (arith, parts .whole) in
+      member-required T o own r s (omega (arith, parts .whole)) (pick b 34 0) (omega (arith, parts .whole)) (rw (eq-eqb (r .tag) 0 z, ← eb))
+
+  usual-optional : (own .kind ≡ 9 → ⊥) → x / 65536 % 65536 ≡ 1 → above ≤ x / 4294967296 → x / 4294967296 < 2147483648 → pick b 34 0 ≡ firstOf (memberRulesBy T o own r s)
+  usual-optional other h l k =
+      let g = tag-of r x parts in
+      let z : r .mark + 256 * r .spare ≡ 1 = omega (arith, parts .whole, parts .of-small, parts .mark-small, parts .spare-small) in
+      member-optional T o own r s (omega (arith, parts .mark-small)) (pick b 34 0) (λ q. omega arith) (go b eb (omega arith) (omega arith) (new (omega arith)))
+    where
+      go : (b : Bool) → b ≡ noPart T o (r .of) → r .mark ≤ 1 → r .tag < 2147483648 → s ≡ false → pick b 34 0 ≡ firstOf (optionalRules T o own r s)
+      go true e y w q = optional-part T o own r true e s refl
+      go false e y w q = optional-fine T o own r false e s refl y other w s refl q
+
+  usual-rules : (u : Bool) → u ≡ not (eqb (own .kind) 9) → isUsual x u above ≡ true → pick b 34 0 ≡ firstOf (memberRulesBy T o own r s)
+  unfolding isUsual
+  usual-rules u eu h = go (ltb x 65536) refl h
+    where
+      go : (t : Bool) → ltb x 65536 ≡ t → t || (u && (eqb (x / 65536 % 65536) 1 && (leb above (x / 4294967296) && ltb (x / 4294967296) 2147483648))) ≡ true
+          → pick b 34 0 ≡ firstOf (memberRulesBy T o own r s)
+      go true e q = usual-required (ltb-true _ _ e)
+      go false e q =
+          let a = both-true u _ q in
+          let d = both-true (eqb (x / 65536 % 65536) 1) _ (a .1) in
+          let f = both-true (leb above (x / 4294967296)) _ (d .1) in
+          usual-optional (eqb-false _ _ (not-true _ (sym eu ∙ a .0))) (eqb-true _ _ (d .0)) (leb-true _ _ (f .0)) (ltb-true _ _ (f .1))
+
+module _ (T : List ℕ) (o start : ℕ) (own : TypeRow) (left m above : ℕ) (inv : Owner T o start own left m above) where
+  pub owner-end : left ≤ 0 → Fine ≡ verdictOf (ownerPass T o)
+  unfolding verdictOf pass
+  owner-end h = sym (inv .rest ∙ rw (range-empty m left h))
+
+  -- a tag that is not below `above` is not among them
+  tag-new : (g : ℕ) → above ≤ g → isTagBefore T (field T o 0) m g ≡ false
+  unfolding isTagBefore
+  tag-new g h = any-never (isOptionalOf T g) (m - field T o 0) (field T o 0) other
+    where
+      other : (i : ℕ) → field T o 0 ≤ i → i < field T o 0 + (m - field T o 0) → isOptionalOf T g i ≡ false
+      other i l k =
+          let z : tag T i ≡ g → ⊥ = λ q. omega (arith, inv .below i l (omega arith)) in
+          rw (ne-eqb (tag T i) g z) (go (eqb (mark T i) 1))
+        where
+          go : (b : Bool) → b && false ≡ false
+          go true = refl
+          go false = refl
+
+  tag-alike : (g : ℕ) → isTagAlike T (field T o 0) m above g ≡ isTagBefore T (field T o 0) m g
+  unfolding isTagAlike
+  tag-alike g = go (ltb g above) refl
+    where
+      go : (b : Bool) → ltb g above ≡ b → b && isTagBefore T (field T o 0) m g ≡ isTagBefore T (field T o 0) m g
+      go true e = refl
+      go false e = sym (tag-new g (ltb-false g above e))
+
+  module _ (h : 0 < left) where
+    -- a row of class c
+    module _ (c : ℕ) (e : c ≡ firstOf (memberRulesOf T o m)) where
+      class-fault : (c ≡ 0 → ⊥) → Broken c (start + 8 * m) ≡ verdictOf (ownerPass T o)
+      unfolding memberAt
+      class-fault z = rw (inv .starts) (sym (inv .rest ∙ rw (range-left m left h) (pass-fault (memberAt T) (memberRulesOf T o) m c (range (m + 1) (left - 1)) e z)))
+
+      class-next : c ≡ 0 → (a : ℕ) → a ≡ max above (tag T m + 1) → Owner T o start own (left - 1) (m + 1) a
+      class-next z a ea = record {
+        bytes = inv .bytes;
+        starts = inv .starts;
+        own-is = inv .own-is;
+        below = λ i l k. ⊎-elim (λ q. omega (arith, ap (tag T) q)) (λ q. omega (arith, inv .below i l q)) (eq-or-lt-of-le {n = i} {m = m} (omega arith));
+        rest = inv .rest ∙ rw (range-left m left h) (ap verdictOf (pass-next (memberAt T) (memberRulesOf T o) m c (range (m + 1) (left - 1)) e z));
+      }
+
+    -- a row read whole
+    module _ (r : MemberRow) (at : IsMemberAt T (start + 8 * m) r) (c : ℕ) (e : c ≡ firstOf (memberRulesBy T o own r (isTagAlike T (own .a) m above (r .tag)))) where
+      er : IsMemberRow T m r
+      er = member-placed T m start r (inv .starts) at
+
+      owner-row : c ≡ firstOf (memberRulesOf T o m)
+      unfolding memberRulesOf
+      owner-row =
+          e ∙ ap₂ (λ (y : TypeRow) (z : MemberRow). firstOf (memberRulesBy T o y z (isTagAlike T (y .a) m above (z .tag)))) (whole-type T o own (inv .own-is)) (whole-member T m r er)
+          ∙ ap (λ (b : Bool). firstOf (memberRulesBy T o (typeRowOf T o) (memberRowOf T m) b)) (tag-alike (tag T m))
+
+      pub owner-fault : (c ≡ 0 → ⊥) → Broken c (start + 8 * m) ≡ verdictOf (ownerPass T o)
+      owner-fault z = class-fault c owner-row z
+
+      pub owner-next : c ≡ 0 → (a : ℕ) → a ≡ max above (r .tag + 1) → Owner T o start own (left - 1) (m + 1) a
+      owner-next z a ea = class-next c owner-row z a (ea ∙ ap (λ (g : ℕ). max above (g + 1)) (er .tag-is))
+
+    -- a row as one number, which is usual
+    module _ (x : ℕ) (ex : x ≡ at T 8 (start + 8 * m)) (u : Bool) (eu : u ≡ isUsual x (not (eqb (own .kind) 9)) above) (usual : not u ≡ false) (b : Bool) (eb : b ≡ noPart T o (x % 65536)) where
+      parts : Fields (memberRowOf T m) x
+      unfolding memberAt
+      parts = fields T (inv .bytes) m x (ex ∙ ap (λ (p : ℕ). at T 8 (p + 8 * m)) (inv .starts))
+
+      usual-class : (s : Bool) → b ≡ s → pick s 34 0 ≡ firstOf (memberRulesOf T o m)
+      unfolding memberRulesOf
+      usual-class s q =
+          let z : x % 65536 ≡ memberType T m = omega (arith, parts .whole, parts .of-small) in
+          usual-rules T o (typeRowOf T o) (memberRowOf T m) x above parts (isTagBefore T (field T o 0) m (tag T m)) (tag-new (tag T m)) s (sym q ∙ eb ∙ ap (noPart T o) z)
+          (not (eqb (own .kind) 9)) (ap (λ (k : ℕ). not (eqb k 9)) (inv .own-is .kind-is)) (sym eu ∙ not-false u usual)
+
+      pub usual-fault : b ≡ true → Broken 34 (start + 8 * m) ≡ verdictOf (ownerPass T o)
+      usual-fault q = class-fault 34 (usual-class true q) (λ z. omega arith)
+
+      pub usual-next : b ≡ false → (a : ℕ) → a ≡ max above (x / 4294967296 + 1) → Owner T o start own (left - 1) (m + 1) a
+      usual-next q a ea = class-next 0 (usual-class false q) refl a (ea ∙ ap (λ (g : ℕ). max above (g + 1)) (tag-of (memberRowOf T m) x parts))
+
+-- over the owners
+pub record Owners (T : List ℕ) (n o : ℕ) : Type 0 where
+  pub within : o ≤ n
+  pub rest : OwnersThere T → verdictOf (ownersPass T (range 0 (types T))) ≡ verdictOf (ownersPass T (range o (n - o)))
+
+pub owners-begin : (T : List ℕ) (n : ℕ) → n ≡ types T → Owners T n 0
+owners-begin T n e = let z : n - 0 ≡ types T = omega arith in record { within = omega arith; rest = λ there. rw z }
+
+module _ (T : List ℕ) (n o : ℕ) (inv : Owners T n o) where
+  pub owners-end : n ≤ o → OwnersThere T → Fine ≡ verdictOf (ownersPass T (range 0 (types T)))
+  unfolding verdictOf ownersPass
+  owners-end h there = sym (inv .rest there ∙ rw (range-none o n h))
+
+  module _ (h : o < n) (en : n ≡ types T) (v : Verdict) (e : MembersThere T o → v ≡ verdictOf (ownerPass T o)) where
+    owner-says : OwnersThere T → verdictOf (ownerPass T o) ≡ v
+    owner-says there = sym (e (there .owners o (omega arith)))
+
+    pub owners-fault : (c p : ℕ) → v ≡ Broken c p → OwnersThere T → Broken c p ≡ verdictOf (ownersPass T (range 0 (types T)))
+    unfolding ownersPass
+    owners-fault c p q there = sym (inv .rest there ∙ rw (range-more o n h) (or-broken (ownerPass T o) _ c p (owner-says there ∙ q)))
+
+    pub owners-next : v ≡ Fine → Owners T n (o + 1)
+    unfolding ownersPass
+    owners-next q = record { within = omega arith; rest = λ there. inv .rest there ∙ rw (range-more o n h) (or-verdict (ownerPass T o) _ (owner-says there ∙ q)) }
+
+-- ---- header, type rows and member sum, member rows
+
+module _ (T : List ℕ) (h : ℕ) (eh : faultAt 0 h ≡ headerRules T) where
+  all : faults T ≡ orElse (faultAt 0 h) (orElse (orElse (typePass T) (sumRules T)) (orElse (memberPass T) fine))
+  unfolding faults passes typePass memberPass
+  all = rw (eh, or-assoc)
+
+  pub check-header : (h ≡ 0 → ⊥) → Broken h 0 ≡ verdictOf (faults T)
+  unfolding verdictOf faultAt
+  check-header z = sym (ap verdictOf all ∙ or-broken (faultAt 0 h) _ h 0 (go h z))
+    where
+      go : (h : ℕ) → (h ≡ 0 → ⊥) → verdictOf (faultAt 0 h) ≡ Broken h 0
+      go zero z = absurd (z refl)
+      go (suc c) z = refl
+
+  module _ (head : h ≡ 0) (n : ℕ) (en : n ≡ types T) where
+    pub check-all-rows : (k : ℕ) → k ≡ members T → 12 + 12 * n + 8 * k ≤ length T
+    unfolding faultAt
+    check-all-rows k ek = omega (arith, table-length T (sym eh ∙ rw head))
+
+    pub check-rows : 12 + 12 * n ≤ length T
+    check-rows = omega (arith, check-all-rows (members T) refl)
+
+  module _ (head : h ≡ 0) (v : Verdict) (ev : v ≡ verdictOf (orElse (typePass T) (sumRules T))) where
+    past-header : verdictOf (faults T) ≡ verdictOf (orElse (orElse (typePass T) (sumRules T)) (orElse (memberPass T) fine))
+    unfolding faultAt verdictOf
+    past-header = ap verdictOf all ∙ rw head (or-verdict fine _ refl)
+
+    pub check-types : (c p : ℕ) → v ≡ Broken c p → Broken c p ≡ verdictOf (faults T)
+    check-types c p q = sym (past-header ∙ or-broken (orElse (typePass T) (sumRules T)) _ c p (sym ev ∙ q))
+
+    pub check-members : v ≡ Fine → (w : Verdict) → (OwnersThere T → w ≡ verdictOf (ownersPass T (range 0 (types T)))) → w ≡ verdictOf (faults T)
+    unfolding orElse verdictOf
+    check-members q w e =
+        let f = is-fine (orElse (typePass T) (sumRules T)) (sym ev ∙ q) in
+        e (owners-there T f) ∙ ap verdictOf (owners-pass T f) ∙ sym (past-header ∙ or-verdict (orElse (typePass T) (sumRules T)) _ (sym ev ∙ q) ∙ last (memberPass T))
+      where
+        last : (f : Fault) → verdictOf (orElse f fine) ≡ verdictOf f
+        last fine = refl
+        last (fault c p) = refl

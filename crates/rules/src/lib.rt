@@ -1,0 +1,587 @@
+// The rules of a table: header, type rows, member sum, member rows; the first rule that is broken, as its class and its place.
+use table::MemberRow;
+use table::TypeRow;
+ghost use mathlib.Core.Path.{_≡_};
+ghost use mathlib.Core.List.{[], _∷_};
+ghost use Prim.Native.Nat.{_+_, _-_, _*_, _≤_, _<_, max};
+ghost use lib.ListN.{length, take};
+ghost use Rattle.encoding.specs.Result.{firstOf, sameBytes};
+ghost use Rattle.encoding.specs.Table.{any, range, types, members, headerRules, sumRules, orElse, used, noPart, faultAt, faults};
+ghost use Rattle.table.specs.Names.{isNamed};
+ghost use Rattle.rules.specs.Checks.{verdictOf, isSetFrom, noBaseOf, alikeFrom, enumRules, structRules, seqRules, dictRules, recordRules, listRules, kindRules, rowRules, share, isBasic, past, typePass, isOptionalOf, isTagBefore, isTagAlike, requiredRules, optionalRules, memberRulesBy, isUsual, ownerPass, ownersPass, MembersThere, OwnersThere};
+
+// No rule is broken; or the first that is, as its class and its place.
+pub enum Verdict {
+    Fine,
+    Broken(usize, usize),
+}
+
+// The mark FGT and version 1 stand in front: four bytes as an int, then a 0.
+fn is_marked(table: &[u8]) -> bool
+    requires { ⌜ 5 ≤ length (now table) ⌝ }
+    ensures { λ r. ⌜ r ≡ sameBytes (take 5 (now (table .entry))) (70 ∷ 71 ∷ 84 ∷ 1 ∷ 0 ∷ []) ⌝ }
+{
+    if wire::int_at(table, 0) != 22300486 {
+        return false;
+    }
+    wire::byte_at(table, 4) == 0
+}
+
+// The class of the header, or 0.
+fn header(table: &[u8]) -> usize
+    ensures { λ r. ⌜ faultAt 0 r ≡ headerRules (now (table .entry)) ⌝ }
+{
+    if table.len() < 12 {
+        return 31;
+    }
+    if !is_marked(table) {
+        return 31;
+    }
+    let t = table::types(table);
+    if t == 0 {
+        return 31;
+    }
+    if 256 < t {
+        return 31;
+    }
+    let m = table::members(table);
+    if 1024 < m {
+        return 31;
+    }
+    let n = table::names(table);
+    if 8192 < n {
+        return 31;
+    }
+    if wire::byte_at(table, 11) != 0 {
+        return 31;
+    }
+    if table.len() != 12 + 12 * t + 8 * m + n {
+        return 31;
+    }
+    0
+}
+
+// One of the fields c, d, e of a row is not 0.
+fn is_set_from_c(row: TypeRow) -> bool
+    ensures { λ r. ⌜ r ≡ isSetFrom row 2 ⌝ }
+{
+    if row.c != 0 {
+        return true;
+    }
+    if row.d != 0 {
+        return true;
+    }
+    row.e != 0
+}
+
+// One of the fields b to e is not 0.
+fn is_set_from_b(row: TypeRow) -> bool
+    ensures { λ r. ⌜ r ≡ isSetFrom row 1 ⌝ }
+{
+    if row.b != 0 {
+        return true;
+    }
+    is_set_from_c(row)
+}
+
+// One of the fields is not 0.
+fn is_set_from_a(row: TypeRow) -> bool
+    ensures { λ r. ⌜ r ≡ isSetFrom row 0 ⌝ }
+{
+    if row.a != 0 {
+        return true;
+    }
+    is_set_from_b(row)
+}
+
+// A field that the row's kind does not use is not 0.
+fn is_unused_set(row: TypeRow) -> bool
+    ensures { λ r. ⌜ r ≡ isSetFrom row (used (row .kind)) ⌝ }
+{
+    let k = row.kind;
+    if k < 8 {
+        return is_set_from_a(row);
+    }
+    if k == 10 {
+        return is_set_from_b(row);
+    }
+    if k == 12 {
+        return is_set_from_a(row);
+    }
+    if k == 13 {
+        return false;
+    }
+    if k == 14 {
+        return false;
+    }
+    if k < 16 {
+        return is_set_from_c(row);
+    }
+    false
+}
+
+// Row r is no row below t of kinds 0..12; the rows below t lie inside.
+fn no_part(table: &[u8], t: usize, r: usize) -> bool
+    requires { ⌜ 12 + 12 * t ≤ length (now table) ⌝ }
+    ensures { λ b. ⌜ b ≡ noPart (now (table .entry)) t r ⌝ }
+{
+    if t <= r {
+        return true;
+    }
+    12 < table::kind_in(table, r)
+}
+
+// Row b - 1 is no base of row t of kind k: not smaller, or of another kind.
+fn no_base(table: &[u8], t: usize, k: usize, b: usize) -> bool
+    requires { ⌜ 12 + 12 * t ≤ length (now table) ⌝ }
+    ensures { λ r. ⌜ r ≡ noBaseOf (now (table .entry)) t k b ⌝ }
+{
+    if b == 0 {
+        return false;
+    }
+    if t < b {
+        return true;
+    }
+    table::kind_in(table, b - 1) != k
+}
+
+// A record from row `from` on and before row t has this name. A name longer than a row says is another, whatever its bytes.
+fn is_name_before(table: &[u8], name: &[u8], from: usize, t: usize) -> bool
+    requires { ⌜ 12 + 12 * t ≤ length (now table) ⌝ }
+    ensures { λ r. ⌜ r ≡ any (isNamed (now (table .entry)) (now (name .entry))) (range from (t - from)) ⌝ }
+{
+    let mut r = from;
+    while r < t {
+        let row = table::type_row_in(table, r);
+        if table::is_record(row.kind) {
+            if name.len() <= row.e {
+                if table::naming::is_named(table, r, name) {
+                    return true;
+                }
+            }
+        }
+        r += 1;
+    }
+    false
+}
+
+// The name of row t is that of a record from row `from` on and before it.
+fn alike(table: &[u8], from: usize, t: usize) -> bool
+    requires { ⌜ 12 + 12 * t ≤ length (now table) ⌝ }
+    ensures { λ r. ⌜ r ≡ alikeFrom (now (table .entry)) from t ⌝ }
+{
+    let a = table::naming::name_start(table, t);
+    let e = a + table::naming::name_length(table, t);
+    is_name_before(table, &table[a..e], from, t)
+}
+
+// An enum's own rule.
+fn enum_row(row: TypeRow) -> usize
+    requires { ⌜ (row .a < 65536) × (row .b < 65536) ⌝ }
+    ensures { λ r. ⌜ r ≡ firstOf (enumRules row) ⌝ }
+{
+    if 2147483648 <= row.a + 65536 * row.b {
+        return 38;
+    }
+    0
+}
+
+// A struct's own rules, where the rows before it take `prior` member rows.
+fn struct_row(row: TypeRow, prior: usize) -> usize
+    ensures { λ r. ⌜ r ≡ firstOf (structRules row prior) ⌝ }
+{
+    if row.a != prior {
+        return 35;
+    }
+    if row.b == 0 {
+        return 36;
+    }
+    0
+}
+
+// The own rule of a sequence, row t.
+fn seq_row(table: &[u8], t: usize, row: TypeRow) -> usize
+    requires { ⌜ 12 + 12 * t ≤ length (now table) ⌝ }
+    ensures { λ r. ⌜ r ≡ firstOf (seqRules (now (table .entry)) t row) ⌝ }
+{
+    if no_part(table, t, row.a) {
+        return 34;
+    }
+    0
+}
+
+// The own rules of a dictionary, row t.
+fn dict_row(table: &[u8], t: usize, row: TypeRow) -> usize
+    requires { ⌜ 12 + 12 * t ≤ length (now table) ⌝ }
+    ensures { λ r. ⌜ r ≡ firstOf (dictRules (now (table .entry)) t row) ⌝ }
+{
+    if no_part(table, t, row.a) {
+        return 34;
+    }
+    if no_part(table, t, row.b) {
+        return 34;
+    }
+    0
+}
+
+// The own rules of an exception or a class, row t; its name is looked for from row `from` on.
+fn record_row(table: &[u8], t: usize, row: TypeRow, prior: usize, from: usize) -> usize
+    requires { ⌜ 12 + 12 * t ≤ length (now table) ⌝ }
+    requires { ⌜ row .d < 65536 ⌝ }
+    ensures { λ r. ⌜ r ≡ firstOf (recordRules (now (table .entry)) t row prior (alikeFrom (now (table .entry)) from t)) ⌝ }
+{
+    if no_base(table, t, row.kind, row.c) {
+        return 34;
+    }
+    if row.a != prior {
+        return 35;
+    }
+    if row.e == 0 {
+        return 37;
+    }
+    if 255 < row.e {
+        return 37;
+    }
+    if table::names(table) < row.d + row.e {
+        return 37;
+    }
+    if alike(table, from, t) {
+        return 37;
+    }
+    0
+}
+
+// A parameter list's own rule.
+fn list_row(row: TypeRow, prior: usize) -> usize
+    ensures { λ r. ⌜ r ≡ firstOf (listRules row prior) ⌝ }
+{
+    if row.a != prior {
+        return 35;
+    }
+    0
+}
+
+// The rules of row t that its kind has.
+fn kind_row(table: &[u8], t: usize, row: TypeRow, prior: usize, from: usize) -> usize
+    requires { ⌜ 12 + 12 * t ≤ length (now table) ⌝ }
+    requires { ⌜ (row .a < 65536) × (row .b < 65536) × (row .d < 65536) ⌝ }
+    ensures { λ r. ⌜ r ≡ firstOf (kindRules (now (table .entry)) t row prior (alikeFrom (now (table .entry)) from t)) ⌝ }
+{
+    let k = row.kind;
+    if k == 8 {
+        return enum_row(row);
+    }
+    if k == 9 {
+        return struct_row(row, prior);
+    }
+    if k == 10 {
+        return seq_row(table, t, row);
+    }
+    if k == 11 {
+        return dict_row(table, t, row);
+    }
+    if table::is_record(k) {
+        return record_row(table, t, row, prior, from);
+    }
+    if k == 15 {
+        return list_row(row, prior);
+    }
+    0
+}
+
+// The class of type row t, or 0.
+fn type_class(table: &[u8], t: usize, row: TypeRow, prior: usize, from: usize) -> usize
+    requires { ⌜ 12 + 12 * t ≤ length (now table) ⌝ }
+    requires { ⌜ (row .a < 65536) × (row .b < 65536) × (row .d < 65536) ⌝ }
+    ensures { λ r. ⌜ r ≡ firstOf (rowRules (now (table .entry)) t row prior (alikeFrom (now (table .entry)) from t)) ⌝ }
+{
+    if row.spare != 0 {
+        return 32;
+    }
+    if is_unused_set(row) {
+        return 32;
+    }
+    if 15 < row.kind {
+        return 33;
+    }
+    kind_row(table, t, row, prior, from)
+}
+
+// How many member rows a row takes.
+fn share(row: TypeRow) -> usize
+    ensures { λ r. ⌜ (r ≡ share row) × (r ≤ row .b) ⌝ }
+{
+    if table::owns(row.kind) {
+        return row.b;
+    }
+    0
+}
+
+// Type row t is basic: its kind is below 8 and every other byte is 0.
+fn is_basic(table: &[u8], t: usize) -> bool
+    requires { ⌜ 24 + 12 * t ≤ length (now table) ⌝ }
+    ensures { λ r. ⌜ r ≡ isBasic (now (table .entry)) t ⌝ }
+{
+    let start = 12 + 12 * t;
+    let end = start + 12;
+    let row = &table[start..end];
+    if wire::int_at(row, 0) < 8 {
+        return wire::long_at(row, 4) == 0;
+    }
+    false
+}
+
+// `from`, before which no row is a record, once row t is passed: where it stands at t and t is plain, that is no record, it moves on.
+fn past(from: usize, t: usize, plain: bool) -> usize
+    requires { ⌜ t < 65536 ⌝ }
+    ensures { λ r. ⌜ r ≡ past from t plain ⌝ }
+{
+    if from == t {
+        if plain {
+            return t + 1;
+        }
+    }
+    from
+}
+
+// The pass over the n type rows, then the member sum. A basic row breaks no rule and takes no member rows. No row before `from` is a record.
+fn type_rows(table: &[u8], n: usize) -> Verdict
+    requires { ⌜ n ≡ types (now table) ⌝ }
+    requires { ⌜ 12 + 12 * n ≤ length (now table) ⌝ }
+    ensures { λ r. ⌜ r ≡ verdictOf (orElse (typePass (now (table .entry))) (sumRules (now (table .entry)))) ⌝ }
+{
+    let mut prior = 0;
+    let mut from = 0;
+    let mut t = 0;
+    while t < n {
+        if is_basic(table, t) {
+            from = past(from, t, true);
+            t += 1;
+            continue;
+        }
+        let row = table::type_row_in(table, t);
+        let c = type_class(table, t, row, prior, from);
+        if c != 0 {
+            return Verdict::Broken(c, 12 + 12 * t);
+        }
+        prior += share(row);
+        from = past(from, t, !table::is_record(row.kind));
+        t += 1;
+    }
+    if prior != table::members(table) {
+        return Verdict::Broken(35, 0);
+    }
+    Verdict::Fine
+}
+
+// Member row i is optional and has this tag.
+fn is_optional_of(table: &[u8], i: usize, tag: usize) -> bool
+    ensures { λ r. ⌜ r ≡ isOptionalOf (now (table .entry)) tag i ⌝ }
+{
+    let row = table::member_row(table, i);
+    if row.mark == 1 {
+        return row.tag == tag;
+    }
+    false
+}
+
+// A member row from `first` on and before m is optional and has this tag.
+fn is_tag_before(table: &[u8], first: usize, m: usize, tag: usize) -> bool
+    ensures { λ r. ⌜ r ≡ isTagBefore (now (table .entry)) first m tag ⌝ }
+{
+    let mut i = first;
+    while i < m {
+        if is_optional_of(table, i, tag) {
+            return true;
+        }
+        i += 1;
+    }
+    false
+}
+
+// The same, of a tag below `above`. Where every tag before is below it, no other can be alike: rising tags are not looked for.
+fn is_tag_alike(table: &[u8], first: usize, m: usize, above: usize, tag: usize) -> bool
+    ensures { λ r. ⌜ r ≡ isTagAlike (now (table .entry)) first m above tag ⌝ }
+{
+    if above <= tag {
+        return false;
+    }
+    is_tag_before(table, first, m, tag)
+}
+
+// The rules of a required member of owner o.
+fn required_row(table: &[u8], o: usize, row: MemberRow) -> usize
+    requires { ⌜ 12 + 12 * o ≤ length (now table) ⌝ }
+    ensures { λ r. ⌜ r ≡ firstOf (requiredRules (now (table .entry)) o row) ⌝ }
+{
+    if row.tag != 0 {
+        return 32;
+    }
+    if no_part(table, o, row.of) {
+        return 34;
+    }
+    0
+}
+
+// The rules of member row m of owner o with another mark.
+fn optional_row(
+    table: &[u8],
+    o: usize,
+    owner: TypeRow,
+    m: usize,
+    row: MemberRow,
+    above: usize,
+) -> usize
+    requires { ⌜ 12 + 12 * o ≤ length (now table) ⌝ }
+    ensures { λ r. ⌜ r ≡ firstOf (optionalRules (now (table .entry)) o owner row (isTagAlike (now (table .entry)) (owner .a) m above (row .tag))) ⌝ }
+{
+    if no_part(table, o, row.of) {
+        return 34;
+    }
+    if 1 < row.mark {
+        return 36;
+    }
+    if owner.kind == 9 {
+        return 36;
+    }
+    if 2147483648 <= row.tag {
+        return 38;
+    }
+    if is_tag_alike(table, owner.a, m, above, row.tag) {
+        return 38;
+    }
+    0
+}
+
+// The class of member row m of owner o, or 0.
+fn member_class(
+    table: &[u8],
+    o: usize,
+    owner: TypeRow,
+    m: usize,
+    row: MemberRow,
+    above: usize,
+) -> usize
+    requires { ⌜ 12 + 12 * o ≤ length (now table) ⌝ }
+    ensures { λ r. ⌜ r ≡ firstOf (memberRulesBy (now (table .entry)) o owner row (isTagAlike (now (table .entry)) (owner .a) m above (row .tag))) ⌝ }
+{
+    if row.spare != 0 {
+        return 32;
+    }
+    if row.mark == 0 {
+        return required_row(table, o, row);
+    }
+    optional_row(table, o, owner, m, row, above)
+}
+
+// Above the tags so far and this one.
+fn raised(above: usize, tag: usize) -> usize
+    requires { ⌜ tag < 4294967296 ⌝ }
+    ensures { λ r. ⌜ r ≡ max above (tag + 1) ⌝ }
+{
+    if above <= tag { tag + 1 } else { above }
+}
+
+// A member row, as one number, breaks no rule but perhaps that of its type: a required one with tag 0, or an optional one of no struct with a tag not below `above`.
+fn is_usual(x: usize, optional: bool, above: usize) -> bool
+    ensures { λ r. ⌜ r ≡ isUsual x optional above ⌝ }
+{
+    if x < 65536 {
+        return true;
+    }
+    if !optional {
+        return false;
+    }
+    if x / 65536 % 65536 != 1 {
+        return false;
+    }
+    let tag = x / 4294967296;
+    if tag < above {
+        return false;
+    }
+    tag < 2147483648
+}
+
+// The member rows of owner o in a table of n type rows and k member rows, where they are all there: behind the member sum they are. The tags before m are below `above`.
+// Usual rows are passed as one number each; from the first other row on, each is read whole.
+fn owner(table: &[u8], o: usize, n: usize, k: usize) -> Verdict
+    requires { ⌜ 24 + 12 * o ≤ length (now table) ⌝ }
+    requires { ⌜ (n ≡ types (now table)) × (k ≡ members (now table)) ⌝ }
+    requires { ⌜ 12 + 12 * n + 8 * k ≤ length (now table) ⌝ }
+    ensures { λ r. ⌜ (MembersThere (now (table .entry)) o → r ≡ verdictOf (ownerPass (now (table .entry)) o)) ⌝ }
+{
+    let start = 12 + 12 * n;
+    let own = table::type_row_in(table, o);
+    let mut left = share(own);
+    if left == 0 {
+        return Verdict::Fine;
+    }
+    if k < own.a + left {
+        return Verdict::Broken(35, 0);
+    }
+    let mut m = own.a;
+    let mut above = 0;
+    let optional = own.kind != 9;
+    while left > 0 {
+        let x = wire::long_in(table, start + 8 * m);
+        if !is_usual(x, optional, above) {
+            break;
+        }
+        if no_part(table, o, x % 65536) {
+            return Verdict::Broken(34, start + 8 * m);
+        }
+        above = raised(above, x / 4294967296);
+        m += 1;
+        left -= 1;
+    }
+    while left > 0 {
+        let row = table::member_row_in(table, start + 8 * m);
+        let c = member_class(table, o, own, m, row, above);
+        if c != 0 {
+            return Verdict::Broken(c, start + 8 * m);
+        }
+        above = raised(above, row.tag);
+        m += 1;
+        left -= 1;
+    }
+    Verdict::Fine
+}
+
+// The pass over the k member rows, by each of the n type rows as owner, where those of each are all there.
+fn member_rows(table: &[u8], n: usize, k: usize) -> Verdict
+    requires { ⌜ (n ≡ types (now table)) × (k ≡ members (now table)) ⌝ }
+    requires { ⌜ 12 + 12 * n + 8 * k ≤ length (now table) ⌝ }
+    ensures { λ r. ⌜ (OwnersThere (now (table .entry)) → r ≡ verdictOf (ownersPass (now (table .entry)) (range 0 (types (now (table .entry)))))) ⌝ }
+{
+    let mut o = 0;
+    while o < n {
+        let v = owner(table, o, n, k);
+        match v {
+            Verdict::Fine => {}
+            Verdict::Broken(c, p) => {
+                return Verdict::Broken(c, p);
+            }
+        }
+        o += 1;
+    }
+    Verdict::Fine
+}
+
+// The first rule that the table breaks.
+pub fn check(table: &[u8]) -> Verdict
+    ensures { λ r. ⌜ r ≡ verdictOf (faults (now (table .entry))) ⌝ }
+{
+    let h = header(table);
+    if h != 0 {
+        return Verdict::Broken(h, 0);
+    }
+    let n = table::types(table);
+    let v = type_rows(table, n);
+    match v {
+        Verdict::Broken(c, p) => {
+            return Verdict::Broken(c, p);
+        }
+        Verdict::Fine => {}
+    }
+    member_rows(table, n, table::members(table))
+}

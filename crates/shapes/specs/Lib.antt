@@ -1,0 +1,3 @@
+-- What the contracts of `shapes` cite beside the definitions of the encoding.
+pub mod Shapes
+pub mod ShapesLaws
