@@ -1,6 +1,5 @@
 -- The laws of numbers, sizes, declared lengths, bools and strings. Numbers once over the width.
 --
---   Bytes xs                      each element is a byte
 --   val-leBytes, leBytes-val      a number written is the number read, and the other way round, of any width
 --   size-short, size-long         what a size is written as
 --   -written, -canonical          what the encoder makes is read back; what was read is what the encoder makes
@@ -18,13 +17,10 @@ use borrow.Author.Tests.{leb-false, ltb-true, ltb-false, lt-leb, lt-ltb, le-ltb}
 use mathlib.Core.Option.{Option}
 use Rattle.encoding.specs.Result.{Parser, ok, pick, _>>=_, pure, chunk, item, must, firstOf}
 use Rattle.encoding.specs.ResultLaws.{Closed, by-pick, held, pick-most, firstOf-most, firstOf-none, Bound, bind-ok, bind-step, bind-take, bind-written, pure-ok, chunk-ok, chunk-written, item-ok, item-step, must-ok, must-step, firstOf-ok, Held, Ends, ends-chunk, ends-item, ends-bind, Eats, eats-chunk, eats-first, eats-item, eats-must, eats-mapc, Starved, starved-chunk}
+pub use Rattle.encoding.specs.Number.{Bytes}
 use Rattle.encoding.specs.Number.{val, leBytes, negative, number, byte, boolForm, bool, sizeForm, sizeTail, size, sizeBytes, lengthForm, declared, Content, string, stringBytes}
 
 -- ---- bytes
-
-abbrev pub Bytes : List ℕ → Type 0
-Bytes [] = Unit {0}
-Bytes (x ∷ xs) = (x < 256) × Bytes xs
 
 pub bytes-take : (k : ℕ) (xs : List ℕ) → Bytes xs → Bytes (take k xs)
 bytes-take zero xs b = tt

@@ -18,9 +18,9 @@ use lib.Seq.{length-take-le}
 use lib.Dec.{eqb, ltb}
 use Rattle.encoding.specs.Result.{Parser, ok, pick, fail, chunk, many}
 use Rattle.encoding.specs.ResultLaws.{Closed, by-pick, framed, held, many-fuel, pick-most, firstOf-most, firstOf-none, ok≢bad, Bound, bind-ok, bind-take, chunk-ok, item-ok, bytes-ok, Framed, Held, Ends, ends-chunk, ends-bytes, ends-item, ends-bind, Eats, eats-must, eats-first, Starved, starved-must, starved-bind, many-enough}
-use Rattle.encoding.specs.Number.{sizeBytes}
+use Rattle.encoding.specs.Number.{Bytes, sizeBytes}
 use Rattle.encoding.specs.Number
-use Rattle.encoding.specs.NumberLaws.{closed-byte, closed-size, closed-declared, Bytes, held-size, ends-declared, eats-byte, starved-byte, size-canonical, declared-canonical}
+use Rattle.encoding.specs.NumberLaws.{closed-byte, closed-size, closed-declared, held-size, ends-declared, eats-byte, starved-byte, size-canonical, declared-canonical}
 use Rattle.encoding.specs.Types.{Ty, short, int, long, float, double, broken, bool, byte, string, proxy, num, enum, struct, seq, dict, fixed, fixeds, single, Bits, f1, f2, f4, f8, size, vsize, fsize, class, bitsAt, Form, bare, own, counted, sized, bitsOf, formOf}
 use Rattle.encoding.specs.ValueLaws.{closed-value}
 use Rattle.encoding.specs.Table.{Member, lookup}

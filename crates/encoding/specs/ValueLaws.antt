@@ -5,18 +5,17 @@
 --   held-text .. held-reference  of the parts of a proxy
 --   eats-value                   a value that is not fixed-size takes at least one byte
 --   exact-ok, exact-step         what it is to be exactly one value of a type
---   value-more, value-part       a value among more bytes; a value in just its bytes
 use mathlib.Core.Path.{_≡_, refl, ap, _∙_}
 use mathlib.Core.Bool.{Bool, true, false, _&&_, true≢false, false≢true}
 use mathlib.Core.Option.{Option}
-use mathlib.Core.List.{List, _++_}
+use mathlib.Core.List.{List}
 use Prim.Native.Nat.{ℕ}
 use native.Mathlib.Omega.{arith}
-use lib.ListN.{length, take}
+use lib.ListN.{length}
 use lib.Dec.{eqb, ltb}
 use borrow.Author.Tests.{eqb-true, eq-eqb}
 use Rattle.encoding.specs.Result.{Res, ok, bad, Parser, _>>=_, skip}
-use Rattle.encoding.specs.ResultLaws.{Closed, by-pick, by-skip, by-times, framed, held, pick-most, Framed, framed-more, framed-part, Held, Eats, eats-fail, eats-first, eats-next, eats-mapc, eats-must}
+use Rattle.encoding.specs.ResultLaws.{Closed, by-pick, by-skip, by-times, framed, held, pick-most, Framed, Held, Eats, eats-fail, eats-first, eats-next, eats-mapc, eats-must}
 use Rattle.encoding.specs.Number.{size}
 use Rattle.encoding.specs.NumberLaws.{closed-byte, closed-bool, closed-size, closed-declared, closed-string, eats-size, eats-string, eats-bool}
 use Rattle.encoding.specs.Proxy.{identityForm, identity, facetForm, text, facets, modeForm, endpoint, endpoints, versions, reference}
@@ -123,13 +122,6 @@ mutual
       go : (b : Bool) → fixed t ≡ b → b && fixeds ts ≡ false → (fixed t ≡ false → Eats (value t)) → (fixeds ts ≡ false → Eats (values ts)) → Eats (value t >>= λ _. values ts)
       go true e f one rest = eats-next (value t) (λ _. values ts) (λ _. rest f)
       go false e f one rest = eats-first (value t) (λ _. values ts) (one e)
-
-module _ (t : Ty) (xs : List ℕ) {n : ℕ} where
-  pub value-more : value t xs ≡ ok tt n → (ys : List ℕ) → value t (xs ++ ys) ≡ ok tt n
-  value-more h ys = framed-more (value t) (framed-value t) xs h ys
-
-  pub value-part : value t xs ≡ ok tt n → value t (take n xs) ≡ ok tt n
-  value-part h = framed-part (value t) (framed-value t) xs h
 
 -- ---- exactly one value
 

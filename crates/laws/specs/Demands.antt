@@ -13,7 +13,7 @@
 --   RowsOnce       no member has two rows, and there are at most as many rows as the table has members
 --   Unambiguous    a message has one reading
 --   ExactCounts    the skip counts count what the rows leave out
---   ExactValues    a value of a type is exactly a byte string of the grammar of values
+--   ExactValues    a value of a type is exactly a string of the grammar of values; ExactExtents: an extent is one of the grammar of extents
 --   ReadBack       demand 2: what the writer makes is read as the members given
 --   WriteAgain     demand 2: an accepted message with nothing skipped, written again in any format, is the encoding of its pieces in that format
 --   WriteSame      demand 2: in its own format, it is the same message
@@ -37,19 +37,19 @@ use Prim.Native.Nat.{ℕ, suc, _+_, _*_, _≤_, _<_}
 use lib.ListN.{length, take, drop, getD}
 use lib.Dec.{eqb}
 use Rattle.encoding.specs.Result.{ok, bad, concat}
-use Rattle.encoding.specs.NumberLaws.{Bytes}
+use Rattle.encoding.specs.Number.{Bytes}
 use Rattle.encoding.specs.Types.{Ty, Form, Bits}
 use Rattle.encoding.specs.Value.{exact}
+use Rattle.encoding.specs.Grammar.{IsValue, IsExtent}
 use Rattle.encoding.specs.Table.{types, fine, faults, memberTy, trees, named, any, chain, range, kind, fault, members, Member, lookup}
 use Rattle.encoding.specs.Valid.{Valid, FirstBroken}
 use Rattle.encoding.specs.Table
-use Rattle.encoding.specs.Optional.{Piece, required, optional, skipped}
+use Rattle.encoding.specs.Optional.{Piece, required, optional, skipped, extent}
 use Rattle.encoding.specs.Slice.{Format, compact, sliced, formatNumber, Slice, known, passed, idOf}
 use Rattle.encoding.specs.Message.{Pieces, list, exception, class, Read, encode, encapsulate, noTop, limit, rules, Row, rows, rowBytes, firstKnown, optionalsSkipped, slicesSkipped, answer, reading, room, readingOf, readingNumbers}
 use Rattle.encoding.specs.Write.{Right, out, stop, partOf, rowAt, writing, noFormat}
 use Rattle.encoding.specs.Conform.{Conform}
 use Rattle.encoding.specs.Extends.{Extends, TopsMatch, Counterpart}
-use Rattle.laws.specs.Grammar.{IsValue}
 
 -- ---- the type table
 
@@ -92,7 +92,7 @@ pub data All {A : Type 0} (P : A → Type 0) : List A → Type 0 where
 -- Rules out rows invented after the first slice.
 pub record RowExact (T m : List ℕ) (r : Row) : Type 0 where
   pub inside : r .place + r .len ≤ length m
-  pub one : exact (memberTy T (trees T) (r .member)) (take (r .len) (drop (r .place) m)) ≡ true
+  pub one : IsValue (memberTy T (trees T) (r .member)) (take (r .len) (drop (r .place) m))
 
 abbrev pub ExactRows : Type 0
 ExactRows =
@@ -195,7 +195,11 @@ ExactCounts =
 
 -- a value is what the grammar says, no more and no less
 abbrev pub ExactValues : Type 0
-ExactValues = (t : Ty) (b : List ℕ) → Bytes b → (exact t b ≡ true → IsValue t b) × (IsValue t b → exact t b ≡ true)
+ExactValues = (t : Ty) (b : List ℕ) → (exact t b ≡ true → IsValue t b) × (IsValue t b → exact t b ≡ true)
+
+-- so is what an optional declares, by the type in its header
+abbrev pub ExactExtents : Type 0
+ExactExtents = (k : Bits) (b : List ℕ) → ((d : List ℕ) × (extent k b ≡ ok d (length b)) → IsExtent k b) × (IsExtent k b → (d : List ℕ) × (extent k b ≡ ok d (length b)))
 
 -- ---- demand 2: what is written
 
@@ -286,7 +290,7 @@ pub record BeginsRight (T : List ℕ) (type : ℕ) (buffer : List ℕ) (rs : Lis
 
 -- the bytes of a row are exactly one value of its member's type
 abbrev pub RowFits : List ℕ → List ℕ → Row → Type 0
-RowFits T buffer r = exact (memberTy T (trees T) (r .member)) (partOf buffer r) ≡ true
+RowFits T buffer r = IsValue (memberTy T (trees T) (r .member)) (partOf buffer r)
 
 -- where rows are no right list: at the first row with which no right list begins, or at their count where they alone are none; the rows before have their types' bytes
 pub data NoneRight (T : List ℕ) (type : ℕ) (buffer : List ℕ) (rs : List Row) (i : ℕ) : Type 0 where

@@ -1,5 +1,4 @@
 -- The laws of reading and writing: `Demands` states the promises, `Promises` has them with their proofs.
-pub mod Grammar
 pub mod GrammarLaws
 pub mod ProxyExact
 pub mod Demands

@@ -16,14 +16,14 @@ use lib.Dec.{eqb, ltb}
 use borrow.Author.Tests.{not-false, eqb-true, eqb-false, ltb-false}
 use Rattle.encoding.specs.Result.{ok, Parser, pick, shift, _>>=_, must, mapc}
 use Rattle.encoding.specs.ResultLaws.{either-false, pick-ok, pick-true, Bound, bind-ok, bind-step, bind-take, must-ok, must-step, mapc-ok, mapc-step, held-took}
-use Rattle.encoding.specs.Number.{byte, number, leBytes}
-use Rattle.encoding.specs.NumberLaws.{Bytes, bytes-drop, byte-written, byte-canonical, number-canonical}
+use Rattle.encoding.specs.Number.{Bytes, Short, byte, number, leBytes}
+use Rattle.encoding.specs.NumberLaws.{bytes-drop, byte-written, byte-canonical, number-canonical}
 use Rattle.encoding.specs.Table.{kind}
 use Rattle.encoding.specs.RuleLaws.{kind-known}
 use Rattle.encoding.specs.Slice.{Format, sliced, Chain, slices, first, slicesBytes}
 use Rattle.encoding.specs.Message.{Pieces, list, exception, class, Read, encode, encapsulate, parameters, markerForm, contents, sizeForm, versionForm, ended, body, rules}
 use Rattle.encoding.specs.MessageLaws.{held-contents, ended-ok, length-encapsulate, body-encapsulated, top-there, rules-ok, rules-step}
-use Rattle.encoding.specs.Conform.{Short, Conform}
+use Rattle.encoding.specs.Conform.{Conform}
 use Rattle.laws.specs.Demands.{readAs, Follows, Exact, ExactRows}
 use Rattle.laws.specs.RowsExact.{exact-rows-from}
 use Rattle.laws.specs.OptionalExact.{parameters-written, parameters-canonical}

@@ -15,7 +15,7 @@ use lib.ListN.{length}
 use borrow.Author.Tests.{le-leb, lt-leb, le-ltb}
 use Rattle.encoding.specs.Result.{Res, ok, bad, Parser, shift, must, made, mapc}
 use Rattle.encoding.specs.ResultLaws.{bind-bad, bind-next, must-step}
-use Rattle.encoding.specs.Number.{byte, stringBytes}
+use Rattle.encoding.specs.Number.{Short, byte, stringBytes}
 use Rattle.encoding.specs.NumberLaws.{byte-written}
 use Rattle.encoding.specs.Table.{types, kind, isRecord, named}
 use Rattle.encoding.specs.RuleLaws.{record-kind, named-short}
@@ -24,11 +24,11 @@ use Rattle.encoding.specs.Slice.{Format, compact, sliced, Slice, known, passed,
 use Rattle.encoding.specs.WalkLaws.{head-ok, head-refused, slice-refused}
 use Rattle.encoding.specs.Message.{Pieces, list, exception, class, Read, encode, encapsulate, markerForm, contents, ended, body, noTop, limit, rules, rows, Answer, answer, within, room, reading, accepted}
 use Rattle.encoding.specs.MessageLaws.{top-there, length-encapsulate, body-encapsulated, rules-body}
-use Rattle.encoding.specs.Conform.{Short, Slices, Conform}
+use Rattle.encoding.specs.Conform.{Slices, Conform}
 use Rattle.encoding.specs.Extends.{Extends, TopsMatch, as-records, as-lists, SameOwner, as-tops}
 use Rattle.laws.specs.Demands.{readAs, Follows, Kept, firstId, Foreign, an-exception, a-class, Newer, Understood, NewerRead, NewerRefused, NewerReading}
 use Rattle.laws.specs.Lose.{lose}
-use Rattle.laws.specs.SliceExact.{content-any, head-written}
+use Rattle.laws.specs.SliceExact.{head-written}
 use Rattle.laws.specs.MessageExact.{exact-message}
 use Rattle.laws.specs.LoseLaws.{lose-bytes, lose-passed}
 use Rattle.laws.specs.OptionalNewer.{owned-newer}
@@ -118,7 +118,7 @@ slices-refused T top o unknown short ps ss =
     let d : List ℕ = dataBytes (known o ps) in
     let w : List ℕ = slicesBytes compact (later compact) ss in
     let xs : List ℕ = flagBits compact true (anyOptional ps) (isLast ss) ∷ (stringBytes o ++ (d ++ w)) in
-    let H = head-written first (λ _ _. 0) compact (anyOptional ps) (isLast ss) o (d ++ w) tt (content-any o, short, refl) in
+    let H = head-written first (λ _ _. 0) compact (anyOptional ps) (isLast ss) o (d ++ w) tt (record { length-short = short }, refl) in
     let R = head-refused first (idForm T (seek first)) xs _ _ (head-ok first (λ _ _. 0) xs _ _ H .0) 14 refl (rw unknown) in
     let spelt : stringBytes o ++ [] ++ d ++ w ≡ stringBytes o ++ (d ++ w) = rw (append-nil (stringBytes o)) (append-assoc (stringBytes o) d w) in
     bind-bad (slice T top (seek first)) _ _

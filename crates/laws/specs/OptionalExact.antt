@@ -20,24 +20,26 @@ use lib.Seq.{drop-at, take-at, take-nil, take-add, take-length, length-take-le}
 use lib.Dec.{eqb, ltb}
 use borrow.Author.Tests.{not-false, eqb-true, eqb-false, ltb-true, ltb-false, lt-ltb, le-ltb, eq-eqb, ne-eqb}
 use Rattle.encoding.specs.Result.{ok, Parser, pick, _>>=_, pure, fail, chunk, skip, must, mapc, bytes, times, atEnd, atMark, firstOf, concat}
-use Rattle.encoding.specs.ResultLaws.{ok≢bad, some≢none, Bound, bind-ok, bind-step, bind-take, bind-written, pure-ok, chunk-ok, chunk-step, chunk-written, item-step, must-ok, must-step, mapc-ok, mapc-step, bytes-ok, bytes-step, inside-ok, inside-step, firstOf-ok, pick-true, framed-more, framed-part, framed-times, held-took, Run, end, step, run-of, of-run, run-fuel}
+use Rattle.encoding.specs.ResultLaws.{ok≢bad, some≢none, Bound, bind-ok, bind-step, bind-take, bind-written, pure-ok, chunk-ok, chunk-step, chunk-written, item-step, must-ok, must-step, mapc-ok, mapc-step, bytes-ok, bytes-step, inside-ok, inside-step, firstOf-ok, pick-true, framed-more, framed-times, held-took, Run, end, step, run-of, of-run, run-fuel}
 use Rattle.encoding.specs.Number
 use Rattle.encoding.specs.Proxy
-use Rattle.encoding.specs.Number.{byte, leBytes, sizeBytes}
-use Rattle.encoding.specs.NumberLaws.{Bytes, bytes-drop, byte-written, byte-canonical, size-written, size-canonical, length-leBytes, declared-written}
+use Rattle.encoding.specs.Number.{Bytes, Short, byte, leBytes, sizeBytes}
+use Rattle.encoding.specs.NumberLaws.{bytes-drop, byte-written, byte-canonical, size-written, size-canonical, length-leBytes, declared-written}
 use Rattle.encoding.specs.Types.{Ty, short, int, long, float, double, broken, bool, string, proxy, num, enum, struct, seq, dict, fixed, fixeds, single, Bits, f1, f2, f4, f8, size, vsize, fsize, class, bits, bitsAt, Form, bare, own, counted, sized, bitsOf, formOf}
 use Rattle.encoding.specs.Types
 use Rattle.encoding.specs.TypesLaws.{bits-below, bits-back, bits-there}
-use Rattle.encoding.specs.Value.{value, exact}
-use Rattle.encoding.specs.ValueLaws.{framed-value, held-value, exact-ok, exact-step, eats-value, value-more, value-part}
+use Rattle.encoding.specs.Value.{value}
+use Rattle.encoding.specs.ValueLaws.{framed-value, exact-ok, exact-step, eats-value}
 use Rattle.encoding.specs.Table.{Member, lookup}
 use Rattle.encoding.specs.Table
 use Rattle.encoding.specs.Optional.{Piece, required, optional, skipped, Header, firstForm, headerTail, wrongType, headerForm, header, extent, part, content, optionalOf, optionals, requireds, headerBytes, lengthBytes, frontBytes, contentBytes, pieceBytes, isOptional}
-use Rattle.encoding.specs.OptionalLaws.{framed-extent, held-extent, Sound, held-content, held-header, eats-optional, formOf-sound, part-canonical}
+use Rattle.encoding.specs.OptionalLaws.{framed-extent, Sound, held-content, held-header, eats-optional, formOf-sound, part-canonical}
 use Rattle.encoding.specs.Slice
 use Rattle.encoding.specs.Slice.{dataBytes, anyOptional, someForm, fields}
 use Rattle.encoding.specs.Message.{parameters}
-use Rattle.encoding.specs.Conform.{Short, Known, Unknown, Level, Owned}
+use Rattle.encoding.specs.Grammar.{IsValue, IsExtent}
+use Rattle.encoding.specs.Conform.{Known, Unknown, Level, Owned}
+use Rattle.laws.specs.ValueExact.{takes-value, exact-is, is-exact, takes-extent}
 
 -- ---- headers
 
@@ -217,18 +219,17 @@ fit-written sized b r h s =
     rw zero-add at w ∙ ap (ok b) (omega (arith, length-append (leBytes 4 (length b)) b, length-leBytes 4 (length b)))
 
 -- a value behind its length, or bare, is its part
-pub part-written : (t : Ty) (b r : List ℕ) → exact t b ≡ true → Short (length b) → part (formOf t) (lengthBytes (formOf t) b ++ b ++ r) ≡ ok b (length (lengthBytes (formOf t) b ++ b))
-part-written t b r e s = fit-written (formOf t) b r (value-fits t b (exact-ok t b e)) s
+pub part-written : (t : Ty) (b r : List ℕ) → IsValue t b → Short (length b) → part (formOf t) (lengthBytes (formOf t) b ++ b ++ r) ≡ ok b (length (lengthBytes (formOf t) b ++ b))
+part-written t b r w s = fit-written (formOf t) b r (value-fits t b (exact-ok t b (is-exact t b w))) s
 
--- the bytes of a value that was read are exactly one
-value-taken : (t : Ty) (xs : List ℕ) {b : List ℕ} {n : ℕ} → bytes (value t) xs ≡ ok b n → (b ≡ take n xs) × (exact t b ≡ true)
+-- the bytes of a value that was read are one
+value-taken : (t : Ty) (xs : List ℕ) {b : List ℕ} {n : ℕ} → bytes (value t) xs ≡ ok b n → (b ≡ take n xs) × IsValue t b
 value-taken t xs {b} {n} h =
     let W = bytes-ok (value t) xs h in
-    let l : length (take n xs) ≡ n = length-take-le n xs (held-took (value t) (held-value t) xs (W .1)) in
-    (W .2, subst (λ (z : List ℕ). exact t z ≡ true) (sym (W .2)) (exact-step t (take n xs) (value-part t xs (W .1) ∙ ap (ok tt) (sym l))))
+    (W .2, subst (IsValue t) (sym (W .2)) (takes-value t .canonical xs tt n (W .1)))
 
-value-written : (t : Ty) (b r : List ℕ) → exact t b ≡ true → bytes (value t) (b ++ r) ≡ ok b (length b)
-value-written t b r e = bytes-step (value t) (b ++ r) (value-more t b (exact-ok t b e) r) ∙ ap (λ (y : List ℕ). ok y (length b)) (take-at b r (length b) refl)
+value-written : (t : Ty) (b r : List ℕ) → IsValue t b → bytes (value t) (b ++ r) ≡ ok b (length b)
+value-written t b r w = bytes-step (value t) (b ++ r) (takes-value t .written tt b w r) ∙ ap (λ (y : List ℕ). ok y (length b)) (take-at b r (length b) refl)
 
 -- ---- an optional
 
@@ -258,16 +259,15 @@ form-type t = go (formOf t) (formOf-sound t)
     go counted s = refl
     go sized s = refl
 
-extent-type : (k : Bits) (xs : List ℕ) {d : List ℕ} {n : ℕ} → extent k xs ≡ ok d n → eqb (bits k) 7 ≡ false
-unfolding extent fail
-extent-type f1 xs h = refl
-extent-type f2 xs h = refl
-extent-type f4 xs h = refl
-extent-type f8 xs h = refl
-extent-type size xs h = refl
-extent-type vsize xs h = refl
-extent-type fsize xs h = refl
-extent-type class xs h = absurd (ok≢bad h refl)
+extent-type : (k : Bits) (b : List ℕ) → IsExtent k b → eqb (bits k) 7 ≡ false
+extent-type f1 b w = refl
+extent-type f2 b w = refl
+extent-type f4 b w = refl
+extent-type f8 b w = refl
+extent-type size b w = refl
+extent-type vsize b w = refl
+extent-type fsize b w = refl
+extent-type class b w = absurd w
 
 abbrev continue : List Member → Header → Parser (Piece × ℕ)
 continue ms h = mapc (λ p _. (p, suc (h .tag))) (content (lookup (h .tag) ms) h)
@@ -290,7 +290,7 @@ known-written ms least t f b r K = rw (K .form, append-assoc hb (lengthBytes g b
     typed = rw (K .found, eq-eqb (bits (bitsOf g)) (bits (bitsOf g)) refl)
 
     first : header ms least (hb ++ (w ++ r)) ≡ ok (headerOf t (bitsOf g)) (length hb)
-    first = header-written ms least t (bitsOf g) (w ++ r) (K .short) (K .rises) (form-type (K .member .ty)) typed
+    first = header-written ms least t (bitsOf g) (w ++ r) (K .tag-short) (K .rises) (form-type (K .member .ty)) typed
 
     one : bytes (value (K .member .ty)) b ≡ ok b (length b)
     one = rw append-nil at (value-written (K .member .ty) b [] (K .one))
@@ -299,7 +299,7 @@ known-written ms least t f b r K = rw (K .form, append-assoc hb (lengthBytes g b
     next =
         mapc-step _ (w ++ r) (λ p _. (p, suc t))
         (rw (K .found) (mapc-step _ (w ++ r) (λ b _. optional t g b)
-        (inside-step (part g) (bytes (value (K .member .ty))) (w ++ r) (part-written (K .member .ty) b r (K .one) (K .shorter)) one)))
+        (inside-step (part g) (bytes (value (K .member .ty))) (w ++ r) (part-written (K .member .ty) b r (K .one) (K .length-short)) one)))
 
 unknown-written : (ms : List Member) (least t : ℕ) (k : Bits) (b r : List ℕ) → Unknown ms least t k b
     → optionalOf ms least (pieceBytes (skipped t k b) ++ r) ≡ ok (skipped t k b, suc t) (length (pieceBytes (skipped t k b)))
@@ -310,13 +310,13 @@ unknown-written ms least t k b r K = bind-written (header ms least) (continue ms
     typed = rw (K .absent)
 
     first : header ms least (headerBytes t k ++ (b ++ r)) ≡ ok (headerOf t k) (length (headerBytes t k))
-    first = header-written ms least t k (b ++ r) (K .short) (K .rises) (extent-type k b (K .whole)) typed
+    first = header-written ms least t k (b ++ r) (K .tag-short) (K .rises) (extent-type k b (K .whole)) typed
 
     next : continue ms (headerOf t k) (b ++ r) ≡ ok (skipped t k b, suc t) (length b)
     next =
         mapc-step _ (b ++ r) (λ p _. (p, suc t))
         (rw (K .absent) (mapc-step _ (b ++ r) (λ b _. skipped t k b)
-        (bytes-step (extent k) (b ++ r) (framed-more (extent k) (framed-extent k) b (K .whole) r) ∙ ap (λ (y : List ℕ). ok y (length b)) (take-at b r (length b) refl))))
+        (bytes-step (extent k) (b ++ r) (mapc-ok (extent k) (b ++ r) (λ _ _. tt) (takes-extent k .written tt b (K .whole) r) .1) ∙ ap (λ (y : List ℕ). ok y (length b)) (take-at b r (length b) refl))))
 
 pub optional-written : {ms : List Member} {least : ℕ} {p : Piece} {s : ℕ} → Told ms least p s → (r : List ℕ) → optionalOf ms least (pieceBytes p ++ r) ≡ ok (p, s) (length (pieceBytes p))
 optional-written {ms = ms} {least = least} (known {t = t} {f = f} {b = b} K) r = known-written ms least t f b r K
@@ -324,7 +324,7 @@ optional-written {ms = ms} {least = least} (unknown {t = t} {k = k} {b = b} K) r
 
 -- a known value uses up its part
 known-content : (m : Member) (h : Header) (xs : List ℕ) → Bytes xs → {p : Piece} {n : ℕ} → content (some m) h xs ≡ ok p n
-    → (b : List ℕ) × (p ≡ optional (h .tag) (formOf (m .ty)) b) × (exact (m .ty) b ≡ true) × (take n xs ≡ lengthBytes (formOf (m .ty)) b ++ b)
+    → (b : List ℕ) × (p ≡ optional (h .tag) (formOf (m .ty)) b) × IsValue (m .ty) b × (take n xs ≡ lengthBytes (formOf (m .ty)) b ++ b)
 unfolding content
 known-content m h xs y e =
     let M = mapc-ok _ xs (λ b _. optional (h .tag) (formOf (m .ty)) b) e in
@@ -332,19 +332,18 @@ known-content m h xs y e =
     let W = bytes-ok (value (m .ty)) (E .part) (E .inner) in (
       E .part,
       M .2 ∙ ap (optional (h .tag) (formOf (m .ty))) (W .2 ∙ take-length (E .part)),
-      exact-step (m .ty) (E .part) (W .1),
+      exact-is (m .ty) (E .part) (exact-step (m .ty) (E .part) (W .1)),
       part-canonical (formOf (m .ty)) (formOf-sound (m .ty)) xs y (E .outer),
     )
 
 -- an unknown one is skipped as a whole
 skipped-content : (h : Header) (xs : List ℕ) {p : Piece} {n : ℕ} → content none h xs ≡ ok p n
-    → (p ≡ skipped (h .tag) (h .type) (take n xs)) × ((d : List ℕ) × (extent (h .type) (take n xs) ≡ ok d (length (take n xs))))
+    → (p ≡ skipped (h .tag) (h .type) (take n xs)) × IsExtent (h .type) (take n xs)
 unfolding content
 skipped-content h xs {p} {n} e =
     let M = mapc-ok _ xs (λ b _. skipped (h .tag) (h .type) b) e in
     let W = bytes-ok (extent (h .type)) xs (M .1) in
-    let l : length (take n xs) ≡ n = length-take-le n xs (held-took (extent (h .type)) (held-extent (h .type)) xs (W .1)) in
-    (M .2 ∙ ap (skipped (h .tag) (h .type)) (W .2), (W .0, framed-part (extent (h .type)) (framed-extent (h .type)) xs (W .1) ∙ ap (ok (W .0)) (sym l)))
+    (M .2 ∙ ap (skipped (h .tag) (h .type)) (W .2), takes-extent (h .type) .canonical xs tt n (mapc-step (extent (h .type)) xs (λ _ _. tt) (W .1)))
 
 right-type : (k : Bits) (m : Member) → wrongType k (some m) ≡ false → k ≡ bitsOf (formOf (m .ty))
 unfolding wrongType
@@ -371,7 +370,7 @@ optional-canonical ms least xs y sh {p} {s} {n} e = top (bind-ok (header ms leas
         let ys : List ℕ = drop k xs in
         let C = skipped-content h ys e in
         subst (λ (z : Piece). Good ms least (take k xs ++ take m ys) (z, suc (h .tag))) (sym (C .0))
-        (unknown (record { absent = eo; rises = H .rises; inner = C .1 .0; whole = C .1 .1; short = H .short }), ap (λ (z : List ℕ). z ++ take m ys) (H .spelt))
+        (unknown (record { absent = eo; rises = H .rises; whole = C .1; tag-short = H .short }), ap (λ (z : List ℕ). z ++ take m ys) (H .spelt))
     go h k m q H l (some a) eo e =
         let ys : List ℕ = drop k xs in
         let C = known-content a h ys (bytes-drop k xs y) e in
@@ -380,7 +379,7 @@ optional-canonical ms least xs y sh {p} {s} {n} e = top (bind-ok (header ms leas
         let ty : h .type ≡ bitsOf f = right-type (h .type) a (subst (λ (z : Option Member). wrongType (h .type) z ≡ false) eo (H .typed)) in
         let fits = held-took (content (some a) h) (held-content (some a) h) ys e in
         subst (λ (z : Piece). Good ms least (take k xs ++ take m ys) (z, suc (h .tag))) (sym (C .1)) (
-          known (record { member = a; found = eo; rises = H .rises; form = refl; one = C .2; short = H .short; shorter = end-short ys (lengthBytes f b) b m fits (omega (arith, length-drop k xs)) (C .3) }),
+          known (record { member = a; found = eo; rises = H .rises; form = refl; one = C .2; tag-short = H .short; length-short = end-short ys (lengthBytes f b) b m fits (omega (arith, length-drop k xs)) (C .3) }),
           ap₂ _++_ (H .spelt ∙ ap (headerBytes (h .tag)) ty) (C .3) ∙ sym (append-assoc (headerBytes (h .tag) (bitsOf f)) (lengthBytes f b) b),
         )
 

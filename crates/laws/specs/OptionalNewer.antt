@@ -13,17 +13,19 @@ use Prim.Native.Nat.{ℕ, suc}
 use lib.ListN.{length}
 use lib.Dec.{eqb}
 use borrow.Author.Tests.{eqb-true}
-use Rattle.encoding.specs.Result.{ok, pick}
+use Rattle.encoding.specs.Result.{pick}
 use Rattle.encoding.specs.ResultLaws.{some≢none}
+use Rattle.encoding.specs.Number.{Short}
 use Rattle.encoding.specs.Types.{Ty, Bits, Form, bitsOf, formOf}
-use Rattle.encoding.specs.Value.{exact}
+use Rattle.encoding.specs.Grammar.{IsValue, IsExtent}
 use Rattle.encoding.specs.Table.{Member, lookup, mark, requiredOf}
 use Rattle.encoding.specs.Table
-use Rattle.encoding.specs.Optional.{Piece, required, optional, skipped, extent, part, lengthBytes}
+use Rattle.encoding.specs.Optional.{Piece, required, optional, skipped, part, lengthBytes}
 use Rattle.encoding.specs.OptionalLaws.{part-extent}
-use Rattle.encoding.specs.Conform.{Short, Known, Unknown, Level, Owned}
+use Rattle.encoding.specs.Conform.{Known, Unknown, Level, Owned}
 use Rattle.encoding.specs.Extends.{OptionalsMatch, OwnersMatch, typeOf}
 use Rattle.laws.specs.Lose.{keepOr, losePiece}
+use Rattle.laws.specs.ValueExact.{extent-is}
 use Rattle.laws.specs.OptionalExact.{part-written}
 
 -- ---- members that match
@@ -82,15 +84,16 @@ lookup-same i k (m ∷ ms) (n ∷ ns) p q e =
 -- ---- what an old owner makes of an optional that it does not know
 
 -- a known value, length field and all, is what its type in the header declares
-known-extent : (t : Ty) (b : List ℕ) → exact t b ≡ true → Short (length b)
-    → (e : List ℕ) × (extent (bitsOf (formOf t)) (lengthBytes (formOf t) b ++ b) ≡ ok e (length (lengthBytes (formOf t) b ++ b)))
-known-extent t b x s = part-extent (formOf t) (lengthBytes (formOf t) b ++ b) (ap (part (formOf t)) (sym (append-nil (lengthBytes (formOf t) b ++ b))) ∙ part-written t b [] x s)
+known-extent : (t : Ty) (b : List ℕ) → IsValue t b → Short (length b) → IsExtent (bitsOf (formOf t)) (lengthBytes (formOf t) b ++ b)
+known-extent t b w s =
+    let E = part-extent (formOf t) (lengthBytes (formOf t) b ++ b) (ap (part (formOf t)) (sym (append-nil (lengthBytes (formOf t) b ++ b))) ∙ part-written t b [] w s) in
+    extent-is (bitsOf (formOf t)) (lengthBytes (formOf t) b ++ b) (E .0) (E .1)
 
 module _ (ms ns : List Member) (match : OptionalsMatch ms ns) where
   -- what neither knows, and what only the new owner knows
   unknown-newer : (least k : ℕ) (f : Bits) (b : List ℕ) → Unknown ns least k f b → Unknown ms least k f b
   unfolding typeOf
-  unknown-newer least k f b U = record { absent = go (lookup k ms) refl; rises = U .rises; inner = U .inner; whole = U .whole; short = U .short }
+  unknown-newer least k f b U = record { absent = go (lookup k ms) refl; rises = U .rises; whole = U .whole; tag-short = U .tag-short }
     where
       go : (o : Option Member) → lookup k ms ≡ o → o ≡ none
       go none e = refl
@@ -98,13 +101,11 @@ module _ (ms ns : List Member) (match : OptionalsMatch ms ns) where
 
   lost-newer : (least k : ℕ) (f : Form) (b : List ℕ) → Known ns least k f b → lookup k ms ≡ none → Unknown ms least k (bitsOf f) (lengthBytes f b ++ b)
   lost-newer least k f b K z =
-      let E = known-extent (K .member .ty) b (K .one) (K .shorter) in
       record {
         absent = z;
         rises = K .rises;
-        inner = E .0;
-        whole = subst (λ (g : Form). extent (bitsOf g) (lengthBytes g b ++ b) ≡ ok (E .0) (length (lengthBytes g b ++ b))) (sym (K .form)) (E .1);
-        short = K .short;
+        whole = subst (λ (g : Form). IsExtent (bitsOf g) (lengthBytes g b ++ b)) (sym (K .form)) (known-extent (K .member .ty) b (K .one) (K .length-short));
+        tag-short = K .tag-short;
       }
 
   -- what both know
@@ -113,7 +114,7 @@ module _ (ms ns : List Member) (match : OptionalsMatch ms ns) where
   known-newer least k f b K m e =
       let s : some (K .member .ty) ≡ some (m .ty) = ap typeOf (sym (K .found)) ∙ optionals-match k ms ns m match e in
       let y : K .member .ty ≡ m .ty = cc in
-      record { member = m; found = e; rises = K .rises; form = K .form ∙ ap formOf y; one = ap (λ (t : Ty). exact t b) (sym y) ∙ K .one; short = K .short; shorter = K .shorter }
+      record { member = m; found = e; rises = K .rises; form = K .form ∙ ap formOf y; one = subst (λ (t : Ty). IsValue t b) y (K .one); tag-short = K .tag-short; length-short = K .length-short }
 
   -- ---- all members of an owner
 
@@ -133,7 +134,7 @@ module _ (ms ns : List Member) (match : OptionalsMatch ms ns) where
   level-newer i (m ∷ rs) (n ∷ ss) p q e least [] L = absurd L
   level-newer i (m ∷ rs) (n ∷ ss) p q e least (required j b ∷ ps) L = (
     L .0 ∙ q .0 ∙ sym (p .0),
-    ap (λ (t : Ty). exact t b) (head-eq-of-cons-eq e) ∙ L .1,
+    subst (λ (t : Ty). IsValue t b) (sym (head-eq-of-cons-eq e)) (L .1),
     level-newer (suc i) rs ss (p .1) (q .1) (tail-eq-of-cons-eq e) least ps (L .2),
   )
   level-newer i (m ∷ rs) (n ∷ ss) p q e least (optional k f b ∷ ps) L = absurd L

@@ -22,14 +22,13 @@ use native.Mathlib.Omega.{arith}
 use lib.Dec.{eqb, leb}
 use borrow.Author.Tests.{leb-false, eqb-true, eqb-false, eq-eqb, ne-eqb, lt-leb, le-ltb}
 use Rattle.encoding.specs.Result.{pick}
-use Rattle.encoding.specs.Number.{negative}
+use Rattle.encoding.specs.Number.{Short, negative}
 use Rattle.encoding.specs.Types.{Ty}
 use Rattle.encoding.specs.Table.{types, kind, field, mark, tag, isRecord, owns, range, fine, faults, great, memberRules, Member, memberTy, trees, ownRows, requiredOf, optionalOf, required, optional, lookup, base, upward, chain, any}
 use Rattle.encoding.specs.RuleLaws.{member-test, kind-known, record-kind, base-right, chain-node, Own, own-later, rows-apart, rows-there, mark-known, tags-differ}
 use Rattle.encoding.specs.Message.{Row, noTop}
 use Rattle.encoding.specs.MessageLaws.{top-there}
 use Rattle.encoding.specs.Write.{Slot, rising, slot, slots, planOf, plan, Out, Given, above, begin, judgeAll}
-use Rattle.encoding.specs.Conform.{Short}
 use Rattle.laws.specs.Demands.{All, end, more, Below}
 use Rattle.laws.specs.RowsExact.{all-append, all-map, Found, required-found, required-typed, optional-typed}
 use Rattle.laws.specs.PlanLaws.{Pairs, alone, before, all-mapped, pairs-mapped, pairs-append, pairs-with, RowsDiffer, KeysDiffer, all-rising, rises-rising, differ-rising, from, from-zero, Ordered, future, least-zero, SlotsDiffer, judgeSlots, judge-slots}

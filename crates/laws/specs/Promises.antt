@@ -1,5 +1,5 @@
 -- Every promise of `Demands`, with its proof.
-use Rattle.laws.specs.Demands.{ExactTable, TablePlace, Exact, ExactRows, ListedRows, RowsApart, RowsRight, RowsOnce, Unambiguous, ExactCounts, ExactValues, ReadBack, WriteAgain, OneMessage, RightLists, WrongBytes, RightWritten, TooLong, NewerRead, NewerRefused, NewerReading, OneCounterpart, NewerThere, WriteSame, EarlyRefused, RightMakes}
+use Rattle.laws.specs.Demands.{ExactTable, TablePlace, Exact, ExactRows, ListedRows, RowsApart, RowsRight, RowsOnce, Unambiguous, ExactCounts, ExactValues, ExactExtents, ReadBack, WriteAgain, OneMessage, RightLists, WrongBytes, RightWritten, TooLong, NewerRead, NewerRefused, NewerReading, OneCounterpart, NewerThere, WriteSame, EarlyRefused, RightMakes}
 use Rattle.laws.specs.TableExact.{exact-table}
 use Rattle.laws.specs.TablePlace.{table-place}
 use Rattle.laws.specs.MessageExact.{exact-message, exact-rows}
@@ -7,7 +7,7 @@ use Rattle.laws.specs.RowsListed.{listed-rows}
 use Rattle.laws.specs.RowsApart.{listed-apart}
 use Rattle.laws.specs.RowsRight.{rows-right, rows-once, unambiguous}
 use Rattle.laws.specs.CountsExact.{exact-counts-from}
-use Rattle.laws.specs.ValueExact.{exact-values}
+use Rattle.laws.specs.ValueExact.{exact-values, exact-extents}
 use Rattle.laws.specs.WriteBack.{read-back}
 use Rattle.laws.specs.WriteAgain.{write-again, write-same, one-message}
 use Rattle.laws.specs.WriterAnswers.{early-refused, right-lists, wrong-bytes, right-makes, too-long-written, right-written}
@@ -27,6 +27,7 @@ pub record Promises : Type 0 where
   pub unambiguous : Unambiguous
   pub counts : ExactCounts
   pub values : ExactValues
+  pub extents : ExactExtents
   pub reads-back : ReadBack
   pub writes-again : WriteAgain
   pub writes-same : WriteSame
@@ -56,6 +57,7 @@ promises = record {
   unambiguous = unambiguous;
   counts = exact-counts-from exact-message;
   values = exact-values;
+  extents = exact-extents;
   reads-back = read-back;
   writes-again = write-again;
   writes-same = write-same;

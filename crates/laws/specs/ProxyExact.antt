@@ -10,23 +10,18 @@ use lib.Dec.{eqb, ltb}
 use borrow.Author.Tests.{ltb-true, ltb-false, lt-ltb, ne-eqb}
 use Rattle.encoding.specs.Result.{pick, pure, must, mapc, times}
 use Rattle.encoding.specs.ResultLaws.{pick-ok, pick-true}
-use Rattle.encoding.specs.Number.{byte, boolForm, bool, leBytes, declared, Content, stringBytes}
-use Rattle.encoding.specs.NumberLaws.{length-leBytes, declared-written, declared-canonical}
+use Rattle.encoding.specs.Number.{byte, boolForm, bool, declared}
 use Rattle.encoding.specs.Proxy.{identityForm, identity, facetForm, text, facets, modeForm, endpoint, endpoints, versions, reference, proxy}
-use Rattle.encoding.specs.Conform.{Short}
-use Rattle.laws.specs.Grammar.{_⨾_, both, Repeats, none, more, Run, Below, InString, IsText, AreFacets, IsEncapsulation, encapsulation, AreEndpoints, adapter, some, IsReference, IsProxy, is-nil, is-full}
-use Rattle.laws.specs.Grammar
-use Rattle.laws.specs.GrammarLaws.{Reads, Takes, reads-as, reads-must, reads-map, takes-map, reads-bind, takes-next, takes-then, takes-skip, takes-pure, takes-times, takes-below, IsSize, is-size, reads-size, Spells, spells, reads-string}
+use Rattle.encoding.specs.Grammar.{_⨾_, both, Repeats, none, more, Run, Below, IsSize, IsString, IsText, AreFacets, IsEncapsulation, encapsulation, AreEndpoints, adapter, some, IsReference, IsProxy, is-nil, is-full}
+use Rattle.encoding.specs.Grammar
+use Rattle.laws.specs.GrammarLaws.{Reads, Takes, reads-as, reads-must, reads-map, takes-map, reads-bind, takes-next, takes-then, takes-skip, takes-pure, takes-times, takes-below, reads-size, IntThen, after-int, reads-declared, reads-string}
 
 pub takes-text : Takes text IsText
 unfolding text
-takes-text = reads-as (λ _ b w. onward (w .1)) (λ _ b w. back w) (takes-map reads-string)
+takes-text = reads-as (λ _ b w. Grammar.text (w .1)) (λ _ b w. back w) (takes-map reads-string)
   where
-    onward : {t b : List ℕ} → Spells t b → IsText b
-    onward (spells s) = Grammar.text s
-
-    back : {b : List ℕ} → IsText b → (t : List ℕ) × Spells t b
-    back (Grammar.text {t} s) = (t, spells s)
+    back : {b : List ℕ} → IsText b → (t : List ℕ) × IsString t b
+    back (Grammar.text {t} s) = (t, s)
 
 pub takes-bool : Takes bool (Below 2)
 unfolding bool boolForm
@@ -41,30 +36,21 @@ unfolding facets facetForm
 takes-facets = reads-as (λ _ b w. onward (w .0) (w .1)) (λ _ b w. back w) (reads-bind (reads-must facetForm reads-size) (λ n. takes-times n takes-text))
   where
     onward : (n : ℕ) {b : List ℕ} → ((λ b. (facetForm n ≡ 0) × IsSize n b) ⨾ Repeats IsText n) b → AreFacets b
-    onward n (both (e, is-size s) x) = Grammar.facets (ltb-true n 2 (pick-true (ltb n 2) 9 e)) x
+    onward n (both (e, s) x) = Grammar.facets (ltb-true n 2 (pick-true (ltb n 2) 9 e)) s x
 
     back : {b : List ℕ} → AreFacets b → (n : ℕ) × ((λ b. (facetForm n ≡ 0) × IsSize n b) ⨾ Repeats IsText n) b
-    back (Grammar.facets {n} l x) = (n, both (rw (lt-ltb n 2 l), is-size (omega arith)) x)
+    back (Grammar.facets {n} l s x) = (n, both (rw (lt-ltb n 2 l), s) x)
 
 -- ---- endpoints
 
 takes-encapsulation : Takes (mapc (λ _ _. tt) (declared 6 4)) IsEncapsulation
-takes-encapsulation = reads-as (λ _ b w. onward (w .0) (w .1)) (λ _ b w. back w) (takes-map reads-declared)
+takes-encapsulation = reads-as (λ _ b w. onward (w .0) (w .1)) (λ _ b w. back w) (takes-map (reads-declared 6 4 (omega arith)))
   where
-    Declared : List ℕ → List ℕ → Type 0
-    Declared d b = (2 ≤ length d) × Short (4 + length d) × (b ≡ leBytes 4 (4 + length d) ++ d)
+    onward : (d : List ℕ) {b : List ℕ} → IntThen 6 4 d b → IsEncapsulation b
+    onward d (after-int l i) = encapsulation d (omega arith) i
 
-    reads-declared : Reads (declared 6 4) Declared
-    reads-declared = record {
-      canonical = λ xs y d n h. let D = declared-canonical 6 4 xs y (omega arith) h in (omega (arith, D .1), D .2, D .0);
-      written = λ d b w r. rw (w .2, length-append (leBytes 4 (4 + length d)) d, length-leBytes 4 (4 + length d)) (declared-written 6 4 d r (omega arith) (omega arith) (w .1));
-    }
-
-    onward : (d : List ℕ) {b : List ℕ} → Declared d b → IsEncapsulation b
-    onward d (l, s, e) = rw e (encapsulation d l s)
-
-    back : {b : List ℕ} → IsEncapsulation b → (d : List ℕ) × Declared d b
-    back (encapsulation d l s) = (d, (l, s, refl))
+    back : {b : List ℕ} → IsEncapsulation b → (d : List ℕ) × IntThen 6 4 d b
+    back (encapsulation d l i) = (d, after-int (omega arith) i)
 
 takes-endpoint : Takes endpoint (Run 2 ⨾ IsEncapsulation)
 unfolding endpoint
@@ -83,12 +69,12 @@ unfolding endpoints
 takes-endpoints = reads-as (λ _ b w. onward (w .0) (w .1)) (λ _ b w. back w) (reads-bind reads-size takes-ends)
   where
     onward : (n : ℕ) {b : List ℕ} → (IsSize n ⨾ Ends n) b → AreEndpoints b
-    onward zero (both (is-size s) x) = adapter x
-    onward (suc n) (both (is-size s) x) = some s x
+    onward zero (both s x) = adapter s x
+    onward (suc n) (both s x) = some s x
 
     back : {b : List ℕ} → AreEndpoints b → (n : ℕ) × (IsSize n ⨾ Ends n) b
-    back (adapter x) = (0, both (is-size (omega arith)) x)
-    back (some {n} s x) = (suc n, both (is-size s) x)
+    back (adapter s x) = (0, both s x)
+    back (some {n} s x) = (suc n, both s x)
 
 -- ---- all of a reference
 
@@ -113,10 +99,10 @@ takes-reference = takes-then takes-facets (takes-next (must modeForm byte) takes
 -- ---- all of a proxy
 
 abbrev Category : ℕ → ℕ × ℕ → List ℕ → Type 0
-Category n l b = (c : List ℕ) × (l ≡ (n, length c)) × Spells c b
+Category n l b = (c : List ℕ) × (l ≡ (n, length c)) × IsString c b
 
 abbrev Identity : ℕ × ℕ → List ℕ → Type 0
-Identity l b = (identityForm l ≡ 0) × ((n : List ℕ) × (Spells n ⨾ Category (length n) l) b)
+Identity l b = (identityForm l ≡ 0) × ((n : List ℕ) × (IsString n ⨾ Category (length n) l) b)
 
 abbrev Rest : ℕ → List ℕ → Type 0
 Rest zero = Run 0
@@ -131,36 +117,29 @@ unfolding identity
 reads-identity = reads-must identityForm (reads-bind reads-string (λ n. reads-map (λ c. (length n, length c)) reads-string))
 
 pub takes-proxy : Takes proxy IsProxy
-unfolding proxy identityForm Content
+unfolding proxy identityForm
 takes-proxy = reads-as (λ _ b w. onward (w .0) (w .1)) (λ _ b w. back w) (reads-bind reads-identity (λ (l : ℕ × ℕ). takes-rest (l .0)))
   where
-    whole : (n c b : List ℕ) → identityForm (length n, length c) ≡ 0 → InString n → InString c → Rest (length n) b
-        → IsProxy (stringBytes n ++ stringBytes c ++ b)
-    whole [] [] [] f sn sc w = rw append-nil is-nil
+    whole : (n c : List ℕ) {u v : List ℕ} (b : List ℕ) → identityForm (length n, length c) ≡ 0 → IsString n u → IsString c v → Rest (length n) b → IsProxy (u ++ v ++ b)
+    whole [] [] {u} {v} [] f sn sc w = rw append-nil (is-nil sn sc)
     whole [] [] (x ∷ b) f sn sc w = let z : suc (length b) ≡ 0 = w in absurd (omega arith)
     whole [] (x ∷ c) b f sn sc w = absurd (omega (arith, ltb-false 0 (suc (length c)) (pick-ok (ltb 0 (suc (length c))) 9 f)))
     whole (x ∷ n) c b f sn sc w = is-full {name = x ∷ n} (omega arith) sn sc w
 
-    named : {l : ℕ × ℕ} (n : List ℕ) {a : List ℕ} (b : List ℕ) → identityForm l ≡ 0 → (Spells n ⨾ Category (length n) l) a → Rest (l .0) b → IsProxy (a ++ b)
-    named n b f (both (spells sn) (c, e, spells sc)) w =
+    named : {l : ℕ × ℕ} (n : List ℕ) {a : List ℕ} (b : List ℕ) → identityForm l ≡ 0 → (IsString n ⨾ Category (length n) l) a → Rest (l .0) b → IsProxy (a ++ b)
+    named n b f (both sn (c, e, sc)) w =
         whole n c b (subst (λ (l : ℕ × ℕ). identityForm l ≡ 0) e f) sn sc (subst (λ (l : ℕ × ℕ). Rest (l .0) b) e w)
 
     onward : (l : ℕ × ℕ) {b : List ℕ} → (Identity l ⨾ Rest (l .0)) b → IsProxy b
     onward l (both {b = b} i w) = named (i .1 .0) b (i .0) (i .1 .1) w
 
-    identified : {n c : List ℕ} → identityForm (length n, length c) ≡ 0 → InString n → InString c → Identity (length n, length c) (stringBytes n ++ stringBytes c)
-    identified {n} {c} f sn sc = (f, (n, both (spells sn) (c, refl, spells sc)))
+    identified : {n c u v : List ℕ} → identityForm (length n, length c) ≡ 0 → IsString n u → IsString c v → Identity (length n, length c) (u ++ v)
+    identified {n} {c} f sn sc = (f, (n, both sn (c, refl, sc)))
 
-    full : (n c : List ℕ) {b : List ℕ} → 1 ≤ length n → InString n → InString c → IsReference b → (Identity (length n, length c) ⨾ Rest (length n)) (stringBytes n ++ stringBytes c ++ b)
+    full : (n c : List ℕ) {u v b : List ℕ} → 1 ≤ length n → IsString n u → IsString c v → IsReference b → (Identity (length n, length c) ⨾ Rest (length n)) (u ++ v ++ b)
     full [] c l sn sc w = absurd (omega arith)
     full (x ∷ n) c l sn sc w = both (identified (rw (ne-eqb (suc (length n)) 0 (λ e. omega arith))) sn sc) w
 
-    empty : InString []
-    empty = record { content = refl; short = omega arith }
-
-    nothing : (Identity (0, 0) ⨾ Run 0) (stringBytes [] ++ stringBytes [] ++ [])
-    nothing = both (identified {n = []} {c = []} refl empty empty) refl
-
     back : {b : List ℕ} → IsProxy b → (l : ℕ × ℕ) × (Identity l ⨾ Rest (l .0)) b
-    back is-nil = ((0, 0), subst (Identity (0, 0) ⨾ Run 0) (append-nil (stringBytes [] ++ stringBytes [])) nothing)
+    back (is-nil {a} {b} sn sc) = ((0, 0), subst (Identity (0, 0) ⨾ Run 0) (append-nil (a ++ b)) (both (identified refl sn sc) refl))
     back (is-full {name} {category} l sn sc w) = ((length name, length category), full name category l sn sc w)

@@ -25,17 +25,15 @@ use Rattle.encoding.specs.Result.{pick}
 use Rattle.encoding.specs.ResultLaws.{some≢none}
 use Rattle.encoding.specs.Types.{Ty}
 use Rattle.encoding.specs.Value.{exact}
+use Rattle.encoding.specs.Grammar.{IsValue}
 use Rattle.encoding.specs.Table.{fine, faults, memberTy, trees}
 use Rattle.encoding.specs.Message.{Row, noTop}
 use Rattle.encoding.specs.Write.{Right, Slot, plan, Chosen, chosen, left, Within, Out, out, stop, next, Given, partOf, prepend}
 use Rattle.encoding.specs.Write
 use Rattle.laws.specs.Demands.{All, end, more, BeginsRight, RowFits, NoneRight, at-row, at-count, TwentyOne}
+use Rattle.laws.specs.ValueExact.{exact-is, is-exact}
 use Rattle.laws.specs.PlanLaws.{Pairs, before, Spot, find, find-left, find-down, find-member, anyDue, givenOf, judgeSlot, judgeSlots, SlotsDiffer, out≢stop, Fitting, judgeSlot-step, missed-all, Judged, over, taken, missed, judged-ok, judged-chosen, judged-within, first-among}
 use Rattle.laws.specs.PlanRules.{Fit, plan-fit, plan-differ, judging, judging-slots}
-
-not-true : (b : Bool) → (b ≡ true → ⊥) → b ≡ false
-not-true true h = absurd (h refl)
-not-true false h = refl
 
 pairs-tail : {A : Type 0} {R : A → A → Type 0} {a : A} {l : List A} → Pairs R (a ∷ l) → Pairs R l
 pairs-tail (before p P) = P
@@ -45,6 +43,14 @@ all-tail (more p L) = L
 
 all-head : {A : Type 0} {P : A → Type 0} {a : A} {l : List A} → All P (a ∷ l) → P a
 all-head (more p L) = p
+
+-- what is no value is judged so
+not-exact : (t : Ty) (b : List ℕ) → (IsValue t b → ⊥) → exact t b ≡ false
+not-exact t b n = go (exact t b) refl
+  where
+    go : (q : Bool) → exact t b ≡ q → exact t b ≡ false
+    go true e = absurd (n (exact-is t b e))
+    go false e = e
 
 -- ---- lists that choose from slots
 
@@ -138,7 +144,7 @@ module _ (T buffer : List ℕ) where
   passes-fit : {ss ss′ : List Slot} {qs : List Row} → Tidy ss → Passes ss qs ss′ → All (RowFits T buffer) qs
   passes-fit Y here = end
   passes-fit Y (on {ss} {r = r} z F P) =
-      more {a = r} (ap (λ (t : Ty). exact t (partOf buffer r)) (sym (spot-type r ss z (F .found) Y)) ∙ F .one) (passes-fit (tidy-tail (z .slot) (z .rest) (tidy-found r ss z (F .found) Y)) P)
+      more {a = r} (subst (λ (t : Ty). IsValue t (partOf buffer r)) (spot-type r ss z (F .found) Y) (exact-is (z .slot .member .ty) (partOf buffer r) (F .one))) (passes-fit (tidy-tail (z .slot) (z .rest) (tidy-found r ss z (F .found) Y)) P)
 
   -- the rows that a right list begins with pass where they have their types' bytes
   right-passes : {ss : List Slot} (qs rs : List Row) → Tidy ss → Rightly buffer ss (qs ++ rs) → All (RowFits T buffer) qs → (ss′ : List Slot) × Passes ss qs ss′
@@ -146,7 +152,7 @@ module _ (T buffer : List ℕ) where
   right-passes {ss} (r ∷ qs) rs Y R (more f A) =
       let L = chosen-leaves (Y .differ) (R .order) in
       let z : Spot = L .spot in
-      let F : Fitting buffer r (find (r .member) ss) z = record { found = L .found; inside = R .within .0; one = ap (λ (t : Ty). exact t (partOf buffer r)) (spot-type r ss z (L .found) Y) ∙ f } in
+      let F : Fitting buffer r (find (r .member) ss) z = record { found = L .found; inside = R .within .0; one = is-exact (z .slot .member .ty) (partOf buffer r) (subst (λ (t : Ty). IsValue t (partOf buffer r)) (sym (spot-type r ss z (L .found) Y)) f) } in
       let I = right-passes qs rs (tidy-tail (z .slot) (z .rest) (tidy-found r ss z (L .found) Y)) (rightly-less buffer r ss z (L .found) (R .within .0) (Y .differ) R) A in
       (I .0, on z F (I .1))
 
@@ -271,8 +277,8 @@ module _ (T buffer : List ℕ) where
           inside = omega (arith, length-append qs (r ∷ rs));
           begins = subst (BeginsRight T type buffer) (sym (take-passed qs r rs)) (begins-more qs r (S .rows) (passes-right P (rightly-more buffer r ss z e i (S .right))));
           before = subst (All (RowFits T buffer)) (sym t) (passes-fit Y P);
-          misfit = subst (λ (y : Row). RowFits T buffer y → ⊥) (sym g)
-              (λ f. true≢false (sym f ∙ ap (λ (u : Ty). exact u (partOf buffer r)) (sym (spot-type r ss z e (passes-tidy Y P))) ∙ x));
+          misfit = λ w. true≢false (sym (is-exact (z .slot .member .ty) (partOf buffer r)
+              (subst (λ (t : Ty). IsValue t (partOf buffer r)) (sym (spot-type r ss z e (passes-tidy Y P))) (subst (RowFits T buffer) g w))) ∙ x);
         }
 
     -- judging stops at row i where the rows before it pass
@@ -308,7 +314,8 @@ module _ (T buffer : List ℕ) where
         let Q = passes-rest Y (P .1) R in
         let L = chosen-leaves (passes-tidy Y (P .1) .differ) (Q .order) in
         stops-row false rs i (W .inside) (P .1)
-        (misfit (L .spot) (L .found) (Q .within .0) (ap (λ (u : Ty). exact u (partOf buffer r)) (spot-type r (P .0) (L .spot) (L .found) (passes-tidy Y (P .1))) ∙ not-true _ (W .misfit)))
+        (misfit (L .spot) (L .found) (Q .within .0) (not-exact (L .spot .slot .member .ty) (partOf buffer r)
+        (λ w. W .misfit (subst (λ (t : Ty). IsValue t (partOf buffer r)) (spot-type r (P .0) (L .spot) (L .found) (passes-tidy Y (P .1))) w))))
 
 module _ (T : List ℕ) (type : ℕ) (buffer : List ℕ) (rs : List Row) (i : ℕ) (right : faults T ≡ fine) (there : noTop T type ≡ false) where
   tidy-plan : Tidy T buffer (plan T type)
@@ -389,5 +396,5 @@ module _ (T : List ℕ) (type : ℕ) (buffer : List ℕ) (rs : List Row) (right 
       judged-fit : {ss : List Slot} {rs : List Row} {gs : List Given} → All (Fit T) ss → Judged buffer ss rs gs → All (RowFits T buffer) rs
       judged-fit end over = end
       judged-fit (more {a = s} f F) (taken {r = r} e i x K) =
-          more {a = r} (ap (λ (t : Ty). exact t (partOf buffer r)) (ap (memberTy T (trees T)) e ∙ sym (f .typed)) ∙ x) (judged-fit F K)
+          more {a = r} (subst (λ (t : Ty). IsValue t (partOf buffer r)) (f .typed ∙ ap (memberTy T (trees T)) (sym e)) (exact-is (s .member .ty) (partOf buffer r) x)) (judged-fit F K)
       judged-fit (more f F) (missed d K) = judged-fit F K

@@ -4,7 +4,7 @@
 --   SmallRow              the numbers of a row
 --   rows-back             rows that stand at the front of a list are read back from it
 --   accepted-rows-small   of every message that the rules accept
-use mathlib.Core.Path.{_≡_, refl, sym, ap, ap₂, _∙_}
+use mathlib.Core.Path.{_≡_, refl, ap, ap₂, _∙_, subst}
 use mathlib.Core.Bool.{Bool, true, false}
 use mathlib.Core.List.{List, [], _∷_, _++_, map, append-assoc}
 use Prim.Native.Nat.{ℕ, suc, _+_, _*_, _≤_, _<_}
@@ -13,11 +13,11 @@ use lib.ListN.{length, take, length-append}
 use lib.Seq.{take-at, drop-at}
 use lib.Dec.{ltb}
 use borrow.Author.Tests.{ltb-true, ltb-false}
-use Rattle.encoding.specs.Result.{ok, concat, fail}
-use Rattle.encoding.specs.Number.{val, leBytes}
-use Rattle.encoding.specs.NumberLaws.{Bytes, length-leBytes, val-leBytes}
-use Rattle.encoding.specs.Types.{Ty, broken}
-use Rattle.encoding.specs.Value.{value, whole, exact}
+use Rattle.encoding.specs.Result.{ok, concat}
+use Rattle.encoding.specs.Number.{Bytes, val, leBytes}
+use Rattle.encoding.specs.NumberLaws.{length-leBytes, val-leBytes}
+use Rattle.encoding.specs.Types.{Ty}
+use Rattle.encoding.specs.Grammar.{IsValue}
 use Rattle.encoding.specs.Table.{at, members, memberTy, trees, range, fine, faults}
 use Rattle.encoding.specs.TableLaws.{member-past}
 use Rattle.encoding.specs.RuleLaws.{members-most}
@@ -86,17 +86,14 @@ rows-back L x v e = rows-behind L x [] v 0 e refl
 -- ---- the rows of an accepted message
 
 -- no bytes are a value of a member that the table has not
-member-there : (T : List ℕ) (m : ℕ) (b : List ℕ) → exact (memberTy T (trees T) m) b ≡ true → m < members T
-unfolding exact whole value fail
-member-there T m b h = go (ltb m (members T)) refl
+member-there : (T : List ℕ) (m : ℕ) (b : List ℕ) → IsValue (memberTy T (trees T) m) b → m < members T
+unfolding IsValue
+member-there T m b w = go (ltb m (members T)) refl
   where
     go : (q : Bool) → ltb m (members T) ≡ q → m < members T
     go true e = ltb-true m (members T) e
     go false e =
-        let t : memberTy T (trees T) m ≡ broken = member-past T m (trees T) (ltb-false m (members T) e) in
-        let f : true ≡ false = sym h ∙ ap (λ (t : Ty). exact t b) t in
-        let z : _≡_ {A = ℕ} 0 1 = cc in
-        absurd (omega arith)
+        absurd (subst (λ (t : Ty). IsValue t b) (member-past T m (trees T) (ltb-false m (members T) e)) w)
 
 rows-small : (T : List ℕ) → faults T ≡ fine → (m : List ℕ) → length m ≤ limit → {rs : List Row} → All (RowExact T m) rs → All SmallRow rs
 rows-small T right m h end = end

@@ -19,7 +19,7 @@ use Rattle.encoding.specs.ResultLaws.{some≢none}
 use Rattle.encoding.specs.Number.{leBytes}
 use Rattle.encoding.specs.NumberLaws.{length-leBytes}
 use Rattle.encoding.specs.Types.{Ty}
-use Rattle.encoding.specs.Value.{exact}
+use Rattle.encoding.specs.Grammar.{IsValue}
 use Rattle.encoding.specs.Table.{mark, Member, memberTy, trees, ownRows, requiredOf, optionalOf, lookup, chain}
 use Rattle.encoding.specs.Table
 use Rattle.encoding.specs.Optional.{Piece, required, optional, skipped, frontBytes, contentBytes, pieceBytes}
@@ -162,12 +162,12 @@ required-found T t = all-map (λ x F. F .1) (required-from T (trees T) 0 (ownRow
 module _ (T m : List ℕ) where
   -- the row of a piece's content, of a member whose value it is, and rows behind it
   listed-exact : {o : Option Member} {x : Member} (at : ℕ) (b : List ℕ) {rs : List Row} → o ≡ some x → x .ty ≡ memberTy T (trees T) (x .row)
-      → exact (x .ty) b ≡ true → Stands m at b → All (RowExact T m) rs → All (RowExact T m) (listRow o at b rs)
+      → IsValue (x .ty) b → Stands m at b → All (RowExact T m) rs → All (RowExact T m) (listRow o at b rs)
   unfolding listRow
   listed-exact {x = x} at b q e h S R = rw q (more row R)
     where
       row : RowExact T m (record { member = x .row; place = at; len = length b })
-      row = record { inside = stands-inside b S; one = rw (stands-there b S) (subst (λ (u : Ty). exact u b ≡ true) e h) }
+      row = record { inside = stands-inside b S; one = rw (stands-there b S) (subst (λ (u : Ty). IsValue u b) e h) }
 
   module _ (p : Piece) (ps : List Piece) (at : ℕ) (S : Stands m at (concat pieceBytes (p ∷ ps))) where
     pub content-stands : Stands m (at + length (frontBytes p)) (contentBytes p)

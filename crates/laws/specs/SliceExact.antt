@@ -21,8 +21,8 @@ use lib.Dec.{eqb, ltb}
 use borrow.Author.Tests.{not-true, not-false, eqb-false, ltb-false, ne-eqb}
 use Rattle.encoding.specs.Result.{ok, Parser, pick, pure, fail, must, mapc, inside, firstOf, sameBytes}
 use Rattle.encoding.specs.ResultLaws.{ok≢bad, some≢none, both-true, both-false, either-false, sameBytes-ok, sameBytes-same, bind-step, bind-written, pure-ok, must-step, mapc-ok, mapc-step, inside-ok, inside-step, firstOf-ok}
-use Rattle.encoding.specs.Number.{byte, declared, leBytes, sizeBytes, Content, string, stringBytes}
-use Rattle.encoding.specs.NumberLaws.{Bytes, bytes-end, bytes-take, bytes-drop, byte-written, byte-canonical, length-leBytes, declared-written, declared-canonical, string-written, string-canonical}
+use Rattle.encoding.specs.Number.{Bytes, Short, byte, declared, leBytes, sizeBytes, Content, string, stringBytes}
+use Rattle.encoding.specs.NumberLaws.{bytes-end, bytes-take, bytes-drop, byte-written, byte-canonical, length-leBytes, declared-written, declared-canonical, string-written, string-canonical}
 use Rattle.encoding.specs.Table.{nameOf, named, base, upward, chain, any}
 use Rattle.encoding.specs.RuleLaws.{named-ok, chain-node}
 use Rattle.encoding.specs.Optional.{Piece}
@@ -30,7 +30,8 @@ use Rattle.encoding.specs.Slice.{Format, compact, sliced, isSliced, Slice, know
 use Rattle.encoding.specs.SliceLaws.{walk-ended, walk-on}
 use Rattle.encoding.specs.WalkLaws
 use Rattle.encoding.specs.WalkLaws.{Heads, head-ok, heads-later, Sliced, slice-ok, slice-step, Walk, walk-of}
-use Rattle.encoding.specs.Conform.{Short, Owned, Follow, Passed, Slices}
+use Rattle.encoding.specs.Grammar.{InString}
+use Rattle.encoding.specs.Conform.{Owned, Follow, Passed, Slices}
 use Rattle.laws.specs.OptionalExact.{fields-written, fields-canonical}
 
 -- ---- flags
@@ -124,9 +125,13 @@ front g s opt last nm = flagBits g (due s g) opt last ∷ pick (due s g) (string
 abbrev headOf : Format → Bool → Bool → List ℕ → Head
 headOf g opt last nm = record { format = g; optionals = opt; last = last; id = nm }
 
+content-any : (nm : List ℕ) → Content nm ≡ 0
+unfolding Content
+content-any nm = refl
+
 -- a type ID where one is due
 abbrev pub Given : Bool → (List ℕ → ℕ) → List ℕ → Type 0
-Given true form nm = (Content nm ≡ 0) × Short (length nm) × (form nm ≡ 0)
+Given true form nm = InString nm × (form nm ≡ 0)
 Given false form nm = Unit {0}
 
 module _ (s : Stand) (form : Format → List ℕ → ℕ) where
@@ -136,7 +141,7 @@ module _ (s : Stand) (form : Format → List ℕ → ℕ) where
 
   id-written : (q : Bool) (g : Format) (nm r : List ℕ) → Given q (form g) nm → pick q (must (form g) string) (pure []) (pick q (stringBytes nm) [] ++ r) ≡ ok (pick q nm []) (length (pick q (stringBytes nm) []))
   unfolding pure
-  id-written true g nm r G = must-step string (stringBytes nm ++ r) (form g) (string-written nm r (G .0) (G .1)) (G .2)
+  id-written true g nm r G = must-step string (stringBytes nm ++ r) (form g) (string-written nm r (content-any nm) (G .0 .length-short)) (G .1)
   id-written false g nm r G = refl
 
   pub head-written : (g : Format) (opt last : Bool) (nm r : List ℕ) → Agrees s g → Given (due s g) (form g) nm
@@ -159,7 +164,7 @@ module _ (s : Stand) (form : Format → List ℕ → ℕ) where
 
   id-canonical : (q : Bool) (g : Format) (xs : List ℕ) → Bytes xs → {nm : List ℕ} {n : ℕ} → pick q string (pure []) xs ≡ ok nm n → (q ≡ true → form g nm ≡ 0)
       → (take n xs ≡ pick q (stringBytes nm) []) × Given q (form g) nm
-  id-canonical true g xs y h j = let S = string-canonical xs y h in (S .0, (S .1, S .2, j refl))
+  id-canonical true g xs y h j = let S = string-canonical xs y h in (S .0, (record { length-short = S .2 }, j refl))
   id-canonical false g xs y h j = (ap (λ (i : ℕ). take i xs) (pure-ok [] xs h .1), tt)
 
   pub head-canonical : (xs : List ℕ) → Bytes xs → {h : Head} {n : ℕ} → head s form xs ≡ ok h n → Fronted h (take n xs)
@@ -311,7 +316,7 @@ module _ (T : List ℕ) (top : ℕ) (xs : List ℕ) (y : Bytes xs) (sh : Short (
   -- an unknown type ID stands in sliced format
   passed-format : (s : Stand) (g : Format) (nm : List ℕ) → Ready (seek s) → Agrees s g → Given (due s g) (idForm T (seek s) g) nm → named T nm ≡ none → g ≡ sliced
   unfolding idForm isNone
-  passed-format s g nm R a G e = go s R a (subst (λ (q : Bool). Given q (idForm T (seek s) g) nm) (ready-due s g R a) G .2)
+  passed-format s g nm R a G e = go s R a (subst (λ (q : Bool). Given q (idForm T (seek s) g) nm) (ready-due s g R a) G .1)
     where
       form : (g : Format) (q : Bool) → q ≡ true → _≡_ {A = ℕ} (pick (not (isSliced g) && q) 15 0) 0 → g ≡ sliced
       form compact true e h = absurd (omega arith)
@@ -333,7 +338,7 @@ module _ (T : List ℕ) (top : ℕ) (xs : List ℕ) (y : Bytes xs) (sh : Short (
       let G = subst (λ (q : Bool). Given q (idForm T (seek s) (h .format)) (h .id)) (ready-due s (h .format) R (F .agrees)) (F .given) in
       subst (λ (r : Slice × Stage). Taken T top (take k xs ++ take m (drop k xs)) (seek s) (r .0) (r .1)) (sym (M .2)) (record {
         agrees = subst (Agrees s) fm (F .agrees);
-        unknown = record { format = refl; unknown = e; content = G .0; short = G .1; shorter = omega (arith, D .2) };
+        unknown = record { format = refl; unknown = e; id = G .0; data-short = omega (arith, D .2) };
         spelt = ap₂ _++_ (F .spelt ∙ ap (λ (g : Format). front g s (h .optionals) (h .last) (h .id)) fm ∙ ap (λ (l : Bool). front sliced s (h .optionals) l (h .id)) last) (D .0)
             ∙ sym (slice-bytes sliced s false (passed (h .optionals) (h .id) (M .0)));
         behind = refl;
@@ -398,15 +403,11 @@ module _ (T : List ℕ) (top : ℕ) (xs : List ℕ) (y : Bytes xs) (sh : Short (
 
 -- ---- one slice, as encoded
 
-pub content-any : (nm : List ℕ) → Content nm ≡ 0
-unfolding Content
-content-any nm = refl
-
 -- a type ID in bytes that an int can count is one
 given-short : (q : Bool) (form : List ℕ → ℕ) (nm w : List ℕ) (f : ℕ) → Short (length ((f ∷ pick q (stringBytes nm) []) ++ w)) → form nm ≡ 0 → Given q form nm
 unfolding stringBytes
 given-short true form nm w f sh z =
-    (content-any nm, omega (arith, length-append (sizeBytes (length nm) ++ nm) w, length-append (sizeBytes (length nm)) nm), z)
+    (record { length-short = omega (arith, length-append (sizeBytes (length nm) ++ nm) w, length-append (sizeBytes (length nm)) nm) }, z)
 given-short false form nm w f sh z = tt
 
 module _ (T : List ℕ) (top : ℕ) where

@@ -10,14 +10,14 @@ use Prim.Native.Nat.{ℕ, suc, _<_}
 use native.Mathlib.Omega.{arith}
 use lib.ListN.{length, length-append}
 use Rattle.encoding.specs.ResultLaws.{some≢none}
+use Rattle.encoding.specs.Number.{Short}
 use Rattle.encoding.specs.Table.{types, kind, isRecord, nameOf, named, base, upward, chain}
 use Rattle.encoding.specs.RuleLaws.{base-right, named-short, named-ok, named-at, chain-node}
 use Rattle.encoding.specs.Slice.{Format, sliced, Slice, known, passed, Stand, later, idOf, dataBytes, sliceFront, isLast, slicesBytes}
-use Rattle.encoding.specs.Conform.{Short, Follow, Slices}
+use Rattle.encoding.specs.Conform.{Follow, Slices}
 use Rattle.encoding.specs.Extends.{Extends}
 use Rattle.laws.specs.Demands.{firstId}
 use Rattle.laws.specs.Lose.{loseKnown, loseSlice}
-use Rattle.laws.specs.SliceExact.{content-any}
 use Rattle.laws.specs.OptionalNewer.{owned-newer}
 use Rattle.laws.specs.RecordNewer.{Pair, Bases, neither, both, bases-of, pair-named, named-both, named-only, Descends, Line, here, above, descends-ok, descends-newer}
 
@@ -76,7 +76,7 @@ module _ (old new : List ℕ) (X : Extends old new) where
             go₂ (above v q w) =
                 let W = base-right new (X .new-right) u l r v q in
                 let i = named-short new (X .new-right) o u (ap (named new) (G .0) ∙ named-at new (X .new-right) u l r) in (
-                  record { format = fit e; unknown = e; content = content-any o; short = omega (arith, i); shorter = short .0 },
+                  record { format = fit e; unknown = e; id = record { length-short = omega (arith, i) }; data-short = short .0 },
                   ih v (omega (arith, W .0)) (ap (λ (k : ℕ). isRecord k) (W .1) ∙ r) w (subst (λ (c : ℕ). Follow new (upward (chain new) c) ss) q (G .2)) (short .1) (λ z. fit e),
                 )
 
@@ -85,7 +85,7 @@ module _ (old new : List ℕ) (X : Extends old new) where
     unfolding loseSlice
     slices-newer [] g s C h fit = absurd C
     slices-newer (passed b nm d ∷ ss) g s C h fit = (
-      record { format = C .0 .format; unknown = go (named old nm) refl; content = C .0 .content; short = C .0 .short; shorter = C .0 .shorter },
+      record { format = C .0 .format; unknown = go (named old nm) refl; id = C .0 .id; data-short = C .0 .data-short },
       slices-newer ss g (later g) (C .1) (rest-short g s (passed b nm d) ss h .1) (λ z. C .0 .format),
     )
       where

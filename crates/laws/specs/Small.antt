@@ -11,8 +11,7 @@ use native.Mathlib.Omega.{arith}
 use lib.ListN.{length, length-append}
 use lib.Dec.{ltb}
 use Rattle.encoding.specs.Result.{ok, pick, concat}
-use Rattle.encoding.specs.Number.{sizeBytes}
-use Rattle.encoding.specs.NumberLaws.{Bytes}
+use Rattle.encoding.specs.Number.{Bytes, sizeBytes}
 use Rattle.encoding.specs.Types.{Bits, bits}
 use Rattle.encoding.specs.Table.{types}
 use Rattle.encoding.specs.RuleLaws.{named-ok, types-most}

@@ -1,36 +1,41 @@
--- A value of a type is exactly a byte string of the grammar of values: by the type, each by the law of its combinator.
+-- A value of a type is exactly a string of the grammar of values, and an extent one of the grammar of extents: by the type, each by the law of its combinator.
 --
 --   takes-value, takes-values   the readers of values take the strings of the grammar, and no others
---   exact-values                the bytes of exactly one value of a type are a string of the grammar
-use mathlib.Core.Path.{_≡_, subst}
-use mathlib.Core.List.{List, [], append-nil}
+--   exact-is, is-exact          the bytes of exactly one value are a string of the grammar, and the other way round
+--   takes-extent                the reader of extents, likewise
+--   exact-values, exact-extents the two promises
+use mathlib.Core.Path.{_≡_, refl, subst}
+use mathlib.Core.Bool.{true}
+use mathlib.Core.List.{List, [], _++_, append-nil}
 use Prim.Native.Nat.{ℕ}
+use native.Mathlib.Omega.{arith}
 use lib.ListN.{length}
 use lib.Seq.{take-length}
-use Rattle.encoding.specs.ResultLaws.{pick-true}
-use Rattle.encoding.specs.Types.{Allowed, allows, width, Ty, Tys, nil, cons, broken, bool, byte, string, proxy, num, enum, struct, seq, dict}
-use Rattle.encoding.specs.Value.{enumForm, value, values}
+use Rattle.encoding.specs.Result.{Parser, ok, chunk, mapc, bytes}
+use Rattle.encoding.specs.ResultLaws.{pick-true, bytes-ok, bytes-step, mapc-ok, mapc-step}
+use Rattle.encoding.specs.Types.{Allowed, allows, width, Ty, Tys, nil, cons, broken, bool, byte, string, proxy, num, enum, struct, seq, dict, Bits, f1, f2, f4, f8, size, vsize, fsize, class}
+use Rattle.encoding.specs.Value.{enumForm, value, values, exact}
 use Rattle.encoding.specs.ValueLaws.{exact-ok, exact-step}
-use Rattle.laws.specs.Grammar.{IsEnum, enumerator, IsValue, AreValues}
-use Rattle.laws.specs.Demands.{ExactValues}
-use Rattle.laws.specs.GrammarLaws.{Takes, reads-as, reads-must, takes-map, takes-then, takes-fail, takes-skip, takes-pure, takes-counted, IsSize, is-size, reads-size}
+use Rattle.encoding.specs.Optional.{extent}
+use Rattle.encoding.specs.Grammar.{IsInt, IsSize, Run, IsEnum, enumerator, IsValue, AreValues, IsSizeAlone, alone, IsVSize, behind-size, IsFSize, behind-int, IsExtent}
+use Rattle.laws.specs.Demands.{ExactValues, ExactExtents}
+use Rattle.laws.specs.GrammarLaws.{Reads, Takes, reads-as, reads-must, takes-map, takes-then, reads-fail, reads-chunk, takes-skip, takes-pure, takes-counted, reads-size, SizeThen, after-size, reads-sized, IntThen, after-int, reads-declared}
 use Rattle.laws.specs.ProxyExact.{takes-text, takes-bool, takes-proxy}
+
+-- ---- values
 
 takes-enum : (g : Allowed) → Takes (value (enum g)) (IsEnum g)
 unfolding value enumForm
-takes-enum g = reads-as (λ _ b w. onward (w .0) (w .1 .0) (w .1 .1)) (λ _ b w. back w) (takes-map (reads-must (enumForm g) reads-size))
+takes-enum g = reads-as (λ _ b w. enumerator (pick-true (allows g (w .0)) 8 (w .1 .0)) (w .1 .1)) (λ _ b w. back w) (takes-map (reads-must (enumForm g) reads-size))
   where
-    onward : (n : ℕ) {b : List ℕ} → enumForm g n ≡ 0 → IsSize n b → IsEnum g b
-    onward n e (is-size s) = enumerator (pick-true (allows g n) 8 e) s
-
     back : {b : List ℕ} → IsEnum g b → (n : ℕ) × ((enumForm g n ≡ 0) × IsSize n b)
-    back (enumerator {n} a s) = (n, (rw a, is-size s))
+    back (enumerator {n} a s) = (n, (rw a, s))
 
 mutual
   unfolding value values IsValue AreValues
 
   pub takes-value : (t : Ty) → Takes (value t) (IsValue t)
-  takes-value broken = takes-fail 1
+  takes-value broken = reads-fail 1
   takes-value bool = takes-bool
   takes-value byte = takes-skip 1
   takes-value string = takes-text
@@ -45,8 +50,58 @@ mutual
   takes-values nil = takes-pure
   takes-values (cons t ts) = takes-then (takes-value t) (takes-values ts)
 
+pub exact-is : (t : Ty) (b : List ℕ) → exact t b ≡ true → IsValue t b
+exact-is t b h = subst (IsValue t) (take-length b) (takes-value t .canonical b tt (length b) (exact-ok t b h))
+
+pub is-exact : (t : Ty) (b : List ℕ) → IsValue t b → exact t b ≡ true
+is-exact t b w = exact-step t b (rw append-nil at (takes-value t .written tt b w []))
+
 pub exact-values : ExactValues
-exact-values t b y = (
-  λ h. subst (IsValue t) (take-length b) (takes-value t .canonical b y tt (length b) (exact-ok t b h)),
-  λ w. exact-step t b (rw append-nil at (takes-value t .written tt b w [])),
-)
+exact-values t b = (exact-is t b, is-exact t b)
+
+-- ---- extents
+
+takes-run : (k : ℕ) → Takes (mapc (λ _ _. tt) (chunk k (λ b. b))) (Run k)
+takes-run k = reads-as (λ _ b w. w .1 .1) (λ _ b w. (b, (refl, w))) (takes-map (reads-chunk k (λ b. b)))
+
+-- the bytes of a reader, dropped
+takes-bytes : {A : Type 0} {p : Parser A} {P : A → List ℕ → Type 0} → Reads p P → Takes (mapc (λ _ _. tt) (bytes p)) (λ b. (a : A) × P a b)
+takes-bytes {p = p} R = record {
+  canonical = λ xs c n h. let M = bytes-ok p xs (mapc-ok (bytes p) xs (λ _ _. tt) h .1) in (M .0, R .canonical xs (M .0) n (M .1));
+  written = λ c b w r. mapc-step (bytes p) (b ++ r) (λ _ _. tt) (bytes-step p (b ++ r) (R .written (w .0) b (w .1) r));
+}
+
+pub takes-extent : (k : Bits) → Takes (mapc (λ _ _. tt) (extent k)) (IsExtent k)
+unfolding extent
+takes-extent f1 = takes-run 1
+takes-extent f2 = takes-run 2
+takes-extent f4 = takes-run 4
+takes-extent f8 = takes-run 8
+takes-extent size = reads-as (λ _ b w. alone (w .1)) (λ _ b w. back w) (takes-bytes reads-size)
+  where
+    back : {b : List ℕ} → IsSizeAlone b → (n : ℕ) × IsSize n b
+    back (alone {n} s) = (n, s)
+takes-extent vsize = reads-as (λ _ b w. onward (w .0) (w .1)) (λ _ b w. back w) (takes-map reads-sized)
+  where
+    onward : (d : List ℕ) {b : List ℕ} → SizeThen d b → IsVSize b
+    onward d (after-size s) = behind-size d s
+
+    back : {b : List ℕ} → IsVSize b → (d : List ℕ) × SizeThen d b
+    back (behind-size d s) = (d, after-size s)
+takes-extent fsize = reads-as (λ _ b w. onward (w .0) (w .1)) (λ _ b w. back w) (takes-map (reads-declared 1 0 (omega arith)))
+  where
+    onward : (d : List ℕ) {b : List ℕ} → IntThen 1 0 d b → IsFSize b
+    onward d (after-int {a} l i) = behind-int d (omega arith) (subst (λ (n : ℕ). IsInt n a) (omega arith) i)
+
+    back : {b : List ℕ} → IsFSize b → (d : List ℕ) × IntThen 1 0 d b
+    back (behind-int {a} d l i) = (d, after-int (omega arith) (subst (λ (n : ℕ). IsInt n a) (omega arith) i))
+takes-extent class = reads-as (λ _ b w. w .1) (λ _ b w. absurd w) (takes-map (reads-fail 13))
+
+pub extent-is : (k : Bits) (b : List ℕ) (d : List ℕ) → extent k b ≡ ok d (length b) → IsExtent k b
+extent-is k b d h = subst (IsExtent k) (take-length b) (takes-extent k .canonical b tt (length b) (mapc-step (extent k) b (λ _ _. tt) h))
+
+pub is-extent : (k : Bits) (b : List ℕ) → IsExtent k b → (d : List ℕ) × (extent k b ≡ ok d (length b))
+is-extent k b w = let M = mapc-ok (extent k) b (λ _ _. tt) (rw append-nil at (takes-extent k .written tt b w [])) in (M .0, M .1)
+
+pub exact-extents : ExactExtents
+exact-extents k b = ((λ w. extent-is k b (w .0) (w .1)), is-extent k b)

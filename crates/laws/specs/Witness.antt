@@ -8,7 +8,7 @@ use native.Mathlib.Omega.{arith}
 use lib.Dec.{leb}
 use borrow.Author.Tests.{leb-false}
 use Rattle.encoding.specs.ResultLaws.{either-false}
-use Rattle.encoding.specs.NumberLaws.{Bytes}
+use Rattle.encoding.specs.Number.{Bytes}
 use Rattle.encoding.specs.Table.{any, types, kind, isRecord}
 use Rattle.encoding.specs.Optional.{required}
 use Rattle.encoding.specs.Slice.{Format, sliced, isSliced, known}

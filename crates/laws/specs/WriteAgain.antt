@@ -16,7 +16,7 @@ use lib.Dec.{leb}
 use borrow.Author.Tests.{leb-true, leb-false, ne-eqb}
 use Rattle.encoding.specs.Result.{pick, concat}
 use Rattle.encoding.specs.Types.{Form}
-use Rattle.encoding.specs.Value.{exact}
+use Rattle.encoding.specs.Grammar.{IsValue}
 use Rattle.encoding.specs.Table.{kind, fine, faults, chain, Member, lookup}
 use Rattle.encoding.specs.Table
 use Rattle.encoding.specs.RuleLaws.{named-ok}
@@ -28,6 +28,7 @@ use Rattle.encoding.specs.Write.{Slot, rising, slot, slots, planOf, plan, out, 
 use Rattle.encoding.specs.Conform.{Level, Owned, Follow, Slices, Conform}
 use Rattle.laws.specs.Demands.{Follows, All, more, SameMembers, same-member, Complete, WriteAgain, WriteSame, OneMessage}
 use Rattle.laws.specs.OptionalNewer.{lookup-key}
+use Rattle.laws.specs.ValueExact.{is-exact}
 use Rattle.laws.specs.RowsExact.{Stands, stands-first, stands-next, stands-inside, stands-there, stands-encapsulated, content-stands, others-stand, data-stand, slices-stand, Found, required-found}
 use Rattle.laws.specs.MessageExact.{exact-message}
 use Rattle.laws.specs.RowsBack.{rows-back, accepted-rows-small}
@@ -85,14 +86,14 @@ pieces-given t (p ∷ ps) = ap (λ (l : List Piece). p ∷ l) (pieces-given t ps
 
 module _ (T m : List ℕ) (t : ℕ) where
   -- a row of content that stands in the message chooses its slot
-  row-taken : (s : Slot) (g : Given) (at : ℕ) (b : List ℕ) {ss : List Slot} {rs : List Row} {gs : List Given} → givenOf s b ≡ g → exact (s .member .ty) b ≡ true → Stands m at b
+  row-taken : (s : Slot) (g : Given) (at : ℕ) (b : List ℕ) {ss : List Slot} {rs : List Row} {gs : List Given} → givenOf s b ≡ g → IsValue (s .member .ty) b → Stands m at b
       → Judged m ss rs gs → Judged m (s ∷ ss) (record { member = s .member .row; place = at; len = length b } ∷ rs) (g ∷ gs)
   unfolding partOf
-  row-taken s g at b {ss} {rs} {gs} e x S K =
+  row-taken s g at b {ss} {rs} {gs} e w S K =
       let r : Row = record { member = s .member .row; place = at; len = length b } in
       let p : partOf m r ≡ b = stands-there b S in
       subst (λ (h : Given). Judged m (s ∷ ss) (r ∷ rs) (h ∷ gs)) (ap (givenOf s) p ∙ e)
-      (taken {r = r} refl (stands-inside b S) (ap (exact (s .member .ty)) p ∙ x) K)
+      (taken {r = r} refl (stands-inside b S) (is-exact (s .member .ty) (partOf m r) (subst (IsValue (s .member .ty)) (sym p) w)) K)
 
   missed-optionals : (os : List Member) → Judged m (map (slot t false) os) [] []
   unfolding slot

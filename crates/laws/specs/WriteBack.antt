@@ -26,6 +26,7 @@ use Rattle.encoding.specs.Write
 use Rattle.encoding.specs.Write.{Slot, rising, slot, slots, planOf, plan, Given, partOf, piecesOf, slicesOf, gathered, noFormat, formatOf}
 use Rattle.encoding.specs.Conform.{Level, Owned, Follow, Slices, Conform}
 use Rattle.laws.specs.Demands.{readAs, All, end, more, SameMembers, no-members, same-member, Below, rowList, Complete, ReadBack}
+use Rattle.laws.specs.ValueExact.{exact-is}
 use Rattle.laws.specs.RowsExact.{Stands, stands-first, stands-next, stands-there, stands-encapsulated, content-stands, others-stand, data-stand, slices-stand}
 use Rattle.laws.specs.RecordNewer.{Line, here, above, descends-ok}
 use Rattle.laws.specs.MessageExact.{rules-written}
@@ -47,14 +48,14 @@ module _ (T : List ℕ) (t : ℕ) (buffer : List ℕ) where
       found = f .finds;
       rises = l;
       form = refl;
-      one = x;
-      short = f .short refl;
-      shorter = omega (arith, part-length buffer r i);
+      one = exact-is (d .ty) (partOf buffer r) x;
+      tag-short = f .short refl;
+      length-short = omega (arith, part-length buffer r i);
     },
     judged-level h [] os (suc (d .key)) P p F K,
   )
   judged-level h [] (d ∷ os) least (before p P) (more l L) (more f F) (missed q K) = judged-level h [] os least P L F K
-  judged-level h (m ∷ ms) os least P L F (taken e i x K) = (refl, x, judged-level h ms os least P L F K)
+  judged-level h (m ∷ ms) os least P L F (taken {r = r} e i x K) = (refl, exact-is (m .ty) (partOf buffer r) x, judged-level h ms os least P L F K)
   judged-level h (m ∷ ms) os least P L F (missed q K) = absurd (true≢false q)
 
   judged-rows : (m : List ℕ) {ss : List Slot} {rs : List Row} {gs : List Given} → All (λ (s : Slot). Fit T s × (s .owner ≡ t)) ss → Judged buffer ss rs gs

@@ -1,0 +1,147 @@
+-- The grammars of values and of extents: which byte strings are a value of a type, and which are what an optional's type declares.
+-- They are stated apart from the readers and the encoder: `ExactValues` and `ExactExtents` promise that the readers take just these strings.
+-- A grammar is a set of strings, `List ℕ → Type 0`; the greater ones are put together from these:
+--
+--   P ⨾ Q           a string of P, then one of Q
+--   Repeats P n     n strings of P, one after another
+--   Run k           k bytes of any content
+--   Below n         one byte, below n
+--   IsInt n         the int n, which is not negative
+--   IsSize n        the size n
+--   Counted P       a size, then that many strings of P
+--   InString t      what a string may hold, said here alone
+--   IsString t      the string t: its size, then its bytes
+--   IsText          any string
+--   IsProxy         a proxy
+--   IsValue t       a value of type t
+--   AreValues ts    values of the types ts, one after another
+--   IsExtent k      what an optional declares whose header has type k
+use mathlib.Core.Path.{_≡_}
+use mathlib.Core.Bool.{true}
+use mathlib.Core.List.{List, [], _∷_, _++_}
+use Prim.Native.Nat.{ℕ, zero, suc, _+_, _≤_, _<_}
+use lib.ListN.{length}
+use Rattle.encoding.specs.Number.{val, Short}
+use Rattle.encoding.specs.Types.{Allowed, allows, width, Ty, Tys, nil, cons, broken, bool, byte, string, proxy, num, enum, struct, seq, dict, Bits, f1, f2, f4, f8, size, vsize, fsize, class}
+
+-- ---- putting grammars together
+
+-- one after the other
+infixr 20 _⨾_
+pub data _⨾_ (P Q : List ℕ → Type 0) : List ℕ → Type 0 where
+  both : {a b : List ℕ} → P a → Q b → (P ⨾ Q) (a ++ b)
+
+-- so many
+pub data Repeats (P : List ℕ → Type 0) : ℕ → List ℕ → Type 0 where
+  none : Repeats P zero []
+  more : {n : ℕ} {a b : List ℕ} → P a → Repeats P n b → Repeats P (suc n) (a ++ b)
+
+-- so many bytes
+abbrev pub Run : ℕ → List ℕ → Type 0
+Run k b = length b ≡ k
+
+-- one byte that is 0, 1, .. up to below n
+pub data Below (n : ℕ) : List ℕ → Type 0 where
+  below : {x : ℕ} → x < n → Below n (x ∷ [])
+
+-- ---- ints and sizes
+
+-- four bytes, the lowest first
+pub record IsInt (n : ℕ) (b : List ℕ) : Type 0 where
+  pub four : length b ≡ 4
+  pub number : val b ≡ n
+  pub short : Short n
+
+-- below 255 one byte; else a byte 255, which no byte exceeds, and an int
+pub data IsSize (n : ℕ) : List ℕ → Type 0 where
+  one-byte : n < 255 → IsSize n (n ∷ [])
+  with-int : {x : ℕ} {b : List ℕ} → 255 ≤ x → 255 ≤ n → IsInt n b → IsSize n (x ∷ b)
+
+-- a size, then that many
+pub data Counted (P : List ℕ → Type 0) : List ℕ → Type 0 where
+  counted : {n : ℕ} {a b : List ℕ} → IsSize n a → Repeats P n b → Counted P (a ++ b)
+
+-- ---- strings and proxies
+
+-- any content, as long as a size can say
+pub record InString (t : List ℕ) : Type 0 where
+  pub length-short : Short (length t)
+
+-- its size, then its bytes
+pub data IsString (t : List ℕ) : List ℕ → Type 0 where
+  spelt : {a : List ℕ} → IsSize (length t) a → InString t → IsString t (a ++ t)
+
+-- a string, whichever it is
+pub data IsText : List ℕ → Type 0 where
+  text : {t b : List ℕ} → IsString t b → IsText b
+
+-- at most one facet
+pub data AreFacets : List ℕ → Type 0 where
+  facets : {n : ℕ} {a b : List ℕ} → n < 2 → IsSize n a → Repeats IsText n b → AreFacets (a ++ b)
+
+-- an encapsulation, kept unopened: an int that counts itself and the bytes after it, a version at least
+pub data IsEncapsulation : List ℕ → Type 0 where
+  encapsulation : {a : List ℕ} (b : List ℕ) → 2 ≤ length b → IsInt (4 + length b) a → IsEncapsulation (a ++ b)
+
+-- endpoints, each a short and an encapsulation; or with count 0 an adapter string
+pub data AreEndpoints : List ℕ → Type 0 where
+  adapter : {a b : List ℕ} → IsSize 0 a → IsText b → AreEndpoints (a ++ b)
+  some : {n : ℕ} {a b : List ℕ} → IsSize (suc n) a → Repeats (Run 2 ⨾ IsEncapsulation) (suc n) b → AreEndpoints (a ++ b)
+
+-- facets, mode, secure, protocol and encoding of two bytes each, endpoints
+abbrev pub IsReference : List ℕ → Type 0
+IsReference = AreFacets ⨾ Below 5 ⨾ Below 2 ⨾ Run 4 ⨾ AreEndpoints
+
+-- identity name, then category; both empty is nil and ends it, an empty name has no category
+pub data IsProxy : List ℕ → Type 0 where
+  is-nil : {a b : List ℕ} → IsString [] a → IsString [] b → IsProxy (a ++ b)
+  is-full : {name category a b c : List ℕ} → 1 ≤ length name → IsString name a → IsString category b → IsReference c → IsProxy (a ++ b ++ c)
+
+-- ---- values
+
+-- an enumerator that the enum has, as a size
+pub data IsEnum (g : Allowed) : List ℕ → Type 0 where
+  enumerator : {n : ℕ} {b : List ℕ} → allows g n ≡ true → IsSize n b → IsEnum g b
+
+-- string: size, then that many bytes; sequence: size, elements; dictionary: size, pairs, order and equal keys kept; struct: its members
+unfoldable mutual
+  pub IsValue : Ty → List ℕ → Type 0
+  IsValue broken = λ b. ⊥
+  IsValue bool = Below 2
+  IsValue byte = Run 1
+  IsValue string = IsText
+  IsValue proxy = IsProxy
+  IsValue (num w) = Run (width w)
+  IsValue (enum g) = IsEnum g
+  IsValue (struct ts) = AreValues ts
+  IsValue (seq t) = Counted (IsValue t)
+  IsValue (dict k v) = Counted (IsValue k ⨾ IsValue v)
+
+  pub AreValues : Tys → List ℕ → Type 0
+  AreValues nil = Run 0
+  AreValues (cons t ts) = IsValue t ⨾ AreValues ts
+
+-- ---- extents
+
+-- any size
+pub data IsSizeAlone : List ℕ → Type 0 where
+  alone : {n : ℕ} {b : List ℕ} → IsSize n b → IsSizeAlone b
+
+-- a size and that many bytes
+pub data IsVSize : List ℕ → Type 0 where
+  behind-size : {a : List ℕ} (b : List ℕ) → IsSize (length b) a → IsVSize (a ++ b)
+
+-- an int, not counting itself, and that many bytes, at least one
+pub data IsFSize : List ℕ → Type 0 where
+  behind-int : {a : List ℕ} (b : List ℕ) → 1 ≤ length b → IsInt (length b) a → IsFSize (a ++ b)
+
+-- F1, F2, F4, F8 are 1, 2, 4, 8 bytes; Size, VSize, FSize as above; Class is refused
+abbrev pub IsExtent : Bits → List ℕ → Type 0
+IsExtent f1 = Run 1
+IsExtent f2 = Run 2
+IsExtent f4 = Run 4
+IsExtent f8 = Run 8
+IsExtent size = IsSizeAlone
+IsExtent vsize = IsVSize
+IsExtent fsize = IsFSize
+IsExtent class = λ b. ⊥
