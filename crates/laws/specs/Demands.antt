@@ -4,6 +4,7 @@
 -- Tables and messages are lists of numbers; a message is one of bytes, `Bytes m`.
 --
 --   ExactTable     a table breaks no rule exactly if it is valid, said by properties apart from the passes that look for a broken rule
+--   OneOwner       each member row of a valid table has exactly one owner, and no owner takes a row that is not there
 --   TablePlace     the place of a broken rule: 0, or the first byte of the first row that is not valid
 --   Exact          demand 2, first sentence: a message is accepted exactly when it is the encoding of pieces that conform, and those are read
 --   ExactRows      each listed row lies in the message, and its bytes are exactly one value of its member's type
@@ -42,7 +43,7 @@ use Rattle.encoding.specs.Types.{Ty, Form, Bits}
 use Rattle.encoding.specs.Value.{exact}
 use Rattle.encoding.specs.Grammar.{IsValue, IsExtent}
 use Rattle.encoding.specs.Table.{types, fine, faults, memberTy, trees, named, any, chain, range, kind, fault, members, Member, lookup}
-use Rattle.encoding.specs.Valid.{Valid, FirstBroken}
+use Rattle.encoding.specs.Valid.{Owner, Valid, FirstBroken}
 use Rattle.encoding.specs.Table
 use Rattle.encoding.specs.Optional.{Piece, required, optional, skipped, extent}
 use Rattle.encoding.specs.Slice.{Format, compact, sliced, formatNumber, Slice, known, passed, idOf}
@@ -56,6 +57,12 @@ use Rattle.encoding.specs.Extends.{Extends, TopsMatch, Counterpart}
 -- Rules out a rule that is left out, and one that is judged too strictly: a table with every property of `Valid` is refused nowhere.
 abbrev pub ExactTable : Type 0
 ExactTable = (T : List ℕ) → (faults T ≡ fine → Valid T) × (Valid T → faults T ≡ fine)
+
+-- Rules out member rows that are shared or left over: what `TakenBefore` says of two owners in turn comes to this.
+abbrev pub OneOwner : Type 0
+OneOwner =
+    (T : List ℕ) → Valid T
+    → ((m : ℕ) → m < members T → (o : ℕ) × Owner T o m × ((q : ℕ) → Owner T q m → q ≡ o)) × ((o m : ℕ) → Owner T o m → m < members T)
 
 -- Rules out a place that is made up, and rows judged in another order.
 abbrev pub TablePlace : Type 0

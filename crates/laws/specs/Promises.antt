@@ -1,6 +1,6 @@
 -- Every promise of `Demands`, with its proof.
-use Rattle.laws.specs.Demands.{ExactTable, TablePlace, Exact, ExactRows, ListedRows, RowsApart, RowsRight, RowsOnce, Unambiguous, ExactCounts, ExactValues, ExactExtents, ReadBack, WriteAgain, OneMessage, RightLists, WrongBytes, RightWritten, TooLong, NewerRead, NewerRefused, NewerReading, OneCounterpart, NewerThere, WriteSame, EarlyRefused, RightMakes}
-use Rattle.laws.specs.TableExact.{exact-table}
+use Rattle.laws.specs.Demands.{ExactTable, OneOwner, TablePlace, Exact, ExactRows, ListedRows, RowsApart, RowsRight, RowsOnce, Unambiguous, ExactCounts, ExactValues, ExactExtents, ReadBack, WriteAgain, OneMessage, RightLists, WrongBytes, RightWritten, TooLong, NewerRead, NewerRefused, NewerReading, OneCounterpart, NewerThere, WriteSame, EarlyRefused, RightMakes}
+use Rattle.laws.specs.TableExact.{exact-table, one-owner}
 use Rattle.laws.specs.TablePlace.{table-place}
 use Rattle.laws.specs.MessageExact.{exact-message, exact-rows}
 use Rattle.laws.specs.RowsListed.{listed-rows}
@@ -17,6 +17,7 @@ use Rattle.laws.specs.Witness.{newer-there}
 
 pub record Promises : Type 0 where
   pub table : ExactTable
+  pub owner : OneOwner
   pub table-at : TablePlace
   pub exact : Exact
   pub rows : ExactRows
@@ -47,6 +48,7 @@ pub record Promises : Type 0 where
 pub promises : Promises
 promises = record {
   table = exact-table;
+  owner = one-owner;
   table-at = table-place;
   exact = exact-message;
   rows = exact-rows;

@@ -7,7 +7,7 @@
 --   turned, rules-turned                           valid rows are in turn, and so are rows that break no rule
 --   owned, owned-taken                             a member row among those taken has an owner, and back
 --   pass-none                                      a pass over rows that break no rule is fine
---   exact-table                                    both directions
+--   exact-table, one-owner                         both directions; each member row has exactly one owner
 use mathlib.Core.Path.{_≡_, refl, sym, ap, ap₂, _∙_, subst}
 use mathlib.Core.Bool.{Bool, true, false, _&&_, _||_, not, true≢false}
 use mathlib.Core.Logic.{⊎-elim}
@@ -24,8 +24,8 @@ use Rattle.encoding.specs.Result.{pick, firstOf, sameBytes}
 use Rattle.encoding.specs.ResultLaws.{both-false, either-false, sameBytes-ok, sameBytes-same}
 use Rattle.encoding.specs.Number.{val, negative}
 use Rattle.encoding.specs.Table.{at, types, members, names, typesAt, rowAt, membersAt, memberAt, namesAt, kind, field, memberType, mark, tag, isRecord, owns, nameOf, range, fine, orElse, faultAt, any, headerTests, headerRules, used, taken, noPart, noBase, alike, typeRules, sumRules, ownerOf, tagAlike, memberRules, pass, passes, faults}
-use Rattle.encoding.specs.RuleLaws.{any-none, record-kind, owns-record, taken-rises, taken-next, turn-owner, header-test, row-test, row-begins, member-row-test, header-right, type-right, taken-whole, member-right}
-use Rattle.laws.specs.Demands.{ExactTable}
+use Rattle.encoding.specs.RuleLaws.{any-none, record-kind, owns-record, taken-rises, taken-next, turn-apart, turn-owner, header-test, row-test, row-begins, member-row-test, header-right, type-right, taken-whole, member-right}
+use Rattle.laws.specs.Demands.{ExactTable, OneOwner}
 use Rattle.encoding.specs.Valid.{RecordKind, is-exception, is-class, OwnerKind, is-struct, is-record, is-parameters, Uses, of-basic, of-enum, of-struct, of-sequence, of-dictionary, of-proxy, of-record, of-parameters, ValuePart, NoOwner, TakenBefore, none-before, last-before, Owner, ValidHeader, TypeZeros, TypeReferences, TypeName, ValidType, ValidMember, Valid}
 
 -- ---- kinds
@@ -445,3 +445,18 @@ sound T S =
 
 pub exact-table : ExactTable
 exact-table T = (valid T, sound T)
+
+pub one-owner : OneOwner
+one-owner T S =
+    let turn = turned T (types T) (S .type) in
+    let sum = taken-ok T (types T) (members T) turn (S .all-taken) in (
+      λ m l.
+          let w = owned T turn (types T) m (omega arith) (omega (arith, sum)) in
+          (w .0, w .1, λ q own. alone turn q (w .0) m own (w .1)),
+      λ o m own. omega (arith, sum, owned-taken T turn o m own),
+    )
+  where
+    alone : InTurn T (types T) → (q o m : ℕ) → Owner T q m → Owner T o m → q ≡ o
+    alone turn q o m Q O =
+        turn-apart T (λ t l e. turn t l (owner-ok (kind T t) e)) q o m (Q .there) (O .there) (owner-step (kind T q) (Q .owner-kind)) (owner-step (kind T o) (O .owner-kind))
+        (Q .from) (Q .to) (O .from) (O .to)
