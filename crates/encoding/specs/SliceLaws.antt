@@ -1,6 +1,7 @@
 -- The laws of the slices of a record: frame, extent and fuel of their readers.
 --
 --   closed-                      of heads, fields, a known slice's data, slices, and the walk over them, what each way of joining readers keeps
+--   someForm-ok, -step           bit 2 of the flags asks for at least one optional
 --   eats-, starved-              of heads and slices
 --   Meant, meant-head            a meaning that is wrong has a refusal's number
 --   walk-ended, walk-on          the walk where the row without a base is read, and where it is not
@@ -39,6 +40,17 @@ unfolding flagForm
 flags-most s f =
     firstOf-most 14 _ _ (omega arith) (firstOf-most 14 _ _ (omega arith) (firstOf-most 14 _ _ (omega arith)
     (firstOf-most 13 _ _ (omega arith) (firstOf-most 13 _ [] (omega arith) firstOf-none))))
+
+-- behind bit 2 at least one optional
+pub someForm-ok : (ps : List Piece) → someForm ps ≡ 0 → 1 ≤ length ps
+unfolding someForm
+someForm-ok [] h = absurd (omega arith)
+someForm-ok (p ∷ ps) h = omega arith
+
+pub someForm-step : (ps : List Piece) → 1 ≤ length ps → someForm ps ≡ 0
+unfolding someForm
+someForm-step [] h = absurd (omega arith)
+someForm-step (p ∷ ps) h = refl
 
 some-most : (ps : List Piece) → someForm ps ≤ 18
 unfolding someForm

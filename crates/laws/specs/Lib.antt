@@ -1,8 +1,5 @@
 -- The laws of reading and writing: `Demands` states the promises, `Promises` has them with their proofs.
-pub mod GrammarLaws
-pub mod ProxyExact
 pub mod Demands
-pub mod ValueExact
 pub mod RowsExact
 pub mod CountsExact
 pub mod RowsMost

@@ -36,10 +36,11 @@ use Rattle.encoding.specs.Optional.{Piece, required, optional, skipped, Header,
 use Rattle.encoding.specs.OptionalLaws.{framed-extent, Sound, held-content, held-header, eats-optional, formOf-sound, part-canonical}
 use Rattle.encoding.specs.Slice
 use Rattle.encoding.specs.Slice.{dataBytes, anyOptional, someForm, fields}
+use Rattle.encoding.specs.SliceLaws.{someForm-ok, someForm-step}
 use Rattle.encoding.specs.Message.{parameters}
 use Rattle.encoding.specs.Grammar.{IsValue, IsExtent}
 use Rattle.encoding.specs.Conform.{Known, Unknown, Level, Owned}
-use Rattle.laws.specs.ValueExact.{takes-value, exact-is, is-exact, takes-extent}
+use Rattle.encoding.specs.ExactLaws.{takes-value, exact-is, is-exact, takes-extent}
 
 -- ---- headers
 
@@ -429,12 +430,17 @@ anyOptional-append (p ∷ a) ps h = go (isOptional p) h (λ z. anyOptional-appen
     go false h ih = ih h
 
 -- of optionals, any is one
-level-some : (os : List Member) (least : ℕ) (ps : List Piece) → Level [] os least ps → someForm ps ≡ pick (anyOptional ps) 0 14
-unfolding anyOptional isOptional someForm
-level-some os least [] L = refl
-level-some os least (required i b ∷ ps) L = absurd L
-level-some os least (optional t f b ∷ ps) L = refl
-level-some os least (skipped t k b ∷ ps) L = refl
+level-some : (os : List Member) (least : ℕ) (ps : List Piece) → Level [] os least ps → 1 ≤ length ps → anyOptional ps ≡ true
+unfolding anyOptional isOptional
+level-some os least [] L h = absurd (omega arith)
+level-some os least (required i b ∷ ps) L h = absurd L
+level-some os least (optional t f b ∷ ps) L h = refl
+level-some os least (skipped t k b ∷ ps) L h = refl
+
+some-there : (ps : List Piece) → anyOptional ps ≡ true → 1 ≤ length ps
+unfolding anyOptional
+some-there [] e = absurd (false≢true e)
+some-there (p ∷ ps) e = omega arith
 
 level-none : (os : List Member) (least : ℕ) (ps : List Piece) → Level [] os least ps → anyOptional ps ≡ false → ps ≡ []
 unfolding anyOptional isOptional
@@ -618,7 +624,7 @@ module _ (T : List ℕ) (t : ℕ) where
           let S = must-ok (optionals atMark (Table.optional T t)) (drop (B .n) xs) someForm (M .1) in
           let O = optionals-canonical atMark (255 ∷ []) atMark-closes (Table.optional T t) (drop (B .n) xs) (bytes-drop (B .n) xs y) (omega (arith, length-drop (B .n) xs)) (S .0) in
           let some : anyOptional (B .fst ++ M .0) ≡ true =
-          anyOptional-append (B .fst) (M .0) (F .none) ∙ pick-true (anyOptional (M .0)) 13 (sym (level-some (Table.optional T t) 0 (M .0) (O .0)) ∙ S .1) in
+          anyOptional-append (B .fst) (M .0) (F .none) ∙ level-some (Table.optional T t) 0 (M .0) (O .0) (someForm-ok (M .0) (S .1)) in
           subst (λ (z : List Piece). Owned T t z × (anyOptional z ≡ true) × (take n xs ≡ concat pieceBytes z ++ pick (anyOptional z) (255 ∷ []) [])) (sym (M .2)) (
             F .level (Table.optional T t) (M .0) (O .0),
             some,
@@ -649,7 +655,7 @@ module _ (T : List ℕ) (t : ℕ) where
           let O : optionals atMark (Table.optional T t) (w ++ (255 ∷ []) ++ r) ≡ ok b (length (w ++ (255 ∷ []))) =
           ap (optionals atMark (Table.optional T t)) (append-assoc w (255 ∷ []) r) ∙ optionals-written atMark atMark-opens (Table.optional T t) b (255 ∷ r) 1 (mark-there r) (omega arith) K
           ∙ ap (ok b) (sym (length-append w (255 ∷ []))) in
-          let some : someForm b ≡ 0 = level-some (Table.optional T t) 0 b K ∙ ap (λ (q : Bool). pick {X = ℕ} q 0 14) e in
+          let some : someForm b ≡ 0 = someForm-step b (some-there b e) in
           rw (concat-append (P .front) b, append-assoc (concat pieceBytes (P .front)) w (255 ∷ []))
           (bind-written (requireds (Table.required T t)) (next true) (concat pieceBytes (P .front)) (w ++ (255 ∷ [])) r
           (P .read (w ++ (255 ∷ []) ++ r))

@@ -24,8 +24,8 @@ use Rattle.encoding.specs.Optional.{Piece, required, optional, skipped, part, l
 use Rattle.encoding.specs.OptionalLaws.{part-extent}
 use Rattle.encoding.specs.Conform.{Known, Unknown, Level, Owned}
 use Rattle.encoding.specs.Extends.{OptionalsMatch, OwnersMatch, typeOf}
+use Rattle.encoding.specs.ExactLaws.{extent-is}
 use Rattle.laws.specs.Lose.{keepOr, losePiece}
-use Rattle.laws.specs.ValueExact.{extent-is}
 use Rattle.laws.specs.OptionalExact.{part-written}
 
 -- ---- members that match

@@ -1,4 +1,5 @@
 -- Every promise of `Demands`, with its proof.
+use Rattle.encoding.specs.ExactLaws.{exact-is, is-exact, extent-is, is-extent}
 use Rattle.laws.specs.Demands.{ExactTable, OneOwner, TablePlace, Exact, ExactRows, ListedRows, RowsApart, RowsRight, RowsOnce, Unambiguous, ExactCounts, ExactValues, ExactExtents, ReadBack, WriteAgain, OneMessage, RightLists, WrongBytes, RightWritten, TooLong, NewerRead, NewerRefused, NewerReading, OneCounterpart, NewerThere, WriteSame, EarlyRefused, RightMakes}
 use Rattle.laws.specs.TableExact.{exact-table, one-owner}
 use Rattle.laws.specs.TablePlace.{table-place}
@@ -7,7 +8,6 @@ use Rattle.laws.specs.RowsListed.{listed-rows}
 use Rattle.laws.specs.RowsApart.{listed-apart}
 use Rattle.laws.specs.RowsRight.{rows-right, rows-once, unambiguous}
 use Rattle.laws.specs.CountsExact.{exact-counts-from}
-use Rattle.laws.specs.ValueExact.{exact-values, exact-extents}
 use Rattle.laws.specs.WriteBack.{read-back}
 use Rattle.laws.specs.WriteAgain.{write-again, write-same, one-message}
 use Rattle.laws.specs.WriterAnswers.{early-refused, right-lists, wrong-bytes, right-makes, too-long-written, right-written}
@@ -58,8 +58,8 @@ promises = record {
   once = rows-once;
   unambiguous = unambiguous;
   counts = exact-counts-from exact-message;
-  values = exact-values;
-  extents = exact-extents;
+  values = λ t b. (exact-is t b, is-exact t b);
+  extents = λ k b. (λ w. extent-is k b (w .0) (w .1), is-extent k b);
   reads-back = read-back;
   writes-again = write-again;
   writes-same = write-same;

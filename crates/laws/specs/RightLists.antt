@@ -30,8 +30,8 @@ use Rattle.encoding.specs.Table.{fine, faults, memberTy, trees}
 use Rattle.encoding.specs.Message.{Row, noTop}
 use Rattle.encoding.specs.Write.{Right, Slot, plan, Chosen, chosen, left, Within, Out, out, stop, next, Given, partOf, prepend}
 use Rattle.encoding.specs.Write
+use Rattle.encoding.specs.ExactLaws.{exact-is, is-exact}
 use Rattle.laws.specs.Demands.{All, end, more, BeginsRight, RowFits, NoneRight, at-row, at-count, TwentyOne}
-use Rattle.laws.specs.ValueExact.{exact-is, is-exact}
 use Rattle.laws.specs.PlanLaws.{Pairs, before, Spot, find, find-left, find-down, find-member, anyDue, givenOf, judgeSlot, judgeSlots, SlotsDiffer, out≢stop, Fitting, judgeSlot-step, missed-all, Judged, over, taken, missed, judged-ok, judged-chosen, judged-within, first-among}
 use Rattle.laws.specs.PlanRules.{Fit, plan-fit, plan-differ, judging, judging-slots}
 

@@ -26,9 +26,9 @@ use Rattle.encoding.specs.Message.{Pieces, list, exception, class, encode, enca
 use Rattle.encoding.specs.MessageLaws.{length-rows}
 use Rattle.encoding.specs.Write.{Slot, rising, slot, slots, planOf, plan, out, Given, partOf, piecesOf, slicesOf, gathered, noFormat, formatOf}
 use Rattle.encoding.specs.Conform.{Level, Owned, Follow, Slices, Conform}
+use Rattle.encoding.specs.ExactLaws.{is-exact}
 use Rattle.laws.specs.Demands.{Follows, All, more, SameMembers, same-member, Complete, WriteAgain, WriteSame, OneMessage}
 use Rattle.laws.specs.OptionalNewer.{lookup-key}
-use Rattle.laws.specs.ValueExact.{is-exact}
 use Rattle.laws.specs.RowsExact.{Stands, stands-first, stands-next, stands-inside, stands-there, stands-encapsulated, content-stands, others-stand, data-stand, slices-stand, Found, required-found}
 use Rattle.laws.specs.MessageExact.{exact-message}
 use Rattle.laws.specs.RowsBack.{rows-back, accepted-rows-small}

@@ -25,8 +25,8 @@ use Rattle.encoding.specs.Message.{Pieces, list, exception, class, encode, enca
 use Rattle.encoding.specs.Write
 use Rattle.encoding.specs.Write.{Slot, rising, slot, slots, planOf, plan, Given, partOf, piecesOf, slicesOf, gathered, noFormat, formatOf}
 use Rattle.encoding.specs.Conform.{Level, Owned, Follow, Slices, Conform}
+use Rattle.encoding.specs.ExactLaws.{exact-is}
 use Rattle.laws.specs.Demands.{readAs, All, end, more, SameMembers, no-members, same-member, Below, rowList, Complete, ReadBack}
-use Rattle.laws.specs.ValueExact.{exact-is}
 use Rattle.laws.specs.RowsExact.{Stands, stands-first, stands-next, stands-there, stands-encapsulated, content-stands, others-stand, data-stand, slices-stand}
 use Rattle.laws.specs.RecordNewer.{Line, here, above, descends-ok}
 use Rattle.laws.specs.MessageExact.{rules-written}

@@ -1,9 +1,9 @@
--- A value of a type is exactly a string of the grammar of values, and an extent one of the grammar of extents: by the type, each by the law of its combinator.
+-- The readers of values and of extents take exactly the strings of their grammars: by the type, each by the law of its combinator.
 --
---   takes-value, takes-values   the readers of values take the strings of the grammar, and no others
---   exact-is, is-exact          the bytes of exactly one value are a string of the grammar, and the other way round
---   takes-extent                the reader of extents, likewise
---   exact-values, exact-extents the two promises
+--   takes-value, takes-values   the readers of values
+--   exact-is, is-exact          exactly one value of a type is a string of the grammar, and the other way round
+--   takes-extent                the reader of extents
+--   extent-is, is-extent        what it takes as a whole is a string of the grammar, and the other way round
 use mathlib.Core.Path.{_≡_, refl, subst}
 use mathlib.Core.Bool.{true}
 use mathlib.Core.List.{List, [], _++_, append-nil}
@@ -11,16 +11,15 @@ use Prim.Native.Nat.{ℕ}
 use native.Mathlib.Omega.{arith}
 use lib.ListN.{length}
 use lib.Seq.{take-length}
 use Rattle.encoding.specs.Result.{Parser, ok, chunk, mapc, bytes}
 use Rattle.encoding.specs.ResultLaws.{pick-true, bytes-ok, bytes-step, mapc-ok, mapc-step}
 use Rattle.encoding.specs.Types.{Allowed, allows, width, Ty, Tys, nil, cons, broken, bool, byte, string, proxy, num, enum, struct, seq, dict, Bits, f1, f2, f4, f8, size, vsize, fsize, class}
 use Rattle.encoding.specs.Value.{enumForm, value, values, exact}
 use Rattle.encoding.specs.ValueLaws.{exact-ok, exact-step}
 use Rattle.encoding.specs.Optional.{extent}
 use Rattle.encoding.specs.Grammar.{IsInt, IsSize, Run, IsEnum, enumerator, IsValue, AreValues, IsSizeAlone, alone, IsVSize, behind-size, IsFSize, behind-int, IsExtent}
-use Rattle.laws.specs.Demands.{ExactValues, ExactExtents}
-use Rattle.laws.specs.GrammarLaws.{Reads, Takes, reads-as, reads-must, takes-map, takes-then, reads-fail, reads-chunk, takes-skip, takes-pure, takes-counted, reads-size, SizeThen, after-size, reads-sized, IntThen, after-int, reads-declared}
-use Rattle.laws.specs.ProxyExact.{takes-text, takes-bool, takes-proxy}
+use Rattle.encoding.specs.GrammarLaws.{Reads, Takes, reads-as, reads-must, takes-map, takes-then, reads-fail, reads-chunk, takes-skip, takes-pure, takes-counted, reads-size, SizeThen, after-size, reads-sized, IntThen, after-int, reads-declared}
+use Rattle.encoding.specs.ProxyLaws.{takes-text, takes-bool, takes-proxy}
 
 -- ---- values
 
@@ -55,9 +54,6 @@ exact-is t b h = subst (IsValue t) (take-length b) (takes-value t .canonical b t
 
 pub is-exact : (t : Ty) (b : List ℕ) → IsValue t b → exact t b ≡ true
 is-exact t b w = exact-step t b (rw append-nil at (takes-value t .written tt b w []))
-
-pub exact-values : ExactValues
-exact-values t b = (exact-is t b, is-exact t b)
 
 -- ---- extents
 
@@ -102,6 +98,3 @@ extent-is k b d h = subst (IsExtent k) (take-length b) (takes-extent k .canonica
 
 pub is-extent : (k : Bits) (b : List ℕ) → IsExtent k b → (d : List ℕ) × (extent k b ≡ ok d (length b))
 is-extent k b w = let M = mapc-ok (extent k) b (λ _ _. tt) (rw append-nil at (takes-extent k .written tt b w [])) in (M .0, M .1)
-
-pub exact-extents : ExactExtents
-exact-extents k b = ((λ w. extent-is k b (w .0) (w .1)), is-extent k b)

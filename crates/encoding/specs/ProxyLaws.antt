@@ -8,13 +8,13 @@ use native.Mathlib.Omega.{arith}
 use lib.ListN.{length, length-append}
 use lib.Dec.{eqb, ltb}
 use borrow.Author.Tests.{ltb-true, ltb-false, lt-ltb, ne-eqb}
 use Rattle.encoding.specs.Result.{pick, pure, must, mapc, times}
 use Rattle.encoding.specs.ResultLaws.{pick-ok, pick-true}
 use Rattle.encoding.specs.Number.{byte, boolForm, bool, declared}
 use Rattle.encoding.specs.Proxy.{identityForm, identity, facetForm, text, facets, modeForm, endpoint, endpoints, versions, reference, proxy}
 use Rattle.encoding.specs.Grammar.{_⨾_, both, Repeats, none, more, Run, Below, IsSize, IsString, IsText, AreFacets, IsEncapsulation, encapsulation, AreEndpoints, adapter, some, IsReference, IsProxy, is-nil, is-full}
 use Rattle.encoding.specs.Grammar
-use Rattle.laws.specs.GrammarLaws.{Reads, Takes, reads-as, reads-must, reads-map, takes-map, reads-bind, takes-next, takes-then, takes-skip, takes-pure, takes-times, takes-below, reads-size, IntThen, after-int, reads-declared, reads-string}
+use Rattle.encoding.specs.GrammarLaws.{Reads, Takes, reads-as, reads-must, reads-map, takes-map, reads-bind, takes-next, takes-then, takes-skip, takes-pure, takes-times, takes-below, reads-size, IntThen, after-int, reads-declared, reads-string}
 
 pub takes-text : Takes text IsText
 unfolding text
