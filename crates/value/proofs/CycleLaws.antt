@@ -11,7 +11,7 @@
 --   element-begin, -next, -fault, -done                      the loop over elements
 --   entry-begin, -next, -fault, -done                        the loop over entries
 --   key-end, pair-none, -wide, -took, -bad                   an entry: its key, then its value
---   value-took-fits .. entries-bad-fits                      what they take, and where they refuse, does not wrap behind the bytes before
+--   value-took-fits .. entries-bad-fits                      what they take, and where they refuse, does not wrap
 --   value-row                                                a row of the table
 --   exact-took, -bad                                         exactly one value
 use mathlib.Core.Path.{_≡_, refl, sym, ap, _∙_}
@@ -42,7 +42,7 @@ use Rattle.wire.specs.declared.Sized.the-variants.{Is, Isnt}
 use Rattle.wire.specs.Steps.{stepOf, sizedOf}
 use Rattle.wire.specs.StepLaws.{rest-is, step-fault, took-held, then-none, then-took, then-bad, with-none, with-took, with-bad, Left, left-begin, left-next, left-fault, left-done, turns-begin, turns-next, turns-fault, turns-done}
 use Rattle.value.specs.Parts.{partTy, isTextBelow, entry}
-use Rattle.value.proofs.Room.{TookFits, took-fits, BadFits, bad-fits}
+use Rattle.wire.proofs.Sums.{TookFits, took-fits, BadFits, bad-fits}
 
 -- ---- a value by its row's kind
 
@@ -230,7 +230,7 @@ module _ (T : List ℕ) (t : ℕ) (s : List ℕ) where
     member-done h = left-done s all tt at (rw (members-none T (tys T t) m left h) at inv)
 
     module _ (h : 0 < left) where
-      -- a member, then those behind it
+      -- a member, then those after it
       more : Left s all (value (memberTy T (tys T t) m) >>= λ _. values (memberTys T (tys T t) (range (m + 1) (left - 1)))) at
       unfolding values
       more = rw (members-more T (tys T t) m left h) at inv
@@ -266,9 +266,9 @@ times-takes p w takes (suc n) xs h =
     bind-step p (λ _. times n p) xs (takes xs (omega arith)) (times-takes p w takes n (drop w xs) (omega (arith, length-drop w xs)))
     ∙ ap (ok tt) (omega arith)
 
--- bytes that are there behind n others
-behind : (s : List ℕ) (n w : ℕ) → w ≤ length s - n → w ≤ length (take (length s - n) (drop n s))
-behind s n w h = rw rest-is (omega (arith, length-drop n s))
+-- bytes that are there after n others
+after-those : (s : List ℕ) (n w : ℕ) → w ≤ length s - n → w ≤ length (take (length s - n) (drop n s))
+after-those s n w h = rw rest-is (omega (arith, length-drop n s))
 
 module _ (s : List ℕ) (r : Sized) (e : r ≡ sizedOf (size s)) where
   pub seq-none : (X : Ty) (f p : ℕ) → r ≡ Isnt f p → Fault f p ≡ stepOf (value (seq X) s)
@@ -284,7 +284,7 @@ module _ (s : List ℕ) (r : Sized) (e : r ≡ sizedOf (size s)) where
   unfolding value stepOf
   seq-wide n k q T shapes f t i g w d h l =
       rw (← g) (with-took size (λ n. times n (value (partTy T t i))) s r e n k q (Took (n * w))
-      (rw (times-takes (value (partTy T t i)) w (below-takes T shapes f t i w d h) n (take (length s - k) (drop k s)) (behind s k (n * w) l))) (n * w) refl)
+      (rw (times-takes (value (partTy T t i)) w (below-takes T shapes f t i w d h) n (take (length s - k) (drop k s)) (after-those s k (n * w) l))) (n * w) refl)
 
   module _ (n k : ℕ) (q : r ≡ Is n k) (a : Step) where
     module _ (T : List ℕ) (t i : ℕ) (g : i ≡ field T t 0) (d : a ≡ stepOf (times n (value (partTy T t i)) (take (length s - k) (drop k s)))) where
@@ -365,7 +365,7 @@ pub pair-wide : (K : Ty) (s : List ℕ) (r : Step) → r ≡ stepOf (value K s) 
     → (T shapes : List ℕ) → shapes ≡ shapesOf T → (t e w : ℕ) → w ≡ widthBelow shapes t e → 0 < w → w ≤ length s - n → Took (n + w) ≡ stepOf (entry K (partTy T t e) s)
 unfolding entry stepOf
 pair-wide K s r d n q T shapes f t e w g h l = then-took (value K) (value (partTy T t e)) s r d n q (Took w)
-    (rw (below-takes T shapes f t e w g h (take (length s - n) (drop n s)) (behind s n w l))) w refl
+    (rw (below-takes T shapes f t e w g h (take (length s - n) (drop n s)) (after-those s n w l))) w refl
 
 -- ---- sums of places
 

@@ -2,18 +2,16 @@
 --
 --   skip-cut, -whole           k bytes of any content
 --   bool-none, -high, -whole   a bool
---   text-step                  a string, of which nothing is kept
 --   enum-fits, -past, -none    an enum
-use mathlib.Core.Path.{_≡_, refl, sym, _∙_}
+use mathlib.Core.Path.{_≡_, sym, _∙_}
 use mathlib.Core.List.{List}
 use Prim.Native.Nat.{ℕ, _≤_, _<_}
 use lib.ListN.{length}
 use borrow.Author.Tests.{le-leb, lt-leb, lt-ltb, le-ltb}
-use Rattle.encoding.specs.Result.{Res, ok, bad, chunk, skip, judged, must, made, mapc}
-use Rattle.encoding.specs.Number.{number, byte, boolForm, bool, size, string}
+use Rattle.encoding.specs.Result.{chunk, skip, judged, must, made, mapc}
+use Rattle.encoding.specs.Number.{number, byte, boolForm, bool, size}
 use Rattle.encoding.specs.Table.{at}
 use Rattle.encoding.specs.Types.{allows, upto, enum}
-use Rattle.encoding.specs.Proxy.{text}
 use Rattle.encoding.specs.Value.{enumForm, value}
 use Rattle.wire.specs.declared.Step.{Step}
 use Rattle.wire.specs.declared.Step.the-variants.{Took, Fault}
@@ -44,15 +42,6 @@ module _ (s : List ℕ) where
     pub bool-whole : b < 2 → Took 1 ≡ stepOf (bool s)
     unfolding bool mapc made must judged byte number chunk boolForm stepOf at
     bool-whole l = rw (le-leb 1 (length s) h, ← e, lt-ltb b 2 l)
-
-made-step : {A B : Type 0} (f : A → ℕ → B) (r : Res A) → stepOf r ≡ stepOf (made f r)
-unfolding made stepOf
-made-step f (ok a n) = refl
-made-step f (bad c p) = refl
-
-pub text-step : (s : List ℕ) (r : Step) → r ≡ stepOf (string s) → r ≡ stepOf (text s)
-unfolding text mapc
-text-step s r e = e ∙ made-step (λ _ _. tt) (string s)
 
 module _ (s : List ℕ) (greatest : ℕ) (r : Sized) (e : r ≡ sizedOf (size s)) where
   pub enum-none : (f p : ℕ) → r ≡ Isnt f p → Fault f p ≡ stepOf (value (enum (upto greatest)) s)

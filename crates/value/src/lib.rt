@@ -1,10 +1,9 @@
-// What a value of a table's type takes: on any bytes and any table. plain.rt has the values without parts, proxy.rt the proxies.
+// What a value of a table's type takes, on any bytes and any table. plain.rt has the values without parts.
 //
 // The readers of values, structs, sequences and dictionaries are one cycle of calls. Each has a bound: a type is one of the rows
-// below it, any other row is broken. The bound falls with each part. `part` is small enough to be laid into the loops that call it;
+// below it, any other row is broken. The bound falls with each part. `part` is small enough to be inlined into the loops that call it;
 // `value`, called from several places, is not.
 mod plain;
-mod proxy;
 
 ghost use mathlib.Core.Path.{_≡_};
 ghost use Rattle.encoding.specs.Result.{times};
@@ -34,7 +33,7 @@ fn value(table: &[u8], shapes: &[u8; 256], t: usize, e: usize, s: &[u8]) -> Step
         4 => plain::skip(s, 8),
         5 => plain::skip(s, 4),
         6 => plain::skip(s, 8),
-        7 => plain::text(s),
+        7 => wire::read_text(s),
         8 => plain::enumerator(
             s,
             table::field(table, e, 0) + 65536 * table::field(table, e, 1),
@@ -47,7 +46,7 @@ fn value(table: &[u8], shapes: &[u8; 256], t: usize, e: usize, s: &[u8]) -> Step
     }
 }
 
-// The same; a value that may be any bytes is taken at once. (What is taken apart and put together again is not handed through memory.)
+// The same; a value that may be any bytes is taken at once. (An answer that is taken apart and put together again stays in registers.)
 fn part(table: &[u8], shapes: &[u8; 256], t: usize, e: usize, s: &[u8]) -> Step
     requires { ⌜ now shapes ≡ shapesOf (now table) ⌝ }
     ensures { λ r. ⌜ r ≡ stepOf (value (partTy (now (table .entry)) t e) (now (s .entry))) ⌝ }
@@ -204,19 +203,19 @@ fn entries(table: &[u8], shapes: &[u8; 256], t: usize, n: usize, s: &[u8]) -> St
     Step::Took(at)
 }
 
-// A value of row k, where k is below t; a string, which `text` tells, is taken at once.
+// A value of row k, where k is below t; a string, if `text` says so, is read without a call.
 fn key(table: &[u8], shapes: &[u8; 256], t: usize, k: usize, text: bool, s: &[u8]) -> Step
     requires { ⌜ now shapes ≡ shapesOf (now table) ⌝ }
     requires { ⌜ text ≡ isTextBelow (now shapes) t k ⌝ }
     ensures { λ r. ⌜ r ≡ stepOf (value (partTy (now (table .entry)) t k) (now (s .entry))) ⌝ }
 {
     if text {
-        return plain::text(s);
+        return wire::read_text(s);
     }
     part(table, shapes, t, k, s)
 }
 
-// A key of row k, and then a value of row v, both below t; `text` and `w` are what their shapes tell, looked up once for all entries.
+// A key of row k, then a value of row v, both below t; `text` and `w` come from their shapes, looked up once for all entries.
 fn pair(
     table: &[u8],
     shapes: &[u8; 256],
@@ -274,7 +273,7 @@ pub fn read_member(table: &[u8], shapes: &[u8; 256], t: usize, s: &[u8]) -> Step
         }
     }
     if shapes::is_text(shapes, t) {
-        return plain::text(s);
+        return wire::read_text(s);
     }
     if shapes::is_bool(shapes, t) {
         return plain::bool(s);

@@ -1,4 +1,4 @@
-// Values without parts: bytes of any content, bools, strings, enums.
+// Values without parts: bytes of any content, bools, enums; and many strings.
 ghost use mathlib.Core.Path.{_≡_};
 ghost use Rattle.encoding.specs.Result.{skip, times};
 ghost use Rattle.encoding.specs.Number.{bool};
@@ -32,13 +32,6 @@ pub fn bool(s: &[u8]) -> Step
     Step::Took(1)
 }
 
-// A string.
-pub fn text(s: &[u8]) -> Step
-    ensures { λ r. ⌜ r ≡ stepOf (text (now (s .entry))) ⌝ }
-{
-    wire::read_string(s)
-}
-
 // n strings.
 pub fn texts(s: &[u8], n: usize) -> Step
     ensures { λ r. ⌜ r ≡ stepOf (times n text (now (s .entry))) ⌝ }
@@ -46,7 +39,7 @@ pub fn texts(s: &[u8], n: usize) -> Step
     let mut left = n;
     let mut at: usize = 0;
     while left > 0 {
-        let step = text(&s[at..]);
+        let step = wire::read_text(&s[at..]);
         match step {
             Step::Took(m) => {
                 at += m;
@@ -60,7 +53,7 @@ pub fn texts(s: &[u8], n: usize) -> Step
     Step::Took(at)
 }
 
-// An enum: a size, at most the greatest.
+// An enum: a size, at most the greatest enumerator.
 pub fn enumerator(s: &[u8], greatest: usize) -> Step
     ensures { λ r. ⌜ r ≡ stepOf (value (enum (upto greatest)) (now (s .entry))) ⌝ }
 {

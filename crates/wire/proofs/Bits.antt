@@ -4,6 +4,7 @@
 --   over-none        bits from the k-th on
 --   header-masked    tag bits above type bits
 --   flags-joined     the flags' bits, each by its worth
+--   form-..          the type bits of a form's number, by its range
 use mathlib.Core.Path.{_≡_, refl, ap, _∙_}
 use mathlib.Core.Bool.{Bool, true, false, not}
 use Prim.Native.Nat.{ℕ, zero, suc, _+_, _*_, _/_, _%_, _^_, _-_, _≤_, _<_}
@@ -11,10 +12,10 @@ use native.Mathlib.Omega.{arith}
 use native.Mathlib.Nat.{one-le-pow}
 use lib.Dec.{eqb, ltb}
 use lib.Bits.{bitAnd, bitOr, and-mask, and-high, or-shifted, or-shifted-r, or-zero-r}
-use borrow.Author.Tests.{ltb-true, ltb-false, ne-eqb, eq-eqb}
+use borrow.Author.Tests.{ltb-true, ltb-false, lt-ltb, le-ltb, ne-eqb, eq-eqb}
 use Rattle.encoding.specs.Result.{pick}
 use Rattle.encoding.specs.Slice.{sliced, compact, isSliced, worth, flagBits}
-use Rattle.wire.specs.Put.{headerBits}
+use Rattle.wire.specs.Put.{headerBits, formBits}
 
 bit-test : (x p q : ℕ) → 0 < p → x < 2 → q ≡ x * p → not (eqb q 0) ≡ eqb x 1
 bit-test zero p q h l e = let z : q ≡ 0 = omega arith in rw z
@@ -68,3 +69,16 @@ joined id opt size last =
 pub flags-joined : (id opt size last : Bool) (a b c d : ℕ) → a ≡ worth id 1 → b ≡ worth opt 4 → c ≡ worth size 16 → d ≡ worth last 32
     → bitOr (bitOr (bitOr a b) c) d ≡ flagBits (pick size sliced compact) id opt last
 flags-joined id opt size last a b c d i o s l = rw (i, o, s, l) (joined id opt size last)
+
+module _ (n : ℕ) where
+  pub form-bare : n < 8 → n ≡ formBits n
+  unfolding formBits
+  form-bare h = rw (lt-ltb n 8 h)
+
+  pub form-counted : 8 ≤ n → n < 10 → 5 ≡ formBits n
+  unfolding formBits
+  form-counted h l = rw (le-ltb n 8 h, lt-ltb n 10 l)
+
+  pub form-sized : 10 ≤ n → 6 ≡ formBits n
+  unfolding formBits
+  form-sized h = rw (le-ltb n 8 (omega arith), le-ltb n 10 h)

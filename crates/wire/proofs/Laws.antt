@@ -1,30 +1,36 @@
--- Numbers by their bytes or their halves, and the cases of sizes, strings and declared lengths by the bytes at the head. Assumes nothing.
+-- Numbers by their bytes or their halves, and the cases of sizes, declared lengths, counted bytes and strings by the bytes at the head. Assumes nothing.
 --
 --   short-is, int-is      two bytes, and two shorts, all inside; long-whole: two ints
 --   long-is               two ints of the part that begins at the place
 --   short-cut, int-cut    a number that the end cuts off
 --   size-..               the cases of `size`
 --   declared-..           the cases of `declared`
---   string-..             the cases of `string`; size-within: its size lies within the bytes at hand
-use mathlib.Core.Path.{_≡_, sym, _∙_}
+--   counted-..            the cases of a size and that many bytes; size-within: the size lies within the bytes at hand
+--   string-counted        a string, whatever it holds
+--   text-took, -bad       a string, its content left out
+use mathlib.Core.Path.{_≡_, refl, sym, ap, _∙_}
 use mathlib.Core.Bool.{Bool, false}
 use mathlib.Core.List.{List}
 use Prim.Native.Nat.{ℕ, _+_, _-_, _*_, _^_, _≤_, _<_}
 use native.Mathlib.Omega.{arith}
 use native.Mathlib.Nat.{add-zero}
 use lib.ListN.{length, take, drop, getD, length-drop}
+use lib.Seq.{length-take-le}
 use lib.Dec.{leb}
 use borrow.Author.Tests.{le-leb, lt-leb, lt-ltb, le-ltb}
-use Rattle.encoding.specs.Result.{shift, after, _>>=_, pure, chunk, atFirst, item, judged, must, firstOf}
+use Rattle.encoding.specs.Result.{Res, ok, bad, shift, after, _>>=_, pure, chunk, atFirst, item, judged, must, made, mapc, firstOf}
 use Rattle.encoding.specs.ResultLaws.{held-took}
 use Rattle.encoding.specs.Table.{at}
 use Rattle.encoding.specs.Number.{negative, number, byte, sizeForm, sizeTail, size, lengthForm, declared, Content, string}
 use Rattle.encoding.specs.NumberLaws.{held-size}
+use Rattle.encoding.specs.Proxy.{text}
+use Rattle.encoding.specs.Types.{vsize}
+use Rattle.encoding.specs.Optional.{extent}
 use Rattle.wire.specs.declared.Step.the-variants.{Took, Fault}
 use Rattle.wire.specs.declared.Sized.{Sized}
 use Rattle.wire.specs.declared.Sized.the-variants.{Is, Isnt}
-use Rattle.wire.specs.Steps.{stepOf, sizedOf}
-use Rattle.wire.specs.StepLaws.{sized-is, sized-isnt}
+use Rattle.wire.specs.Steps.{stepOf, sizedOf, bytesOf}
+use Rattle.wire.specs.StepLaws.{sized-is, sized-isnt, bytes-is, bytes-isnt}
 use Rattle.wire.proofs.Room.{fits-no}
 use Rattle.wire.specs.At.{at-byte, at-split, at-cut, at-rest}
 
@@ -55,7 +61,7 @@ module _ (s : List ℕ) (i a b : ℕ) where
   pub long-is : a ≡ at (take (length s - i) (drop i s)) 4 0 → b ≡ at (take (length s - i) (drop i s)) 4 4 → a + 4294967296 * b ≡ at s 8 i
   long-is f g = omega (arith, at-split s 4 4 i, rw add-zero at (at-rest s i 4 0), at-rest s i 4 4)
 
--- ---- a size, by its first byte and the int behind it
+-- ---- a size, by its first byte and the int after it
 
 module _ (s : List ℕ) where
   pub size-none : length s < 1 → Isnt 4 0 ≡ sizedOf (size s)
@@ -109,21 +115,45 @@ module _ (s : List ℕ) (least own : ℕ) where
       unfolding declared item atFirst _>>=_ after number chunk must judged lengthForm negative firstOf shift stepOf at
       declared-whole g = rw (le-leb 4 (length s) h, ← e, le-ltb n least l, lt-leb (2 ^ 31) n m, ← f, le-leb k (length (drop 4 s)) (omega (arith, length-drop 4 s)))
 
--- ---- a string, by its size
+-- ---- a size and that many bytes, by the size
 
 module _ (s : List ℕ) (r : Sized) (e : r ≡ sizedOf (size s)) where
   pub size-within : (n k : ℕ) → r ≡ Is n k → k ≤ length s
   size-within n k q = held-took size held-size s (sized-is (size s) n k (sym q ∙ e))
 
-  pub string-bad : (f p : ℕ) → r ≡ Isnt f p → Fault f 0 ≡ stepOf (string s)
-  unfolding string must judged item atFirst _>>=_ after stepOf
-  string-bad f p q = rw (sized-isnt (size s) f p (sym q ∙ e))
+  pub counted-bad : (f p : ℕ) → r ≡ Isnt f p → Isnt f 0 ≡ bytesOf (extent vsize s)
+  unfolding extent item atFirst _>>=_ after bytesOf
+  counted-bad f p q = rw (sized-isnt (size s) f p (sym q ∙ e))
 
   module _ (n k : ℕ) (q : r ≡ Is n k) where
-    pub string-cut : length s - k < n → Fault 4 0 ≡ stepOf (string s)
-    unfolding string must judged item atFirst _>>=_ after chunk shift stepOf
-    string-cut h = rw (sized-is (size s) n k (sym q ∙ e), lt-leb n (length (drop k s)) (omega (arith, length-drop k s)))
+    pub counted-cut : length s - k < n → Isnt 4 0 ≡ bytesOf (extent vsize s)
+    unfolding extent item atFirst _>>=_ after chunk shift bytesOf
+    counted-cut h = rw (sized-is (size s) n k (sym q ∙ e), lt-leb n (length (drop k s)) (omega (arith, length-drop k s)))
 
-    pub string-whole : n ≤ length s - k → Took (k + n) ≡ stepOf (string s)
-    unfolding string must judged item atFirst _>>=_ after chunk shift Content stepOf
-    string-whole h = rw (sized-is (size s) n k (sym q ∙ e), le-leb n (length (drop k s)) (omega (arith, length-drop k s)))
+    pub counted-whole : n ≤ length s - k → Is n (k + n) ≡ bytesOf (extent vsize s)
+    unfolding extent item atFirst _>>=_ after chunk shift bytesOf
+    counted-whole h =
+        let l : n ≤ length (drop k s) = omega (arith, length-drop k s) in
+        rw (sized-is (size s) n k (sym q ∙ e), le-leb n (length (drop k s)) l, length-take-le n (drop k s) l)
+
+-- ---- a string
+
+-- any content is fine
+content-fine : (r : Res (List ℕ)) → judged Content r ≡ r
+unfolding judged Content
+content-fine (ok d n) = refl
+content-fine (bad c p) = refl
+
+pub string-counted : (s : List ℕ) (r : Sized) → r ≡ bytesOf (extent vsize s) → r ≡ bytesOf (string s)
+unfolding string must extent
+string-counted s r e = e ∙ sym (ap bytesOf (content-fine (extent vsize s)))
+
+-- its content left out
+module _ (s : List ℕ) (r : Sized) (e : r ≡ bytesOf (string s)) where
+  pub text-took : (n k : ℕ) → r ≡ Is n k → Took k ≡ stepOf (text s)
+  unfolding text mapc made stepOf
+  text-took n k q = rw (bytes-is (string s) n k (sym q ∙ e) .1)
+
+  pub text-bad : (f p : ℕ) → r ≡ Isnt f p → Fault f p ≡ stepOf (text s)
+  unfolding text mapc made stepOf
+  text-bad f p q = rw (bytes-isnt (string s) f p (sym q ∙ e))

@@ -2,7 +2,7 @@
 --
 --   at-more    the first byte, and 256 times the number of the rest
 --   at-byte    one byte
---   at-split   the number of j bytes, and 256 ^ j times the number of those behind them
+--   at-split   the number of j bytes, and 256 ^ j times the number of those after them
 --   at-cut     the first j bytes alone, where no more are there
 --   at-rest    a number of the part that begins at a place
 --   at-within  a number of a part that holds all of it

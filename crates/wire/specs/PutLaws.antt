@@ -1,10 +1,10 @@
--- Laws of `Put.put`: a writer that lays its parts one behind another has laid them all at once. Assumes nothing.
+-- Laws of `Put.put`: parts put one after another are put all at once. Assumes nothing.
 --
 --   put-fits, put-over, put-none    what it is where the bytes fit, where they do not, and of no bytes
 --   put-sets                        where they fit, it is a store for each byte
 --   put-length                      the list keeps its length
---   put-put                         bytes laid behind bytes
---   put-front                       bytes laid at the start
+--   put-put                         bytes put after bytes
+--   put-front                       bytes put at the start
 --   header-bits                     a header byte of bits in their range
 use mathlib.Core.Path.{_≡_, refl, sym, ap, _∙_}
 use mathlib.Core.Bool.{Bool, true, false}
@@ -43,7 +43,7 @@ put-length at b out = go (leb (at + length b) (length out)) refl
     go true e = ap length (put-sets at b out (leb-true _ _ e)) ∙ length-sets out at b
     go false e = ap length (put-over at b out (leb-false _ _ e))
 
--- stores behind stores
+-- stores after stores
 sets-append : (b c out : List ℕ) (at : ℕ) → sets out at (b ++ c) ≡ sets (sets out at b) (at + length b) c
 sets-append [] c out at = ap (λ (n : ℕ). sets out n c) (sym (add-zero at))
 sets-append (x ∷ b) c out at =

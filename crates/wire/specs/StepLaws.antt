@@ -1,11 +1,11 @@
--- What the code's answers tell of a reader, in the shape in which a call and a match hand them over: the answer, what the callee
+-- What the code's answers say of a reader, in the shape of the facts after a call and a match: the answer, what the callee
 -- ensures of it, and the variant that it is. A reader that is called on `&s[n..]` sees `take (length s - n) (drop n s)`.
 --
 --   rest-is                        that part is what is left
---   step-took, -fault              what an answer tells of the result; sized-is, -isnt of a number
+--   step-took, -fault              what an answer says of the result; sized-is, -isnt of a number; bytes-is, -isnt of bytes
 --   took-held, bad-held            bytes taken and places lie within the bytes in front; took-within, bad-within within what is left
 --   sized-held                     the same of a number
---   rest-took, -bad                an answer about the rest, moved behind the bytes before it
+--   rest-took, -bad                an answer about the rest, moved past the bytes before it
 --   then-none, -took, -bad         one reader, then another
 --   with-none, -took, -bad, -ends  a number, then what depends on it
 --   Left, left-..                  what holds at the head of a loop over readings, and what a turn makes of it; turns-.. of one reading
@@ -23,12 +23,12 @@ use Rattle.wire.specs.declared.Step.{Step}
 use Rattle.wire.specs.declared.Step.the-variants.{Took, Fault}
 use Rattle.wire.specs.declared.Sized.{Sized}
 use Rattle.wire.specs.declared.Sized.the-variants.{Is, Isnt}
-use Rattle.wire.specs.Steps.{stepOf, sizedOf}
+use Rattle.wire.specs.Steps.{stepOf, sizedOf, bytesOf}
 
 pub rest-is : (s : List ℕ) (n : ℕ) → take (length s - n) (drop n s) ≡ drop n s
 rest-is s n = take-all (length s - n) (drop n s) (omega (arith, length-drop n s))
 
--- ---- what an answer tells of the result
+-- ---- what an answer says of the result
 
 pub step-took : {A : Type 0} (r : Res A) (n : ℕ) → Took n ≡ stepOf r → (a : A) × (r ≡ ok a n)
 unfolding stepOf
@@ -49,6 +49,16 @@ pub sized-isnt : (r : Res ℕ) (f p : ℕ) → Isnt f p ≡ sizedOf r → r ≡ 
 unfolding sizedOf
 sized-isnt (ok a m) f p h = let z : _≡_ {A = ℕ} 0 1 = cc in absurd (omega arith)
 sized-isnt (bad c q) f p h = cc
+
+pub bytes-is : (r : Res (List ℕ)) (n k : ℕ) → Is n k ≡ bytesOf r → (d : List ℕ) × (r ≡ ok d k) × (n ≡ length d)
+unfolding bytesOf
+bytes-is (ok d m) n k h = let e : m ≡ k = cc in (d, ap (ok d) e, cc)
+bytes-is (bad c p) n k h = let z : _≡_ {A = ℕ} 0 1 = cc in absurd (omega arith)
+
+pub bytes-isnt : (r : Res (List ℕ)) (f p : ℕ) → Isnt f p ≡ bytesOf r → r ≡ bad f p
+unfolding bytesOf
+bytes-isnt (ok d m) f p h = let z : _≡_ {A = ℕ} 0 1 = cc in absurd (omega arith)
+bytes-isnt (bad c q) f p h = cc
 
 -- ---- within the bytes in front, and within what is left of them
 
@@ -71,7 +81,7 @@ sized-held p P s r e n k q = held-took p P s (sized-is (p s) n k (sym q ∙ e))
 
 -- ---- one after another
 
--- an answer about the rest, moved behind the n bytes before it
+-- an answer about the rest, moved past the n bytes before it
 moved-took : {A : Type 0} (n : ℕ) (r : Res A) (m : ℕ) → Took m ≡ stepOf r → Took (n + m) ≡ stepOf (shift n r)
 unfolding stepOf shift
 moved-took n (ok a k) m h = let e : m ≡ k = cc in ap (λ (i : ℕ). Took (n + i)) e
@@ -93,7 +103,7 @@ module _ {A B : Type 0} (p : Parser A) (q : Parser B) (s : List ℕ) (r : Step) 
   unfolding _>>=_ after stepOf
   then-none f k h = rw (step-fault (p s) f k (sym h ∙ e))
 
-  -- what the second gives, behind what the first took
+  -- what the second gives, after what the first took
   then-rest : (n : ℕ) → r ≡ Took n → (p >>= λ _. q) s ≡ shift n (q (drop n s))
   unfolding _>>=_ after
   then-rest n h = rw (step-took (p s) n (sym h ∙ e) .1)

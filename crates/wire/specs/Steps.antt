@@ -2,7 +2,10 @@
 --
 --   stepOf r     the bytes taken, or the refusal's number and place; what was read is left out
 --   sizedOf r    the number that was read and the bytes taken, or the refusal's number and place
+--   bytesOf r    how many bytes were read and the bytes taken, or the refusal's number and place
+use mathlib.Core.List.{List}
 use Prim.Native.Nat.{ℕ}
+use lib.ListN.{length}
 use Rattle.encoding.specs.Result.{Res, ok, bad}
 use Rattle.wire.specs.declared.Step.{Step}
 use Rattle.wire.specs.declared.Step.the-variants.{Took, Fault}
@@ -16,3 +19,7 @@ stepOf (bad c p) = Fault c p
 unfoldable pub sizedOf : Res ℕ → Sized
 sizedOf (ok a n) = Is a n
 sizedOf (bad c p) = Isnt c p
+
+unfoldable pub bytesOf : Res (List ℕ) → Sized
+bytesOf (ok d n) = Is (length d) n
+bytesOf (bad c p) = Isnt c p

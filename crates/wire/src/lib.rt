@@ -1,4 +1,7 @@
 // Numbers, sizes, strings, declared lengths and bits, read from the bytes in front and put at a place. Each function equals a definition, on any bytes.
+// rows.rt has the layout of a row of a list.
+pub mod rows;
+
 ghost use mathlib.Core.Path.{_≡_};
 ghost use Prim.Native.Nat.{_+_, _-_, _*_, _/_, _%_, _≤_, _<_, min};
 ghost use lib.Dec.{leb, ltb};
@@ -6,9 +9,12 @@ ghost use lib.ListN.{length, take, drop};
 ghost use Rattle.encoding.specs.Result.{pick};
 ghost use Rattle.encoding.specs.Table.{at as number-at};
 ghost use Rattle.encoding.specs.Number.{size, string, declared, leBytes, sizeBytes};
+ghost use Rattle.encoding.specs.Proxy.{text};
+ghost use Rattle.encoding.specs.Types.{vsize};
+ghost use Rattle.encoding.specs.Optional.{extent};
 ghost use Rattle.encoding.specs.Slice.{sliced, compact, bit, worth, flagBits};
-ghost use Rattle.wire.specs.Steps.{stepOf, sizedOf};
-ghost use Rattle.wire.specs.Put.{put, headerBits};
+ghost use Rattle.wire.specs.Steps.{stepOf, sizedOf, bytesOf};
+ghost use Rattle.wire.specs.Put.{put, headerBits, formBits};
 
 // What a reader took: so many bytes; or a refusal's number and its place, counted from the bytes in front.
 pub enum Step {
@@ -16,7 +22,7 @@ pub enum Step {
     Fault(usize, usize),
 }
 
-// A number that was read and the bytes that it took; or a refusal's number and its place.
+// So many, and the bytes taken; or a refusal's number and its place. Of a size it is the number that was read; of bytes, how many there are: they end those taken.
 pub enum Sized {
     Is(usize, usize),
     Isnt(usize, usize),
@@ -140,20 +146,38 @@ pub fn read_size(s: &[u8]) -> Sized
     Sized::Is(long, 5)
 }
 
-// A string: size, then that many bytes, one item.
-pub fn read_string(s: &[u8]) -> Step
-    ensures { λ r. ⌜ r ≡ stepOf (string (now (s .entry))) ⌝ }
+// A size, then that many bytes, whatever they hold, one item.
+pub fn read_counted(s: &[u8]) -> Sized
+    ensures { λ r. ⌜ r ≡ bytesOf (extent vsize (now (s .entry))) ⌝ }
 {
     let z = read_size(s);
     match z {
         Sized::Is(n, k) => {
             if n <= s.len() - k {
-                Step::Took(k + n)
+                Sized::Is(n, k + n)
             } else {
-                Step::Fault(4, 0)
+                Sized::Isnt(4, 0)
             }
         }
-        Sized::Isnt(e, p) => Step::Fault(e, 0),
+        Sized::Isnt(e, p) => Sized::Isnt(e, 0),
+    }
+}
+
+// A string. Every string is read here: of values, type IDs, identities, facets, adapters and optionals.
+pub fn read_string(s: &[u8]) -> Sized
+    ensures { λ r. ⌜ r ≡ bytesOf (string (now (s .entry))) ⌝ }
+{
+    read_counted(s)
+}
+
+// A string, of which only the bytes taken are wanted.
+pub fn read_text(s: &[u8]) -> Step
+    ensures { λ r. ⌜ r ≡ stepOf (text (now (s .entry))) ⌝ }
+{
+    let z = read_string(s);
+    match z {
+        Sized::Is(n, k) => Step::Took(k),
+        Sized::Isnt(e, p) => Step::Fault(e, p),
     }
 }
 
@@ -199,6 +223,19 @@ pub fn header_bits(tag: usize, kind: usize) -> usize
     ensures { λ r. ⌜ r ≡ headerBits tag kind ⌝ }
 {
     ((tag & 31) << 3) | (kind & 7)
+}
+
+// The type bits in the header of an optional, by the number of its form.
+pub fn form_bits(form: usize) -> usize
+    ensures { λ r. ⌜ (r ≡ formBits form) × (r < 8) ⌝ }
+{
+    if form < 8 {
+        return form;
+    }
+    if form < 10 {
+        return 5;
+    }
+    6
 }
 
 // Bits 0-1 of a slice's flags: the form of its type ID.

@@ -10,8 +10,9 @@ use Rattle.encoding.specs.Value.{value as value-of, values}
 use Rattle.wire.specs.Steps.{stepOf}
 use Rattle.wire.specs.StepLaws.{Left}
 use Rattle.value.specs.Parts.{partTy, entry}
-use Rattle.value.proofs.ProxyLaws.{size-end}
-use Rattle.value.proofs.Room.{part-fits, items-fits, sized-items-fits}
+use Rattle.wire.proofs.Laws.{size-within}
+use Rattle.wire.proofs.Sums.{part-fits}
+use Rattle.value.proofs.Room.{items-fits, sized-items-fits}
 use Rattle.value.proofs.CycleLaws.{row-not, as-bool, as-byte, as-short, as-int, as-long, as-float, as-double, as-string, as-enum, as-struct, as-seq, as-dict, as-proxy, as-other, struct-begin, member-gone, member-read, member-next, member-fault, member-done, seq-none, seq-wide, seq-took, seq-bad, dict-none, dict-took, dict-bad, element-begin, element-next, element-fault, element-done, entry-begin, entry-next, entry-fault, entry-done, part-wide, again-took, again-bad, text-value, text-values, key-end, pair-none, pair-wide, pair-took, pair-bad, value-took-fits, value-bad-fits, elements-took-fits, elements-bad-fits, entry-took-fits, entry-bad-fits, entries-took-fits, entries-bad-fits}
 use borrow.Fn.Kinds.{In}
 use borrow.Fn.PlainCycle.{Measures, is, falls, and}
@@ -56,9 +57,9 @@ use Rattle.value.proofs.is_text_below.Reads as is-text-below-reads
 use Rattle.value.proofs.plain.bool.Reads as bool-reads
 use Rattle.value.proofs.plain.enumerator.Reads as enumerator-reads
 use Rattle.value.proofs.plain.skip.Reads as skip-reads
-use Rattle.value.proofs.plain.text.Reads as text-reads
+use Rattle.wire.proofs.read_text.Reads as read-text-reads
 use Rattle.value.proofs.plain.texts.Reads as texts-reads
-use Rattle.value.proofs.proxy.proxy.Reads as proxy-reads
+use Rattle.proxy.proofs.proxy.Reads as proxy-reads
 use Rattle.wire.proofs.read_size.Reads as read-size-reads
 use Rattle.value.proofs.+dictionary+elements+entries+key+pair+part+sequence+struct_value+value.{statement}
 use Rattle.value.proofs.+dictionary+elements+entries+key+pair+part+sequence+struct_value+value.Tie.{close}
@@ -154,7 +155,7 @@ abbrev entries-calls : ℕ → entries-lts.Claims
 entries-calls t = (field-a-reads.Asked, field-a-reads.Learnt, field-b-reads.Asked, field-b-reads.Learnt, is-text-below-reads.Asked, is-text-below-reads.Learnt, width-below-reads.Asked, width-below-reads.Learnt, pair-below t, pair.Post)
 
 abbrev key-calls : ℕ → key-lts.Claims
-key-calls t = (text-reads.Asked, text-reads.Learnt, part-below t, part.Post)
+key-calls t = (read-text-reads.Asked, read-text-reads.Learnt, part-below t, part.Post)
 
 abbrev pair-calls : ℕ → pair-lts.Claims
 pair-calls t = (key-below t, key.Post, value-below t, value.Post)
@@ -169,7 +170,7 @@ abbrev struct-value-calls : ℕ → struct-value-lts.Claims
 struct-value-calls t = (members-reads.Asked, members-reads.Learnt, type-row-reads.Asked, type-row-reads.Learnt, member-row-reads.Asked, member-row-reads.Learnt, part-below t, part.Post)
 
 abbrev value-calls : ℕ → value-lts.Claims
-value-calls t = (kind-reads.Asked, kind-reads.Learnt, bool-reads.Asked, bool-reads.Learnt, skip-reads.Asked, skip-reads.Learnt, text-reads.Asked, text-reads.Learnt, field-reads.Asked, field-reads.Learnt, enumerator-reads.Asked, enumerator-reads.Learnt, struct-value-below t, struct-value.Post, sequence-below t, sequence.Post, dictionary-below t, dictionary.Post, proxy-reads.Asked, proxy-reads.Learnt)
+value-calls t = (kind-reads.Asked, kind-reads.Learnt, bool-reads.Asked, bool-reads.Learnt, skip-reads.Asked, skip-reads.Learnt, read-text-reads.Asked, read-text-reads.Learnt, field-reads.Asked, field-reads.Learnt, enumerator-reads.Asked, enumerator-reads.Learnt, struct-value-below t, struct-value.Post, sequence-below t, sequence.Post, dictionary-below t, dictionary.Post, proxy-reads.Asked, proxy-reads.Learnt)
 
 abbrev elements-Inv-loop : elements-lts.InvT-loop
 elements-Inv-loop table shapes t e n s left₀ at₀ left at = Left s (stepOf (times n (value-of (partTy table t e)) s)) (times left (value-of (partTy table t e))) at
@@ -195,14 +196,14 @@ pub +dictionary+elements+entries+key+pair+part+sequence+struct-value+value-spec 
     (λ t. dictionary-lts.spec (dictionary-calls t) (dictionary-at t) dictionary.Post
     (λ c κs. search needs)  -- read-size-requires
     (λ c. search needs)  -- enum-known-z
-    (λ c. search size-end)  -- sub-entries
-    (λ c. search size-end)  -- part-entries-start
+    (λ c. search size-within)  -- sub-entries
+    (λ c. search size-within)  -- part-entries-start
     (λ c. search needs)  -- part-entries-end
     (λ c κs. search needs)  -- entries-requires
     (λ c. search needs)  -- enum-known-step
-    (λ c. search (entries-took-fits, size-end))  -- add-t19
+    (λ c. search (entries-took-fits, size-within))  -- add-t19
     (λ c. search needs)  -- enum-known-step-2
-    (λ c. search (entries-bad-fits, size-end))  -- add-t20
+    (λ c. search (entries-bad-fits, size-within))  -- add-t20
     (λ c. search needs)  -- enum-known-z-2
     (λ c. search dict-took)  -- returns
     (λ c. search dict-bad)  -- returns-2
@@ -245,7 +246,7 @@ pub +dictionary+elements+entries+key+pair+part+sequence+struct-value+value-spec 
     (λ c. search entry-next)  -- loop-again
     (λ c. search entry-done))  -- returns-2
     (λ t. key-lts.spec (key-calls t) (key-at t) key.Post
-    (λ c κs. search needs)  -- text-requires
+    (λ c κs. search needs)  -- read-text-requires
     (λ c. search text-value)  -- returns
     (λ c κs. search needs)  -- part-requires
     (λ c. search needs))  -- returns-2
@@ -281,18 +282,18 @@ pub +dictionary+elements+entries+key+pair+part+sequence+struct-value+value-spec 
     (λ c κs. search needs)  -- field-a-requires
     (λ c κs. search needs)  -- width-below-requires
     (λ c. search items-fits)  -- mul-if2
-    (λ c. search (needs, size-end))  -- sub-if2
+    (λ c. search (needs, size-within))  -- sub-if2
     (λ c. search items-fits)  -- mul-t22
     (λ c. search sized-items-fits)  -- add-t23
     (λ c. search seq-wide)  -- returns
-    (λ c. search size-end)  -- sub-elements
-    (λ c. search size-end)  -- part-elements-start
+    (λ c. search size-within)  -- sub-elements
+    (λ c. search size-within)  -- part-elements-start
     (λ c. search needs)  -- part-elements-end
     (λ c κs. search needs)  -- elements-requires
     (λ c. search needs)  -- enum-known-step
-    (λ c. search (elements-took-fits, size-end))  -- add-t29
+    (λ c. search (elements-took-fits, size-within))  -- add-t29
     (λ c. search needs)  -- enum-known-step-2
-    (λ c. search (elements-bad-fits, size-end))  -- add-t30
+    (λ c. search (elements-bad-fits, size-within))  -- add-t30
     (λ c. search needs)  -- enum-known-z-2
     (λ c. search seq-took)  -- returns-2
     (λ c. search seq-bad)  -- returns-3
@@ -327,7 +328,7 @@ pub +dictionary+elements+entries+key+pair+part+sequence+struct-value+value-spec 
     (λ c κs. search needs)  -- skip-requires-4
     (λ c κs. search needs)  -- skip-requires-5
     (λ c κs. search needs)  -- skip-requires-6
-    (λ c κs. search needs)  -- text-requires
+    (λ c κs. search needs)  -- read-text-requires
     (λ c κs. search needs)  -- field-requires
     (λ c κs. search needs)  -- field-requires-2
     (λ c. search needs)  -- mul-enumerator

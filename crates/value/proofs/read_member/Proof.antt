@@ -11,7 +11,7 @@ read-member-spec =
     (λ c κs. search needs)  -- width-requires
     (λ c. search row-wide)  -- returns
     (λ c κs. search needs)  -- is-text-requires
-    (λ c κs. search needs)  -- text-requires
+    (λ c κs. search needs)  -- read-text-requires
     (λ c. search row-text)  -- returns-2
     (λ c κs. search needs)  -- is-bool-requires
     (λ c κs. search needs)  -- bool-requires

@@ -1,4 +1,4 @@
--- A size of one byte is a number of one byte; a longer one is 255 and an int behind it, where all five bytes fit.
+-- A size of one byte is a number of one byte; a longer one is 255 and an int after it, where all five bytes fit.
 use borrow.Author.Needs.{needs}
 use Prim.Native.Nat.{_+_, _≤_}
 use native.Mathlib.Omega.{arith}

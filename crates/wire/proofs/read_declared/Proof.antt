@@ -1,4 +1,4 @@
--- A declared length: one case of `declared` for each way out, told by the int at the head and the bytes behind it.
+-- A declared length: one case of `declared` for each way out, by the int at the head and the bytes after it.
 use borrow.Author.Needs.{needs}
 use Rattle.wire.proofs.Laws.{declared-none, declared-low, declared-high, declared-cut, declared-whole}
 use Rattle.wire.proofs.read_declared.Statement.{statement}

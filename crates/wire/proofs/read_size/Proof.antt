@@ -1,4 +1,4 @@
--- A size: one case of `size` for each way out, told by the first byte and the int behind it.
+-- A size: one case of `size` for each way out, by the first byte and the int after it.
 use borrow.Author.Needs.{needs}
 use Rattle.wire.proofs.Laws.{size-none, size-short, size-cut, size-low, size-high, size-long}
 use Rattle.wire.proofs.read_size.Statement.{statement}

@@ -1,4 +1,4 @@
--- Strings one after another: all that there is to read comes to those still to come.
+-- Strings one after another. The loop keeps: what is still to be read makes the whole answer.
 use borrow.Author.Needs.{needs}
 use native.Mathlib.Omega.{arith}
 use Rattle.encoding.specs.Result.{times}
@@ -6,7 +6,7 @@ use Rattle.encoding.specs.Proxy.{text as text-of}
 use Rattle.wire.specs.Steps.{stepOf}
 use Rattle.wire.specs.StepLaws.{Left, turns-begin, turns-next, turns-fault, turns-done}
 use Rattle.encoding.specs.ValueLaws.{held-text}
-use Rattle.value.proofs.Room.{took-fits, bad-fits}
+use Rattle.wire.proofs.Sums.{took-fits, bad-fits}
 use Rattle.value.proofs.plain.texts.Statement.{statement}
 use Rattle.value.proofs.plain.texts.Tie as tie
 
@@ -23,10 +23,10 @@ texts-spec =
     Inv-loop
     μ-loop
     (λ c. search (turns-begin text-of held-text))  -- loop-holds
-    (λ c. search (needs, Left.inside))  -- sub-text
-    (λ c. search needs)  -- part-text-start
-    (λ c. search needs)  -- part-text-end
-    (λ c κs. search needs)  -- text-requires
+    (λ c. search (needs, Left.inside))  -- sub-read-text
+    (λ c. search needs)  -- part-read-text-start
+    (λ c. search needs)  -- part-read-text-end
+    (λ c κs. search needs)  -- read-text-requires
     (λ c. search needs)  -- enum-known-step
     (λ c. search (took-fits text-of held-text))  -- add-at
     (λ c. search needs)  -- enum-known-step-2

@@ -1,0 +1,30 @@
+-- Parts of a proxy's definition that are functions of their own in the code.
+--
+--   named          an identity, of which the length of the name is kept
+--   addresses n    n endpoints, or an adapter where n is 0
+--   secured        a proxy's secure, protocol, encoding and endpoints
+--   mode           a proxy's mode, then those
+use Prim.Native.Nat.{ℕ}
+use lib.Dec.{eqb}
+use Rattle.encoding.specs.Result.{Parser, pick, _>>=_, must, mapc, times}
+use Rattle.encoding.specs.Number.{byte, bool}
+use Rattle.encoding.specs.Proxy.{identity, text, modeForm, versions, endpoint, endpoints}
+
+-- nil where the name is empty
+unfoldable pub named : Parser ℕ
+named = mapc (λ (l : ℕ × ℕ) _. l .0) identity
+
+-- no endpoint: an adapter
+unfoldable pub addresses : ℕ → Parser (Unit {0})
+addresses n = pick (eqb n 0) text (times n endpoint)
+
+-- secure, protocol and encoding, then the endpoints
+unfoldable pub secured : Parser (Unit {0})
+secured = do
+  _ ← bool
+  _ ← versions
+  endpoints
+
+-- mode 0..4, judged at itself
+unfoldable pub mode : Parser (Unit {0})
+mode = must modeForm byte >>= λ _. secured
