@@ -1,14 +1,14 @@
 -- A known value, read in just its declared bytes. Assumes nothing.
 --
---   part-start, part-end    the bytes that are delivered lie in those at hand
---   used-none               the declared bytes are refused
---   used-all, used-less     the value takes all of them, or fewer
---   used-wide               it may be any bytes, and there are as many as its type has
---   used-text               it is a string, declared by its own size
---   used-bad, used-place    it is refused, and where
---   used-within, used-placed, used-sum    bytes taken and places of the whole
+--   part-start, part-within, part-end    the bytes that are delivered lie in those at hand
+--   used-none                            the declared bytes are refused
+--   used-all, used-less                  the value takes all of them, or fewer
+--   used-wide                            it may be any bytes, and there are as many as its type has
+--   used-text                            it is a string with its own size
+--   used-bad, used-place                 it is refused, and where
+--   used-within, used-placed, used-sum   bytes taken and places of the whole
 use mathlib.Core.Path.{_≡_, refl, sym, ap, _∙_}
-use mathlib.Core.Bool.{Bool, true}
+use mathlib.Core.Bool.{Bool, true, false}
 use mathlib.Core.List.{List}
 use Prim.Native.Nat.{ℕ, _+_, _-_, _≤_, _<_}
 use native.Mathlib.Omega.{arith}
@@ -16,138 +16,147 @@ use mir.Syntax.{w64}
 use mir.Val.{Fits}
 use lib.ListN.{length, take, drop}
 use lib.Seq.{take-length, length-take-le}
+use lib.Dec.{eqb}
 use borrow.Author.Tests.{eq-eqb, ne-eqb}
-use Rattle.encoding.specs.Result.{ok, bad, _>>=_, chunk, item, made, mapc, bytes, leave, enter, inside}
-use Rattle.encoding.specs.ResultLaws.{framed, framed-part, must-step, inside-ok, bytes-ok, held-took, held-refused, held-bytes, held-inside}
+use Rattle.encoding.specs.Result.{Res, ok, bad, pick, judged, must, made, mapc, bytes, leave, enter, inside}
+use Rattle.encoding.specs.ResultLaws.{framed-part, inside-ok, bytes-ok, held-took, held-refused, held-bytes, held-inside}
 use Rattle.encoding.specs.Number.{Content, string}
-use Rattle.encoding.specs.Number
-use Rattle.encoding.specs.NumberLaws.{closed-string}
 use Rattle.encoding.specs.Proxy.{text}
 use Rattle.encoding.specs.Types.{Ty, Form, own, vsize}
 use Rattle.encoding.specs.Value.{value}
 use Rattle.encoding.specs.ValueLaws.{held-value}
 use Rattle.encoding.specs.Table.{tyOf}
 use Rattle.encoding.specs.Optional.{extent, part}
-use Rattle.encoding.specs.OptionalLaws.{held-part, ends-part}
-use Rattle.shapes.specs.Shapes.{shapesOf, widthIn, isTextIn}
-use Rattle.value.proofs.CycleLaws.{row-wide, row-text}
+use Rattle.encoding.specs.OptionalLaws.{framed-extent, held-extent, held-part, ends-part}
 use Rattle.wire.specs.declared.Step.{Step}
 use Rattle.wire.specs.declared.Step.the-variants.{Took, Fault}
-use Rattle.wire.specs.Steps.{stepOf}
-use Rattle.wire.specs.StepLaws.{step-took, step-fault}
-use Rattle.level.specs.declared.Part.{Part}
-use Rattle.level.specs.declared.Part.the-variants.{Is, Isnt}
-use Rattle.level.specs.Forms.{formNamed}
-use Rattle.level.specs.Answers.{partOf}
-use Rattle.level.proofs.Told.{part-is, part-isnt}
+use Rattle.wire.specs.declared.Sized.{Sized}
+use Rattle.wire.specs.declared.Sized.the-variants.{Is, Isnt}
+use Rattle.wire.specs.Steps.{stepOf, bytesOf}
+use Rattle.wire.specs.StepLaws.{step-took, step-fault, bytes-is, bytes-isnt}
+use Rattle.shapes.specs.Shapes.{shapesOf, widthIn, isTextIn}
+use Rattle.shapes.specs.ShapesLaws.{text-row}
+use Rattle.value.proofs.CycleLaws.{row-wide}
+use Rattle.optional.specs.Forms.{formNamed}
+use Rattle.optional.specs.Answers.{wholeOf}
 
--- what a part tells: the bytes that it delivers, and where they stand
-record Delivered (f : Form) (s : List ℕ) (a e : ℕ) : Type 0 where
+-- what an answer says of a part: the bytes that it delivers, and where they are
+record Delivered (f : Form) (s : List ℕ) (n e : ℕ) : Type 0 where
   bytes : List ℕ
   is : part f s ≡ ok bytes e
-  start : a ≤ e
+  start : n ≤ e
   end : e ≤ length s
-  size : length bytes ≡ e - a
-  there : take (e - a) (drop a s) ≡ bytes
+  size : length bytes ≡ n
+  there : take (e - (e - n)) (drop (e - n) s) ≡ bytes
 
-delivered : (f : Form) (s : List ℕ) (p : Part) → p ≡ partOf (part f s) → (a e : ℕ) → p ≡ Is a e → Delivered f s a e
-delivered f s p ep a e q = go (part-is (part f s) a e (sym q ∙ ep))
+delivered : (f : Form) (s : List ℕ) (p : Sized) → p ≡ bytesOf (part f s) → (n e : ℕ) → p ≡ Is n e → Delivered f s n e
+delivered f s p ep n e q = go (bytes-is (part f s) n e (sym q ∙ ep))
   where
-    go : (d : List ℕ) × (part f s ≡ ok d e) × (a ≡ e - length d) → Delivered f s a e
+    go : (d : List ℕ) × (part f s ≡ ok d e) × (n ≡ length d) → Delivered f s n e
     go D =
         let E = ends-part f s (D .0) e (D .1) in
-        let l : length (D .0) ≡ e - a = omega (arith, E .within, D .2) in
+        let l : e - (e - n) ≡ length (D .0) = omega (arith, E .within, D .2) in
         record {
           bytes = D .0;
           is = D .1;
-          start = omega (arith, D .2);
+          start = omega (arith, E .within, D .2);
           end = held-took (part f) (held-part f) s (D .1);
-          size = l;
-          there = ap (λ (i : ℕ). take i (drop a s)) (sym l) ∙ ap (λ (i : ℕ). take (length (D .0)) (drop i s)) (D .2) ∙ E .there;
+          size = sym (D .2);
+          there = ap (λ (i : ℕ). take i (drop (e - n) s)) l ∙ ap (λ (i : ℕ). take (length (D .0)) (drop (e - i) s)) (D .2) ∙ E .there;
         }
 
-module _ (f : Form) (s : List ℕ) (p : Part) (ep : p ≡ partOf (part f s)) where
-  pub used-none : (ty : Ty) (c q : ℕ) → p ≡ Isnt c q → Isnt c q ≡ partOf (inside (part f) (bytes (value ty)) s)
-  unfolding inside enter partOf
-  used-none ty c q h = rw (part-isnt (part f s) c q (sym h ∙ ep))
+module _ (f : Form) (s : List ℕ) (p : Sized) (ep : p ≡ bytesOf (part f s)) where
+  pub used-none : (ty : Ty) (c q : ℕ) → p ≡ Isnt c q → Isnt c q ≡ bytesOf (inside (part f) (bytes (value ty)) s)
+  unfolding inside enter bytesOf
+  used-none ty c q h = rw (bytes-isnt (part f s) c q (sym h ∙ ep))
 
-  module _ (a e : ℕ) (h : p ≡ Is a e) where
-    pub part-start : a ≤ e
-    part-start = delivered f s p ep a e h .start
+  module _ (n e : ℕ) (h : p ≡ Is n e) where
+    pub part-start : n ≤ e
+    part-start = delivered f s p ep n e h .start
+
+    pub part-within : e - n ≤ e
+    part-within = omega (arith, part-start)
 
     pub part-end : e ≤ length s
-    part-end = delivered f s p ep a e h .end
+    part-end = delivered f s p ep n e h .end
 
-    module _ (ty : Ty) (r : Step) (er : r ≡ stepOf (value ty (take (e - a) (drop a s)))) where
-      answer : (D : Delivered f s a e) → r ≡ stepOf (value ty (D .bytes))
+    module _ (ty : Ty) (r : Step) (er : r ≡ stepOf (value ty (take (e - (e - n)) (drop (e - n) s)))) where
+      answer : (D : Delivered f s n e) → r ≡ stepOf (value ty (D .bytes))
       answer D = er ∙ ap (λ (l : List ℕ). stepOf (value ty l)) (D .there)
 
       -- what the value's own result makes of the whole
-      inside-is : (D : Delivered f s a e) → inside (part f) (bytes (value ty)) s ≡ leave (length (D .bytes)) e (bytes (value ty) (D .bytes))
+      inside-is : (D : Delivered f s n e) → inside (part f) (bytes (value ty)) s ≡ leave (length (D .bytes)) e (bytes (value ty) (D .bytes))
       unfolding inside enter
       inside-is D = rw (D .is)
 
-      pub used-all : (n : ℕ) → r ≡ Took n → n ≡ e - a → Is a e ≡ partOf (inside (part f) (bytes (value ty)) s)
-      unfolding bytes made leave partOf
-      used-all n q y = go (delivered f s p ep a e h)
+      pub used-all : (m : ℕ) → r ≡ Took m → m ≡ n → Is n e ≡ bytesOf (inside (part f) (bytes (value ty)) s)
+      unfolding bytes made leave bytesOf
+      used-all m q y = go (delivered f s p ep n e h)
         where
-          go : Delivered f s a e → Is a e ≡ partOf (inside (part f) (bytes (value ty)) s)
+          go : Delivered f s n e → Is n e ≡ bytesOf (inside (part f) (bytes (value ty)) s)
           go D =
-              let v = step-took (value ty (D .bytes)) n (sym q ∙ answer D) .1 in
-              let l : n ≡ length (D .bytes) = omega (arith, D .size) in
-              let w : take n (D .bytes) ≡ D .bytes = ap (λ (i : ℕ). take i (D .bytes)) l ∙ take-length (D .bytes) in
-              let z : e - length (D .bytes) ≡ a = omega (arith, D .size, D .start) in
-              sym (ap partOf (inside-is D) ∙ rw (v, eq-eqb n (length (D .bytes)) l, w, z))
+              let v = step-took (value ty (D .bytes)) m (sym q ∙ answer D) .1 in
+              let l : m ≡ length (D .bytes) = y ∙ sym (D .size) in
+              let w : length (take m (D .bytes)) ≡ n = length-take-le m (D .bytes) (omega arith) ∙ y in
+              sym (ap bytesOf (inside-is D) ∙ rw (v, eq-eqb m (length (D .bytes)) l, w))
 
-      pub used-less : (n : ℕ) → r ≡ Took n → (n ≡ e - a → ⊥) → Isnt 11 0 ≡ partOf (inside (part f) (bytes (value ty)) s)
-      unfolding bytes made leave partOf
-      used-less n q y = go (delivered f s p ep a e h)
+      pub used-less : (m : ℕ) → r ≡ Took m → (m ≡ n → ⊥) → Isnt 11 0 ≡ bytesOf (inside (part f) (bytes (value ty)) s)
+      unfolding bytes made leave bytesOf
+      used-less m q y = go (delivered f s p ep n e h)
         where
-          go : Delivered f s a e → Isnt 11 0 ≡ partOf (inside (part f) (bytes (value ty)) s)
+          go : Delivered f s n e → Isnt 11 0 ≡ bytesOf (inside (part f) (bytes (value ty)) s)
           go D =
-              let v = step-took (value ty (D .bytes)) n (sym q ∙ answer D) .1 in
-              sym (ap partOf (inside-is D) ∙ rw (v, ne-eqb n (length (D .bytes)) (λ i. y (i ∙ D .size))))
+              let v = step-took (value ty (D .bytes)) m (sym q ∙ answer D) .1 in
+              sym (ap bytesOf (inside-is D) ∙ rw (v, ne-eqb m (length (D .bytes)) (λ i. y (i ∙ D .size))))
 
-      pub used-bad : (c k : ℕ) → r ≡ Fault c k → Isnt c (a + k) ≡ partOf (inside (part f) (bytes (value ty)) s)
-      unfolding bytes made leave partOf
-      used-bad c k q = go (delivered f s p ep a e h)
+      pub used-bad : (c k : ℕ) → r ≡ Fault c k → Isnt c (e - n + k) ≡ bytesOf (inside (part f) (bytes (value ty)) s)
+      unfolding bytes made leave bytesOf
+      used-bad c k q = go (delivered f s p ep n e h)
         where
-          go : Delivered f s a e → Isnt c (a + k) ≡ partOf (inside (part f) (bytes (value ty)) s)
-          go D =
-              let z : e - length (D .bytes) ≡ a = omega (arith, D .size, D .start) in
-              sym (ap partOf (inside-is D) ∙ rw (step-fault (value ty (D .bytes)) c k (sym q ∙ answer D), z))
+          go : Delivered f s n e → Isnt c (e - n + k) ≡ bytesOf (inside (part f) (bytes (value ty)) s)
+          go D = sym (ap bytesOf (inside-is D) ∙ rw (step-fault (value ty (D .bytes)) c k (sym q ∙ answer D), D .size))
 
-      pub used-place : (c k : ℕ) → r ≡ Fault c k → Fits w64 (length s) → Fits w64 (a + k)
-      used-place c k q l = go (delivered f s p ep a e h)
+      pub used-place : (c k : ℕ) → r ≡ Fault c k → Fits w64 (length s) → Fits w64 (e - n + k)
+      used-place c k q l = go (delivered f s p ep n e h)
         where
-          go : Delivered f s a e → Fits w64 (a + k)
+          go : Delivered f s n e → Fits w64 (e - n + k)
           go D = omega (arith, D .size, D .start, D .end, held-refused (value ty) (held-value ty) (D .bytes) (step-fault (value ty (D .bytes)) c k (sym q ∙ answer D)))
 
 -- a value that may be any bytes, as many as there are
-pub used-wide : (f : Form) (s : List ℕ) (p : Part) → p ≡ partOf (part f s) → (a e : ℕ) → p ≡ Is a e → (T shapes : List ℕ) → shapes ≡ shapesOf T → (t w : ℕ) → w ≡ widthIn shapes t
-    → 0 < w → w ≡ e - a → Is a e ≡ partOf (inside (part f) (bytes (value (tyOf T t))) s)
-used-wide f s p ep a e h T shapes ef t w ew l q =
-    used-all f s p ep a e h (tyOf T t) (Took w)
-    (row-wide T shapes ef t (take (e - a) (drop a s)) w ew l (omega (arith, ap length (delivered f s p ep a e h .there), delivered f s p ep a e h .size))) w refl q
+pub used-wide : (f : Form) (s : List ℕ) (p : Sized) → p ≡ bytesOf (part f s) → (n e : ℕ) → p ≡ Is n e → (T shapes : List ℕ) → shapes ≡ shapesOf T → (t w : ℕ) → w ≡ widthIn shapes t
+    → 0 < w → w ≡ n → Is n e ≡ bytesOf (inside (part f) (bytes (value (tyOf T t))) s)
+used-wide f s p ep n e h T shapes ef t w ew l q =
+    let D = delivered f s p ep n e h in
+    used-all f s p ep n e h (tyOf T t) (Took w)
+    (row-wide T shapes ef t (take (e - (e - n)) (drop (e - n) s)) w ew l (omega (arith, ap length (D .there), D .size))) w refl q
 
--- a string is its own size and its bytes
-own-text : (s d : List ℕ) (e : ℕ) → part own s ≡ ok d e → (d ≡ take e s) × (Took e ≡ stepOf (text (take e s)))
-unfolding part extent string text mapc made Content stepOf
-own-text s d e h =
-    let B = bytes-ok (extent vsize) s h in
-    let g : string s ≡ ok (B .0) e = must-step (item (Number.size >>= λ n. chunk n (λ b. b))) s Content (B .1) refl in
-    (B .2, rw (framed-part string (closed-string framed) s g))
+-- ---- a string with its own size: the declared bytes are the string, whatever strings may hold
 
-pub used-text : (f : ℕ) (s : List ℕ) (p : Part) → p ≡ partOf (part (formNamed f) s) → (a e : ℕ) → p ≡ Is a e → f ≡ 8 → (T shapes : List ℕ) → shapes ≡ shapesOf T → (t : ℕ) (b : Bool) → b ≡ isTextIn shapes t
-    → b ≡ true → Is a e ≡ partOf (inside (part (formNamed f)) (bytes (value (tyOf T t))) s)
-unfolding formNamed
-used-text f s p ep a e h z T shapes ef t b eb y =
-    let D = delivered (formNamed f) s p ep a e h in
-    let w : formNamed f ≡ own = ap formNamed z in
-    let O = own-text s (D .bytes) e (ap (λ (x : Form). part x s) (sym w) ∙ D .is) in
-    let l : length (D .bytes) ≡ e = ap length (O .0) ∙ length-take-le e s (D .end) in
-    used-all (formNamed f) s p ep a e h (tyOf T t) (Took e)
-    (row-text T shapes ef t (take (e - a) (drop a s)) (Took e) b eb y (O .1 ∙ ap (λ (x : List ℕ). stepOf (text x)) (sym (D .there ∙ O .0)))) e refl (omega (arith, D .size))
+own-string : (s : List ℕ) → wholeOf (bytesOf (string s)) ≡ bytesOf (inside (part own) (bytes text) s)
+unfolding part extent string text must mapc inside enter bytes judged made leave bytesOf wholeOf
+own-string s = go (extent vsize s) refl
+  where
+    -- by the judgement of its content
+    judge : (d : List ℕ) (e : ℕ) → e ≤ length s → (t : Bool) → wholeOf (bytesOf (pick t (ok d e) (bad (Content d) 0)))
+        ≡ bytesOf (leave (length (take e s)) e (made (λ _ n. take n (take e s)) (made {B = Unit {0}} (λ _ _. tt) (pick t (ok d e) (bad (Content d) 0)))))
+    judge d e l true =
+        let n = length-take-le e s l in
+        let m = length-take-le e (take e s) (omega arith) in
+        rw (eq-eqb e (length (take e s)) (sym n), m)
+    judge d e l false = let z : e - length (take e s) + 0 ≡ 0 = omega (arith, length-take-le e s l) in rw z
+
+    go : (r : Res (List ℕ)) → extent vsize s ≡ r → wholeOf (bytesOf (judged Content r)) ≡ bytesOf (enter (bytes text) (made (λ _ n. take n s) r))
+    go (ok d e) h =
+        judge d e (held-took (extent vsize) (held-extent vsize) s h) (eqb (Content d) 0)
+        ∙ ap (λ (x : Res (List ℕ)). bytesOf (leave (length (take e s)) e (made (λ _ n. take n (take e s)) (made {B = Unit {0}} (λ _ _. tt) (judged Content x)))))
+        (sym (framed-part (extent vsize) (framed-extent vsize) s h))
+    go (bad c p) h = refl
+
+pub used-text : (f : ℕ) (s : List ℕ) (z : Sized) → z ≡ bytesOf (string s) → (r : Sized) → r ≡ wholeOf z → f ≡ 8
+    → (T shapes : List ℕ) → shapes ≡ shapesOf T → (t : ℕ) (b : Bool) → b ≡ isTextIn shapes t → b ≡ true
+    → r ≡ bytesOf (inside (part (formNamed f)) (bytes (value (tyOf T t))) s)
+unfolding formNamed value
+used-text f s z ez r er y T shapes ef t b eb q = rw (y, text-row T t shapes ef (sym eb ∙ q)) (er ∙ ap wholeOf ez ∙ own-string s)
 
 -- ---- the whole
 

@@ -4,7 +4,7 @@
 --   due-begin      at the start
 --   due-past       after an optional row
 --   due-next       after a required member that was read
---   due-fault, due-never     where its value is refused; then nothing was accepted
+--   due-fault, due-never     after a value that is refused; then nothing was accepted
 --   due-says, due-gives      at the end
 --   due-room, due-place      what is added fits
 use mathlib.Core.Path.{_≡_, refl, sym, ap, ap₂, _∙_, subst}
@@ -38,9 +38,10 @@ use Rattle.table.proofs.Ranges.{range-left, range-empty}
 use Rattle.wire.specs.StepLaws.{rest-is, step-took, step-fault}
 use Rattle.level.specs.declared.Members.the-variants.{Read, Refused}
 use Rattle.level.specs.Fill.{fill}
-use Rattle.level.specs.Answers.{membersOf, typeRow}
+use Rattle.optional.specs.Answers.{typeRow}
+use Rattle.level.specs.Answers.{membersOf}
 use Rattle.level.specs.RequiredLaws.{memberAt, Ahead, ahead-begin, ahead-past, ahead-next, required-past, required-next, piece-row}
-use Rattle.level.proofs.Lookups.{row-type}
+use Rattle.optional.proofs.Lookups.{row-type}
 
 -- the pieces still to come, where all are accepted, and what they make of the list as it is
 record Later (T : List ℕ) (t at : ℕ) (s : List ℕ) (ms : List Member) (pos k : ℕ) (last out : List ℕ) : Type 0 where
@@ -77,15 +78,15 @@ module _ (k m at n : ℕ) (out o : List ℕ) (e : o ≡ put (12 * k) (rowBytes (
   pub member-put : (i : ℕ) → Took n ≡ Took i → o ≡ put (12 * k) (rowBytes (record { member = m; place = at; len = i })) out
   member-put i q = let z : n ≡ i = cc in e ∙ ap (λ (j : ℕ). put (12 * k) (rowBytes (record { member = m; place = at; len = j })) out) z
 
-pub member-told : (r x y : Step) → r ≡ x → r ≡ y → y ≡ x
-member-told r x y e q = sym q ∙ e
+pub member-answer : (r x y : Step) → r ≡ x → r ≡ y → y ≡ x
+member-answer r x y e q = sym q ∙ e
 
 pub member-none : (c p i : ℕ) {A : Type 0} → Fault c p ≡ Took i → A
 member-none c p i q = let z : _≡_ {A = ℕ} 0 1 = cc in absurd (omega arith)
 
 -- ---- the loop
 
--- one member, and the rest behind it
+-- one member, and the rest after it
 one-more : (k i pos n : ℕ) (p : Piece) (r : Res (List Piece)) → membersOf k i (shift pos (shift n (made (λ ps _. p ∷ ps) r))) ≡ membersOf (k + 1) i (shift (pos + n) r)
 unfolding membersOf shift made
 one-more k i pos n p (ok ps l) = ap₂ (λ (x y : ℕ). Read x y i) (sym (add-assoc pos n l)) (omega arith)

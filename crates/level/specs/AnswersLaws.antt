@@ -1,8 +1,8 @@
--- What the answers tell of the readers' results, in the shape in which a call and a match hand them over. Assumes nothing.
+-- What the answers say of the readers' results, in the shape of the facts after a call and a match. Assumes nothing.
 --
 --   header-rises                            the tag of a header is at least the least
 --   KnownRead, SkippedRead                  an optional was read to a known piece, to a skipped one, and the least tag next is one above its own
---   known-read, skipped-read, wrong-read    what each answer tells: that; or the refusal
+--   known-read, skipped-read, wrong-read    what each answer says: that; or the refusal
 --   known-rows, skipped-rows                what the piece adds to the rows
 --   known-within, -start, -tag              all bytes are there, the value ends them, the tag is below 2 ^ 31
 --   skipped-some, -within, -tag             the same of a skipped one; wrong-within a refusal's place is there
@@ -30,6 +30,7 @@ use Rattle.encoding.specs.Optional.{Piece, optional, skipped, Header, firstForm
 use Rattle.encoding.specs.OptionalLaws.{held-optional, eats-optional, held-requireds}
 use Rattle.encoding.specs.WeightLaws.{optional-weight}
 use Rattle.encoding.specs.Message.{listRow, pieceMember, pieceRows}
+use Rattle.wire.specs.SizeLaws.{size-below}
 use Rattle.level.specs.declared.Members.{Members}
 use Rattle.level.specs.declared.Members.the-variants.{Read, Refused}
 use Rattle.level.specs.declared.Optional.{Optional}
@@ -37,17 +38,6 @@ use Rattle.level.specs.declared.Optional.the-variants.{Known, Skipped, W
 use Rattle.level.specs.Answers.{membersOf, rowOr, pieceAnswer, optionalAnswer}
 
 -- ---- tags
-
-size-below : (xs : List ℕ) {n k : ℕ} → size xs ≡ ok n k → n < 2 ^ 31
-unfolding size sizeTail
-size-below xs {n} {k} h = go (bind-ok byte sizeTail xs (item-ok (byte >>= sizeTail) xs h))
-  where
-    tail : (b : ℕ) (ys : List ℕ) (m : ℕ) (t : Bool) → ltb b 255 ≡ t → pick t (pure b) (must sizeForm (number 4)) ys ≡ ok n m → n < 2 ^ 31
-    tail b ys m true e h = omega (arith, ltb-true b 255 e, pure-ok b ys h .0)
-    tail b ys m false e h = sizeForm-ok n (must-ok (number 4) ys sizeForm h .1) .1
-
-    go : Bound byte sizeTail xs n k → n < 2 ^ 31
-    go B = tail (B .fst) (drop (B .n) xs) (B .m) (ltb (B .fst) 255) refl (B .next)
 
 tag-below : (ms : List Member) (least : ℕ) (xs : List ℕ) {h : Header} {n : ℕ} → header ms least xs ≡ ok h n → h .tag < 2 ^ 31
 unfolding header headerTail firstForm
@@ -134,44 +124,44 @@ module _ (ms : List Member) (least : ℕ) (s : List ℕ) (r : Optional) (e : r �
   unfolding optionalAnswer
   known-read m k a n q = go (optionalOf ms least s) refl (sym q ∙ e)
     where
-      told : (x : Piece × ℕ) (l : ℕ) → Either ms least s x l → Known m k a n ≡ pieceAnswer ms l (x .0) → KnownRead ms least s m k a n
-      told x l (one m′ k′ a′ p K) h =
+      by-piece : (x : Piece × ℕ) (l : ℕ) → Either ms least s x l → Known m k a n ≡ pieceAnswer ms l (x .0) → KnownRead ms least s m k a n
+      by-piece x l (one m′ k′ a′ p K) h =
           let em : m′ ≡ m = cc in
           let ek : k′ ≡ k = cc in
           let ea : a′ ≡ a = cc in
           let en : l ≡ n = cc in
           rw (em, ek, ea, en) at K
-      told x l (other k′ p K) h = let z : _≡_ {A = ℕ} 0 1 = cc in absurd (omega arith)
+      by-piece x l (other k′ p K) h = let z : _≡_ {A = ℕ} 0 1 = cc in absurd (omega arith)
 
       go : (x : Res (Piece × ℕ)) → optionalOf ms least s ≡ x → Known m k a n ≡ optionalAnswer ms x → KnownRead ms least s m k a n
-      go (ok x l) f h = told x l (either ms least s x l f) h
+      go (ok x l) f h = by-piece x l (either ms least s x l f) h
       go (bad c p) f h = let z : _≡_ {A = ℕ} 0 1 = cc in absurd (omega arith)
 
   pub skipped-read : (k n : ℕ) → r ≡ Skipped k n → SkippedRead ms least s k n
   unfolding optionalAnswer
   skipped-read k n q = go (optionalOf ms least s) refl (sym q ∙ e)
     where
-      told : (x : Piece × ℕ) (l : ℕ) → Either ms least s x l → Skipped k n ≡ pieceAnswer ms l (x .0) → SkippedRead ms least s k n
-      told x l (one m′ k′ a′ p K) h = let z : _≡_ {A = ℕ} 0 1 = cc in absurd (omega arith)
-      told x l (other k′ p K) h =
+      by-piece : (x : Piece × ℕ) (l : ℕ) → Either ms least s x l → Skipped k n ≡ pieceAnswer ms l (x .0) → SkippedRead ms least s k n
+      by-piece x l (one m′ k′ a′ p K) h = let z : _≡_ {A = ℕ} 0 1 = cc in absurd (omega arith)
+      by-piece x l (other k′ p K) h =
           let ek : k′ ≡ k = cc in
           let en : l ≡ n = cc in
           rw (ek, en) at K
 
       go : (x : Res (Piece × ℕ)) → optionalOf ms least s ≡ x → Skipped k n ≡ optionalAnswer ms x → SkippedRead ms least s k n
-      go (ok x l) f h = told x l (either ms least s x l f) h
+      go (ok x l) f h = by-piece x l (either ms least s x l f) h
       go (bad c p) f h = let z : _≡_ {A = ℕ} 0 1 = cc in absurd (omega arith)
 
   pub wrong-read : (c p : ℕ) → r ≡ Wrong c p → optionalOf ms least s ≡ bad c p
   unfolding optionalAnswer
   wrong-read c p q = go (optionalOf ms least s) refl (sym q ∙ e)
     where
-      told : (x : Piece × ℕ) (l : ℕ) → Either ms least s x l → Wrong c p ≡ pieceAnswer ms l (x .0) → optionalOf ms least s ≡ bad c p
-      told x l (one m′ k′ a′ y K) h = let z : _≡_ {A = ℕ} 0 1 = cc in absurd (omega arith)
-      told x l (other k′ y K) h = let z : _≡_ {A = ℕ} 0 1 = cc in absurd (omega arith)
+      by-piece : (x : Piece × ℕ) (l : ℕ) → Either ms least s x l → Wrong c p ≡ pieceAnswer ms l (x .0) → optionalOf ms least s ≡ bad c p
+      by-piece x l (one m′ k′ a′ y K) h = let z : _≡_ {A = ℕ} 0 1 = cc in absurd (omega arith)
+      by-piece x l (other k′ y K) h = let z : _≡_ {A = ℕ} 0 1 = cc in absurd (omega arith)
 
       go : (x : Res (Piece × ℕ)) → optionalOf ms least s ≡ x → Wrong c p ≡ optionalAnswer ms x → optionalOf ms least s ≡ bad c p
-      go (ok x l) f h = told x l (either ms least s x l f) h
+      go (ok x l) f h = by-piece x l (either ms least s x l f) h
       go (bad d y) f h = f ∙ cc
 
   -- the bytes of a known optional are all there, and its value ends them

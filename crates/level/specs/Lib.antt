@@ -1,8 +1,6 @@
 -- What the readers of one owner's members answer, what rows they put, and laws of both.
 pub mod Fill
 pub mod FillLaws
-pub mod Forms
-pub mod FormsLaws
 pub mod Answers
 pub mod AnswersLaws
 pub mod TagLaws

@@ -1,7 +1,7 @@
--- The next optional is read alike where its tag is looked up behind the members that were passed: a tag below the least is refused before it is looked up. Assumes nothing.
+-- The next optional is read alike if its tag is looked up only after the members that were passed: a tag below the least is refused before it is looked up. Assumes nothing.
 --
 --   answer-alike     of members among which every tag from the least on is looked up alike
---   passed-answer    of all optional members of a row, and of those behind the passed
+--   passed-answer    of all optional members of a row, and of those after the passed
 --   member-tag       the member of a known optional has its tag
 --   member-begun, member-within   it is one of the row's members
 use mathlib.Core.Path.{_≡_, refl, sym, ap, _∙_}
@@ -21,7 +21,8 @@ use Rattle.encoding.specs.Table
 use Rattle.encoding.specs.Optional.{optional, skipped, Header, wrongType, headerForm, header, extent, part, content, optionalOf}
 use Rattle.table.specs.Tags.{optionalFrom, Passed}
 use Rattle.table.specs.TagsLaws.{optional-own, passed-lookup}
-use Rattle.level.specs.Answers.{front, pieceAnswer, optionalAnswer}
+use Rattle.optional.specs.Answers.{front}
+use Rattle.level.specs.Answers.{pieceAnswer, optionalAnswer}
 use Rattle.level.specs.AnswersLaws.{header-rises, KnownRead}
 
 module _ (ms ns : List Member) (least : ℕ) (alike : (k : ℕ) → least ≤ k → lookup k ms ≡ lookup k ns) where

@@ -1,7 +1,4 @@
-// The members of one owner: its required members, and the next of its optionals.
-// headers.rt has an optional's header, extents.rt its declared bytes, optionals.rt the whole of it.
-pub mod extents;
-pub mod headers;
+// The members of one owner: its required members, and (optionals.rt) the next of its optionals.
 pub mod optionals;
 
 ghost use mathlib.Core.Path.{_≡_};
@@ -19,7 +16,7 @@ ghost use Rattle.wire.specs.declared.Step.the-variants.{Took};
 ghost use Rattle.shapes.specs.Shapes.{shapesOf};
 ghost use Rattle.table.specs.Tags.{optionalStart};
 ghost use Rattle.level.specs.Fill.{fill};
-ghost use Rattle.level.specs.Answers.{membersOf, typeOf};
+ghost use Rattle.level.specs.Answers.{membersOf};
 use wire::Step;
 
 // The bytes taken, the rows there are, and where the optional members begin; or a refusal's number and place.
@@ -35,53 +32,7 @@ pub enum Optional {
     Wrong(usize, usize),
 }
 
-// A header before it is judged: whether its tag is long, its tag, its type bits, the bytes taken; or a refusal's number and place.
-pub enum Front {
-    Is(bool, usize, usize, usize),
-    Isnt(usize, usize),
-}
-
-// A header. Of a known tag: the member row, the row of its type, the tag, the bytes taken, the number of its form. Of an unknown one: the tag, the type bits, the bytes taken. Or a refusal's number and place.
-pub enum Head {
-    Known(usize, usize, usize, usize, usize),
-    Unknown(usize, usize, usize),
-    Wrong(usize, usize),
-}
-
-// Declared bytes: where those that are delivered begin, and the bytes taken; or a refusal's number and place.
-pub enum Part {
-    Is(usize, usize),
-    Isnt(usize, usize),
-}
-
-// The row of the type of member m, of `all` members, whose row says `of`; where there is no such member, a row without a tree.
-fn type_of(all: usize, m: usize, of: usize) -> usize
-    ensures { λ r. ⌜ r ≡ typeOf all m of ⌝ }
-{
-    if m < all { of } else { 256 }
-}
-
-// Puts the three numbers of a row into its twelve bytes.
-fn put_numbers(row: &mut [u8], member: usize, place: usize, len: usize)
-    requires { ⌜ length (now row) ≡ 12 ⌝ }
-    ensures { λ _. ⌜ now (row .exit) ≡ rowBytes (record { member = member; place = place; len = len }) ⌝ }
-{
-    wire::put_number(row, 0, 4, member);
-    wire::put_number(row, 4, 4, place);
-    wire::put_number(row, 8, 4, len);
-}
-
-// Puts row k into the lent list, where it fits.
-pub fn put_row(out: &mut [u8], k: usize, member: usize, place: usize, len: usize)
-    ensures { λ _. ⌜ now (out .exit) ≡ put (12 * k) (rowBytes (record { member = member; place = place; len = len })) (now (out .entry)) ⌝ }
-{
-    if k < out.len() / 12 {
-        let a = 12 * k;
-        put_numbers(&mut out[a..a + 12], member, place, len);
-    }
-}
-
-// Required member m of type row t: its value in front, and row k for it, where it stands `at` a place.
+// Reads required member m, of type row t, and puts row k for it; its value is at place `at`.
 fn put_member(
     table: &[u8],
     shapes: &[u8; 256],
@@ -100,14 +51,14 @@ fn put_member(
     let step = value::read_member(table, shapes, t, s);
     match step {
         Step::Took(n) => {
-            put_row(out, k, m, at, n);
+            wire::rows::put_row(out, k, m, at, n);
             Step::Took(n)
         }
         Step::Fault(c, p) => Step::Fault(c, p),
     }
 }
 
-// The required members of owner t, as declared: a row for each from row `count` on, its place counted from `at`. Its first optional row is told too.
+// Reads the required members of owner t, as declared, and puts a row for each, from row `count` on; `at` is the place of the first. Gives the first optional row too.
 pub fn required(
     table: &[u8],
     shapes: &[u8; 256],
@@ -137,7 +88,7 @@ pub fn required(
             let step = put_member(
                 table,
                 shapes,
-                type_of(all, m, row.of),
+                optional::type_of(all, m, row.of),
                 &s[pos..],
                 at + pos,
                 k,

@@ -7,49 +7,52 @@ ghost use Rattle.encoding.specs.Table.{tyOf};
 ghost use Rattle.encoding.specs.Optional.{part, optionalOf};
 ghost use Rattle.shapes.specs.Shapes.{shapesOf};
 ghost use Rattle.table.specs.Tags.{optionalFrom};
-ghost use Rattle.level.specs.Forms.{formNamed};
-ghost use Rattle.level.specs.Answers.{partOf, optionalAnswer};
-use crate::Head;
+ghost use Rattle.optional.specs.Forms.{formNamed};
+ghost use Rattle.wire.specs.Steps.{bytesOf};
+ghost use Rattle.level.specs.Answers.{optionalAnswer};
 use crate::Optional;
-use crate::Part;
+use optional::Head;
+use wire::Sized;
 use wire::Step;
 
-// A value of type row t in the part of the form of number f: it uses up just the declared bytes. Bytes that may be any are as many as the type has; a string uses up its own size.
-fn used_up(table: &[u8], shapes: &[u8; 256], t: usize, s: &[u8], f: usize) -> Part
+// A value of type row t in the declared bytes of the form of number f, which it uses up: how many bytes it has, and the bytes taken.
+// A string with its own size is read once; a value that may be any bytes needs as many as its type has.
+fn used_up(table: &[u8], shapes: &[u8; 256], t: usize, s: &[u8], f: usize) -> Sized
     requires { ⌜ now shapes ≡ shapesOf (now table) ⌝ }
-    ensures { λ r. ⌜ r ≡ partOf (inside (part (formNamed f)) (bytes (value (tyOf (now (table .entry)) t))) (now (s .entry))) ⌝ }
+    ensures { λ r. ⌜ r ≡ bytesOf (inside (part (formNamed f)) (bytes (value (tyOf (now (table .entry)) t))) (now (s .entry))) ⌝ }
 {
-    let p = crate::extents::part(s, f);
+    if f == 8 {
+        if shapes::is_text(shapes, t) {
+            return optional::extents::whole(wire::read_string(s));
+        }
+    }
+    let p = optional::extents::part(s, f);
     match p {
-        Part::Is(a, e) => {
+        Sized::Is(n, e) => {
             let w = shapes::width(shapes, t);
             if 0 < w {
-                if w == e - a {
-                    return Part::Is(a, e);
+                if w == n {
+                    return Sized::Is(n, e);
                 }
             }
-            if f == 8 {
-                if shapes::is_text(shapes, t) {
-                    return Part::Is(a, e);
-                }
-            }
+            let a = e - n;
             let step = value::read_value(table, shapes, t, &s[a..e]);
             match step {
-                Step::Took(n) => {
-                    if n == e - a {
-                        Part::Is(a, e)
+                Step::Took(m) => {
+                    if m == n {
+                        Sized::Is(n, e)
                     } else {
-                        Part::Isnt(11, 0)
+                        Sized::Isnt(11, 0)
                     }
                 }
-                Step::Fault(c, q) => Part::Isnt(c, a + q),
+                Step::Fault(c, q) => Sized::Isnt(c, a + q),
             }
         }
-        Part::Isnt(c, q) => Part::Isnt(c, q),
+        Sized::Isnt(c, q) => Sized::Isnt(c, q),
     }
 }
 
-// The next optional, its tag at least `least` and looked up among the member rows from `from` on and before `end`: a known value in its declared bytes, or a skipped one.
+// The next optional: a known value in its declared bytes, or a skipped one. Its tag is at least `least`, and is looked up among the member rows from `from` up to `end`.
 pub fn optional(
     table: &[u8],
     shapes: &[u8; 256],
@@ -62,20 +65,20 @@ pub fn optional(
     requires { ⌜ end ≤ 131072 ⌝ }
     ensures { λ r. ⌜ r ≡ optionalAnswer (optionalFrom (now (table .entry)) end from) (optionalOf (optionalFrom (now (table .entry)) end from) least (now (s .entry))) ⌝ }
 {
-    let h = crate::headers::header(table, shapes, end, from, least, s);
+    let h = optional::headers::header(table, shapes, end, from, least, s);
     match h {
         Head::Known(m, ty, tag, n, f) => {
             let p = used_up(table, shapes, ty, &s[n..], f);
             match p {
-                Part::Is(a, e) => Optional::Known(m, tag, n + a, n + e),
-                Part::Isnt(c, q) => Optional::Wrong(c, n + q),
+                Sized::Is(l, e) => Optional::Known(m, tag, n + (e - l), n + e),
+                Sized::Isnt(c, q) => Optional::Wrong(c, n + q),
             }
         }
         Head::Unknown(tag, k, n) => {
-            let p = crate::extents::extent(&s[n..], k);
+            let p = optional::extents::extent(&s[n..], k);
             match p {
-                Part::Is(a, e) => Optional::Skipped(tag, n + e),
-                Part::Isnt(c, q) => Optional::Wrong(c, n + q),
+                Sized::Is(l, e) => Optional::Skipped(tag, n + e),
+                Sized::Isnt(c, q) => Optional::Wrong(c, n + q),
             }
         }
         Head::Wrong(c, p) => Optional::Wrong(c, p),

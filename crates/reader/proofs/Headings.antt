@@ -1,10 +1,9 @@
--- Flags and type ID, case by case as the code tells them apart. Assumes nothing.
+-- Flags and type ID, a case for each way out of the code. Assumes nothing.
 --
 --   mixed-.., due-.., flags-..   the judgements of flags
---   text-..                      the cases of a string
 --   id-..                        a type ID, due or not: its cases, and that it lies within the bytes at hand
---   seek-.., follow-..           the meaning of an ID while no slice was known yet, and behind a known one
---   heading-..                   both, by where the walk stands
+--   seek-.., follow-..           the meaning of an ID before the first known slice, and after a known one
+--   heading-..                   both, by the stage of the walk
 --   head-..                      the cases of a head
 use mathlib.Core.Path.{_≡_, refl, sym, ap, _∙_}
 use mathlib.Core.Logic.{_⊎_, ⊎-elim}
@@ -15,23 +14,23 @@ use Prim.Native.Nat.{ℕ, zero, suc, _+_, _-_, _%_, _≤_, _<_}
 use native.Mathlib.Numerals.{sub-one}
 use native.Mathlib.Omega.{arith}
 use lib.ListN.{length, take, drop, length-drop}
-use lib.Seq.{length-take-le, drop-drop}
+use lib.Seq.{drop-drop}
 use lib.Dec.{eqb, ltb}
 use denote.Enum.Declared.{tagOf}
 use mir.Syntax.{w64}
 use mir.Val.{Fits}
 use borrow.Author.Tests.{le-leb, lt-leb, lt-ltb, le-ltb, ne-eqb}
-use Rattle.encoding.specs.Result.{Res, ok, bad, pick, shift, after, _>>=_, pure, chunk, atFirst, item, judged, must, made, mapc, firstOf, sameBytes}
+use Rattle.encoding.specs.Result.{Res, ok, bad, pick, shift, after, _>>=_, pure, chunk, judged, must, made, mapc, firstOf, sameBytes}
 use Rattle.encoding.specs.ResultLaws.{firstOf-ok, must-ok, Held, held-took, held-refused, held-pure, held-pick, Ends, ends-chunk, ends-item, ends-bind}
-use Rattle.encoding.specs.Number.{byte, number, size, Content, string}
-use Rattle.encoding.specs.NumberLaws.{held-size, held-string}
+use Rattle.encoding.specs.Number.{byte, number, Content, string}
+use Rattle.encoding.specs.NumberLaws.{held-string}
 use Rattle.encoding.specs.Table.{at, any, chain, named, nameOf, base}
 use Rattle.encoding.specs.Slice.{compact, sliced, isSliced, bit, formatOf, first, later, seek, follow, mixed, due, flagForm, Head, head, standOf, Meaning, skip, row, wrong, wrongLast, knownMeaning, seekMeaning, meaning, isNone, idForm, meaningForm}
 use Rattle.encoding.specs.Slice
 use Rattle.wire.specs.declared.Sized.{Sized}
-use Rattle.wire.specs.declared.Sized.the-variants.{Is as Size, Isnt as Unsized}
-use Rattle.wire.specs.Steps.{sizedOf}
-use Rattle.wire.specs.StepLaws.{rest-is, sized-is, sized-isnt}
+use Rattle.wire.specs.declared.Sized.the-variants.{Is, Isnt}
+use Rattle.wire.specs.Steps.{bytesOf}
+use Rattle.wire.specs.StepLaws.{rest-is, bytes-is, bytes-isnt}
 use Rattle.table.specs.declared.Found.{Found}
 use Rattle.table.specs.declared.Found.the-variants.{At, Nothing}
 use Rattle.table.specs.Found.{foundOf}
@@ -40,9 +39,7 @@ use Rattle.reader.specs.declared.Stage.the-variants.{First, Seeking, Fol
 use Rattle.reader.proofs.Stage.{the-type}
 use Rattle.reader.specs.declared.Heading.{Heading}
 use Rattle.reader.specs.declared.Heading.the-variants.{Skip, Known, Wrong}
-use Rattle.reader.specs.declared.Text.{Text}
-use Rattle.reader.specs.declared.Text.the-variants.{Is, Isnt}
-use Rattle.reader.specs.Stages.{stageOf, textOf, idText, headOf, meaningAnswer, headAnswer, seekHeading, followHeading, heading}
+use Rattle.reader.specs.Stages.{stageOf, idText, headOf, meaningAnswer, headAnswer, seekHeading, followHeading, heading}
 
 -- ---- flags
 
@@ -111,28 +108,6 @@ module _ (stage : Stage) (f : ℕ) where
           pub flags-fine : t ≡ false → i ≤ 1 → 0 ≡ flagForm (standOf (stageOf stage)) f
           unfolding flagForm firstOf
           flags-fine q l = rw (sym eu ∙ nu, sym em ∙ nm, gone, sym et ∙ q, ← ei, le-ltb 1 i l)
-
--- ---- a string, by its size
-
-module _ (s : List ℕ) (r : Sized) (e : r ≡ sizedOf (size s)) where
-  pub text-within : (n k : ℕ) → r ≡ Size n k → k ≤ length s
-  text-within n k q = held-took size held-size s (sized-is (size s) n k (sym q ∙ e))
-
-  pub text-bad : (c p : ℕ) → r ≡ Unsized c p → Isnt c 0 ≡ textOf (string s)
-  unfolding string must judged item atFirst _>>=_ after textOf
-  text-bad c p q = rw (sized-isnt (size s) c p (sym q ∙ e))
-
-  module _ (n k : ℕ) (q : r ≡ Size n k) where
-    pub text-cut : length s - k < n → Isnt 4 0 ≡ textOf (string s)
-    unfolding string must judged item atFirst _>>=_ after chunk shift textOf
-    text-cut h = rw (sized-is (size s) n k (sym q ∙ e), lt-leb n (length (drop k s)) (omega (arith, length-drop k s)))
-
-    pub text-whole : n ≤ length s - k → Is k (k + n) ≡ textOf (string s)
-    unfolding string must judged item atFirst _>>=_ after chunk shift Content textOf
-    text-whole h =
-        let l : n ≤ length (drop k s) = omega (arith, length-drop k s) in
-        let d : k + n - length (take n (drop k s)) ≡ k = omega (arith, length-take-le n (drop k s) l) in
-        rw (sized-is (size s) n k (sym q ∙ e), le-leb n (length (drop k s)) l, d)
 
 -- ---- the meaning of an ID
 
@@ -275,27 +250,17 @@ module _ (T : List ℕ) (top : ℕ) (st : Slice.Stage) where
       go (wrong c) e = go₂ c (eqb c 0) e
   head-judged (bad c p) = refl
 
-text-is : (r : Res (List ℕ)) (a e : ℕ) → Is a e ≡ textOf r → (b : List ℕ) × (r ≡ ok b e) × (a ≡ e - length b)
-unfolding textOf
-text-is (ok b n) a e h = (b, cc, cc)
-text-is (bad c p) a e h = let z : _≡_ {A = ℕ} 0 1 = cc in absurd (omega arith)
-
-text-isnt : (r : Res (List ℕ)) (c p : ℕ) → Isnt c p ≡ textOf r → r ≡ bad c p
-unfolding textOf
-text-isnt (ok b n) c p h = let z : _≡_ {A = ℕ} 0 1 = cc in absurd (omega arith)
-text-isnt (bad d q) c p h = cc
-
 ends-string : Ends string
 unfolding string
 ends-string xs d n h = ends-item _ (ends-bind _ _ (λ n. ends-chunk n)) xs d n (must-ok _ xs Content h .0)
 
 module _ (d : Bool) where
-  pub id-due : d ≡ true → (s : List ℕ) (r : Text) → r ≡ textOf (string s) → r ≡ textOf (idText d s)
+  pub id-due : d ≡ true → (s : List ℕ) (r : Sized) → r ≡ bytesOf (string s) → r ≡ bytesOf (idText d s)
   unfolding idText
   id-due q s r e = rw q e
 
-  pub id-none : d ≡ false → (s : List ℕ) → Is 0 0 ≡ textOf (idText d s)
-  unfolding idText pure textOf
+  pub id-none : d ≡ false → (s : List ℕ) → Is 0 0 ≡ bytesOf (idText d s)
+  unfolding idText pure bytesOf
   id-none q s = rw q
 
   held-id : Held (idText d)
@@ -307,28 +272,32 @@ unfolding idText pure
 ends-id true xs b n h = ends-string xs b n h
 ends-id false xs b n h = let e : [] ≡ b = cc in let z : 0 ≡ n = cc in rw (← e, ← z) (record { within = omega arith; there = refl })
 
-module _ (s : List ℕ) (d : Bool) (r : Text) (e : r ≡ textOf (idText d (take (length s - 1) (drop 1 s)))) where
-  id-text : r ≡ textOf (idText d (drop 1 s))
-  id-text = e ∙ ap (λ (z : List ℕ). textOf (idText d z)) (rest-is s 1)
+module _ (s : List ℕ) (d : Bool) (r : Sized) (e : r ≡ bytesOf (idText d (take (length s - 1) (drop 1 s)))) where
+  id-text : r ≡ bytesOf (idText d (drop 1 s))
+  id-text = e ∙ ap (λ (z : List ℕ). bytesOf (idText d z)) (rest-is s 1)
 
   module _ (h : 1 ≤ length s) where
-    pub id-order : (a b : ℕ) → r ≡ Is a b → 1 + a ≤ 1 + b
-    id-order a b q = let I = text-is (idText d (drop 1 s)) a b (sym q ∙ id-text) in omega (arith, I .2)
+    id-read : (l n : ℕ) → r ≡ Is l n → (b : List ℕ) × (idText d (drop 1 s) ≡ ok b n) × (l ≡ length b)
+    id-read l n q = bytes-is (idText d (drop 1 s)) l n (sym q ∙ id-text)
 
-    pub id-within : (a b : ℕ) → r ≡ Is a b → 1 + b ≤ length s
-    id-within a b q =
-        let I = text-is (idText d (drop 1 s)) a b (sym q ∙ id-text) in
-        omega (arith, held-took (idText d) (held-id d) (drop 1 s) (I .1), length-drop 1 s)
+    pub id-within : (l n : ℕ) → r ≡ Is l n → 1 + n ≤ length s
+    id-within l n q = omega (arith, held-took (idText d) (held-id d) (drop 1 s) (id-read l n q .1), length-drop 1 s)
 
-    pub id-start-fits : (a b : ℕ) → r ≡ Is a b → Fits w64 (length s) → Fits w64 (1 + a)
-    id-start-fits a b q f = omega (arith, id-order a b q, id-within a b q)
+    pub id-end-fits : (l n : ℕ) → r ≡ Is l n → Fits w64 (length s) → Fits w64 (1 + n)
+    id-end-fits l n q f = omega (arith, id-within l n q)
 
-    pub id-end-fits : (a b : ℕ) → r ≡ Is a b → Fits w64 (length s) → Fits w64 (1 + b)
-    id-end-fits a b q f = omega (arith, id-within a b q)
+    pub id-length : (l n : ℕ) → r ≡ Is l n → l ≤ 1 + n
+    id-length l n q = go (id-read l n q)
+      where
+        go : (b : List ℕ) × (idText d (drop 1 s) ≡ ok b n) × (l ≡ length b) → l ≤ 1 + n
+        go I = omega (arith, I .2, ends-id d (drop 1 s) (I .0) n (I .1) .within)
+
+    pub id-order : (l n : ℕ) → r ≡ Is l n → 1 + n - l ≤ 1 + n
+    id-order l n q = omega (arith, id-length l n q)
 
     pub id-place-fits : (c p : ℕ) → r ≡ Isnt c p → Fits w64 (length s) → Fits w64 (1 + p)
     id-place-fits c p q f =
-        omega (arith, held-refused (idText d) (held-id d) (drop 1 s) (text-isnt (idText d (drop 1 s)) c p (sym q ∙ id-text)), length-drop 1 s)
+        omega (arith, held-refused (idText d) (held-id d) (drop 1 s) (bytes-isnt (idText d (drop 1 s)) c p (sym q ∙ id-text)), length-drop 1 s)
 
 -- flags and ID, judged by 15 at the ID
 heading-answer : (T : List ℕ) (top : ℕ) (stage : Stage) (f : ℕ) (b : List ℕ) (n : ℕ)
@@ -403,22 +372,23 @@ module _ (T : List ℕ) (top : ℕ) (stage : Stage) (s : List ℕ) where
               let o : n ≡ 0 = cc in
               rw (v, o) (heading-bare T top stage f (sym ec ∙ z) (sym ed ∙ q))
 
-      module _ (t : Text) (et : t ≡ textOf (idText d (take (length s - 1) (drop 1 s)))) where
+      module _ (t : Sized) (et : t ≡ bytesOf (idText d (take (length s - 1) (drop 1 s)))) where
         pub head-unread : (c p : ℕ) → t ≡ Isnt c p → Wrong c (1 + p) ≡ whole
         unfolding idText must judged pure made shift headAnswer
-        head-unread c p k = sym (head-on ∙ go d (text-isnt (idText d (drop 1 s)) c p (sym k ∙ id-text s d t et)))
+        head-unread c p k = sym (head-on ∙ go d (bytes-isnt (idText d (drop 1 s)) c p (sym k ∙ id-text s d t et)))
           where
             go : (b : Bool) → idText b (drop 1 s) ≡ bad c p → headAnswer T top (stageOf stage) (heads f b) ≡ Wrong c (1 + p)
             go true q = rw q
             go false q = let x : _≡_ {A = ℕ} 0 1 = cc in absurd (omega arith)
 
-        pub head-named : (a b : ℕ) → t ≡ Is a b → (r : Heading) → r ≡ heading T top stage f (take (1 + b - (1 + a)) (drop (1 + a) s)) (1 + b) → r ≡ whole
-        head-named a b k r e = go (text-is (idText d (drop 1 s)) a b (sym k ∙ id-text s d t et))
+        pub head-named : (l n : ℕ) → t ≡ Is l n → (r : Heading) → r ≡ heading T top stage f (take (1 + n - (1 + n - l)) (drop (1 + n - l) s)) (1 + n) → r ≡ whole
+        head-named l n k r e = go (bytes-is (idText d (drop 1 s)) l n (sym k ∙ id-text s d t et))
           where
-            go : (w : List ℕ) × (idText d (drop 1 s) ≡ ok w b) × (a ≡ b - length w) → r ≡ whole
+            go : (w : List ℕ) × (idText d (drop 1 s) ≡ ok w n) × (l ≡ length w) → r ≡ whole
             go I =
-                let E = ends-id d (drop 1 s) (I .0) b (I .1) in
-                let l : 1 + b - (1 + a) ≡ length (I .0) = omega (arith, I .2, E .within) in
-                let w : take (1 + b - (1 + a)) (drop (1 + a) s) ≡ I .0 =
-                ap (λ (i : ℕ). take i (drop (1 + a) s)) l ∙ ap (take (length (I .0))) (sym (drop-drop a 1 s) ∙ ap (λ (i : ℕ). drop i (drop 1 s)) (I .2)) ∙ E .there in
-                e ∙ ap (λ (i : List ℕ). heading T top stage f i (1 + b)) w ∙ head-read (I .0) b (I .1)
+                let E = ends-id d (drop 1 s) (I .0) n (I .1) in
+                let i : 1 + n - l ≡ 1 + (n - length (I .0)) = omega (arith, I .2, E .within) in
+                let j : 1 + n - (1 + n - l) ≡ length (I .0) = omega (arith, I .2, E .within) in
+                let w : take (1 + n - (1 + n - l)) (drop (1 + n - l) s) ≡ I .0 =
+                ap (λ (x : ℕ). take x (drop (1 + n - l) s)) j ∙ ap (take (length (I .0))) (ap (λ (x : ℕ). drop x s) i ∙ sym (drop-drop (n - length (I .0)) 1 s)) ∙ E .there in
+                e ∙ ap (λ (x : List ℕ). heading T top stage f x (1 + n)) w ∙ head-read (I .0) n (I .1)

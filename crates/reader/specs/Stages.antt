@@ -1,18 +1,16 @@
 -- What the code answers of a slice's flags and type ID.
 --
 --   stageOf          where the walk over slices stands, as the definitions have it
---   textOf           a string: where its bytes begin and end
---   idText           a type ID where one is due, else no bytes
+--   idText           a type ID if one is due, else no bytes
 --   headOf           a head of flags and an ID
 --   meaningAnswer    what a head means: skip it, the slice of a known row, or a refusal
 --   headAnswer       the same of a head that was read, or the refusal of its reading
---   seekHeading      flags and an ID, 15 judged too, while no slice was known yet
---   followHeading    flags and an ID behind a known slice
+--   seekHeading      flags and an ID, 15 judged too, before the first known slice
+--   followHeading    flags and an ID after a known slice
 --   heading          one of the two, by where the walk stands
 use mathlib.Core.Bool.{Bool, _&&_, not}
-use Prim.Native.Nat.{ℕ, _-_}
+use Prim.Native.Nat.{ℕ}
 use mathlib.Core.List.{List, []}
-use lib.ListN.{length}
 use Rattle.encoding.specs.Result.{Res, ok, bad, Parser, pick, pure}
 use Rattle.encoding.specs.Number.{string}
 use Rattle.encoding.specs.Table.{named}
@@ -22,17 +20,11 @@ use Rattle.reader.specs.declared.Stage.{Stage}
 use Rattle.reader.specs.declared.Stage.the-variants.{First, Seeking, Following}
 use Rattle.reader.specs.declared.Heading.{Heading}
 use Rattle.reader.specs.declared.Heading.the-variants.{Skip, Known, Wrong}
-use Rattle.reader.specs.declared.Text.{Text}
-use Rattle.reader.specs.declared.Text.the-variants.{Is, Isnt}
 
 unfoldable pub stageOf : Stage → Slice.Stage
 stageOf First = seek first
 stageOf Seeking = seek (later sliced)
 stageOf (Following s b) = follow (pick s sliced compact) b
-
-unfoldable pub textOf : Res (List ℕ) → Text
-textOf (ok b n) = Is (n - length b) n
-textOf (bad c p) = Isnt c p
 
 unfoldable pub idText : Bool → Parser (List ℕ)
 idText d = pick d string (pure [])

@@ -1,18 +1,17 @@
-// Flags and type ID of a slice, and what they mean where the walk stands.
+// Flags and type ID of a slice, and what they mean at this stage of the walk.
 ghost use mathlib.Core.Path.{_≡_};
 ghost use mathlib.Core.Bool.{_&&_, not};
 ghost use Rattle.encoding.specs.Result.{must, sameBytes};
-ghost use Rattle.encoding.specs.Number.{string};
 ghost use Rattle.encoding.specs.Table.{nameOf};
 ghost use Rattle.encoding.specs.Slice.{formatOf, mixed, due, flagForm, head, standOf, idForm, wrongLast, meaning, meaningForm};
-ghost use Rattle.reader.specs.Stages.{stageOf, textOf, idText, seekHeading, followHeading, heading, headAnswer};
+ghost use Rattle.wire.specs.Steps.{bytesOf};
+ghost use Rattle.reader.specs.Stages.{stageOf, idText, seekHeading, followHeading, heading, headAnswer};
 use crate::Heading;
 use crate::Stage;
-use crate::Text;
 use table::Found;
 use wire::Sized;
 
-// The format is another than that of the slice before.
+// The format differs from that of the slice before.
 fn mixed(stage: Stage, flags: usize) -> bool
     ensures { λ r. ⌜ r ≡ mixed (standOf (stageOf stage)) flags ⌝ }
 {
@@ -36,7 +35,7 @@ fn due(stage: Stage, flags: usize) -> bool
     }
 }
 
-// 14 for bits 6-7, a mixed format, an ID missing or in the way; 13 for bit 3, ID form 2 or 3; or 0.
+// The judgements of the flags: 14 for bits 6-7, a mixed format, a missing or a needless ID; 13 for bit 3 and ID form 2 or 3; else 0.
 fn flag_form(stage: Stage, flags: usize) -> usize
     ensures { λ r. ⌜ r ≡ flagForm (standOf (stageOf stage)) flags ⌝ }
 {
@@ -59,41 +58,24 @@ fn flag_form(stage: Stage, flags: usize) -> usize
     0
 }
 
-// A string: where its bytes begin and where they end.
-fn text(s: &[u8]) -> Text
-    ensures { λ r. ⌜ r ≡ textOf (string (now (s .entry))) ⌝ }
-{
-    let z = wire::read_size(s);
-    match z {
-        Sized::Is(n, k) => {
-            if n <= s.len() - k {
-                Text::Is(k, k + n)
-            } else {
-                Text::Isnt(4, 0)
-            }
-        }
-        Sized::Isnt(c, p) => Text::Isnt(c, 0),
-    }
-}
-
-// A type ID where one is due: where its bytes begin and end; without one, an empty part.
-fn id_text(due: bool, s: &[u8]) -> Text
-    ensures { λ r. ⌜ r ≡ textOf (idText due (now (s .entry))) ⌝ }
+// A type ID if one is due, else no bytes.
+fn id_text(due: bool, s: &[u8]) -> Sized
+    ensures { λ r. ⌜ r ≡ bytesOf (idText due (now (s .entry))) ⌝ }
 {
     if due {
-        return text(s);
+        return wire::read_string(s);
     }
-    Text::Is(0, 0)
+    Sized::Is(0, 0)
 }
 
-// Bit 5 is set on a row with a base, or is not on one without.
+// Bit 5 (the last slice) is set on a row with a base, or not set on one without.
 fn wrong_last(table: &[u8], t: usize, last: bool) -> bool
     ensures { λ r. ⌜ r ≡ wrongLast (now (table .entry)) t last ⌝ }
 {
     last != (table::chain::base(table, t) == 0)
 }
 
-// An ID while no slice was known yet: skipped, 15 or 16 if unknown; else the top or below it, or 17.
+// An ID before the first known slice. Unknown: skipped, or 15, or 16. Known: the top or below it, or 17.
 fn seek_heading(table: &[u8], top: usize, flags: usize, id: &[u8], n: usize) -> Heading
     ensures { λ r. ⌜ r ≡ seekHeading (now (table .entry)) top flags (now (id .entry)) n ⌝ }
 {
@@ -122,7 +104,7 @@ fn seek_heading(table: &[u8], top: usize, flags: usize, id: &[u8], n: usize) -> 
     }
 }
 
-// An ID stands there that is not the name of row t.
+// There is an ID, and it is not the name of row t.
 fn other_id(table: &[u8], sliced: bool, t: usize, id: &[u8]) -> bool
     ensures { λ r. ⌜ r ≡ sliced && not (sameBytes (now (id .entry)) (nameOf (now (table .entry)) t)) ⌝ }
 {
@@ -132,7 +114,7 @@ fn other_id(table: &[u8], sliced: bool, t: usize, id: &[u8]) -> bool
     false
 }
 
-// An ID behind a known slice: that of its base row, b - 1, or 17.
+// An ID after a known slice: that of its base row, b - 1, or 17.
 fn follow_heading(
     table: &[u8],
     sliced: bool,
@@ -155,7 +137,7 @@ fn follow_heading(
     Heading::Known(b - 1, wire::has_optionals(flags), wire::has_size(flags), n)
 }
 
-// What flags and ID mean where the walk stands, n bytes taken.
+// What flags and ID mean at this stage, n bytes taken.
 fn heading(table: &[u8], top: usize, stage: Stage, flags: usize, id: &[u8], n: usize) -> Heading
     ensures { λ r. ⌜ r ≡ heading (now (table .entry)) top stage flags (now (id .entry)) n ⌝ }
 {
@@ -165,7 +147,7 @@ fn heading(table: &[u8], top: usize, stage: Stage, flags: usize, id: &[u8], n: u
     }
 }
 
-// Flags and type ID of the slice in front: 14 and 13, the ID, 15 to 17.
+// Reads flags and type ID of the next slice: 14 and 13 for the flags, then the ID, then 15 to 17.
 pub fn slice_head(table: &[u8], top: usize, stage: Stage, s: &[u8]) -> Heading
     ensures { λ r. ⌜ r ≡ headAnswer (now (table .entry)) top (stageOf stage) (must (λ h. meaningForm (meaning (now (table .entry)) top (stageOf stage) h)) (head (standOf (stageOf stage)) (idForm (now (table .entry)) (stageOf stage))) (now (s .entry))) ⌝ }
 {
@@ -179,7 +161,11 @@ pub fn slice_head(table: &[u8], top: usize, stage: Stage, s: &[u8]) -> Heading
     }
     let id = id_text(due(stage, flags), &s[1..]);
     match id {
-        Text::Is(a, e) => heading(table, top, stage, flags, &s[1 + a..1 + e], 1 + e),
-        Text::Isnt(d, p) => Heading::Wrong(d, 1 + p),
+        Sized::Is(l, n) => {
+            let e = 1 + n;
+            let a = e - l;
+            heading(table, top, stage, flags, &s[a..e], e)
+        }
+        Sized::Isnt(d, p) => Heading::Wrong(d, 1 + p),
     }
 }

@@ -29,12 +29,6 @@ pub enum Heading {
     Wrong(usize, usize),
 }
 
-// A type ID: where its bytes begin and where they end; or a refusal's number and place.
-pub enum Text {
-    Is(usize, usize),
-    Isnt(usize, usize),
-}
-
 // A slice: skipped whole, the bytes taken; one of a known row, with its bit 2, whether it is sliced, and where its data begin and end; or a refusal's number and place.
 pub enum Opening {
     Skip(usize),

@@ -161,7 +161,7 @@ pub fn slices(
                                     more = false;
                                 }
                                 Turn::Known(member, tag, b, l) => {
-                                    level::put_row(out, count, member, at + b, l - b);
+                                    wire::rows::put_row(out, count, member, at + b, l - b);
                                     count += 1;
                                     at += l;
                                     least = tag + 1;
@@ -241,7 +241,7 @@ pub fn list(
                 let o = level::optionals::optional(table, shapes, stop, row, least, &m[at..]);
                 match o {
                     Optional::Known(member, tag, b, l) => {
-                        level::put_row(out, count, member, at + b, l - b);
+                        wire::rows::put_row(out, count, member, at + b, l - b);
                         count += 1;
                         at += l;
                         least = tag + 1;

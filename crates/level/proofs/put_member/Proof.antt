@@ -1,6 +1,6 @@
 -- The value, and where it is there its row. Assumes nothing.
 use borrow.Author.Needs.{needs}
-use Rattle.level.proofs.Requireds.{member-told, member-length, member-put, member-none}
+use Rattle.level.proofs.Requireds.{member-answer, member-length, member-put, member-none}
 use Rattle.level.proofs.put_member.Statement.{statement}
 use Rattle.level.proofs.put_member.Tie as tie
 
@@ -13,5 +13,5 @@ put-member-spec =
     (λ c κs. search needs)  -- put-row-requires
     (λ c. search needs)  -- enum-known-step-2
     (λ c. search needs)  -- same-length
-    (λ c. (search member-told, (search member-length, search member-put)))  -- returns
-    (λ c. (search member-told, (search needs, search member-none))))  -- returns-2
+    (λ c. (search member-answer, (search member-length, search member-put)))  -- returns
+    (λ c. (search member-answer, (search needs, search member-none))))  -- returns-2

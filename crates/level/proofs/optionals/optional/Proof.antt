@@ -1,6 +1,6 @@
--- Behind the header stands a known value in its declared bytes, or what is skipped; both lie within the bytes at hand. Assumes nothing.
+-- The header is followed by a known value in its declared bytes, or by what is skipped; both lie within the bytes at hand.
 use borrow.Author.Needs.{needs}
-use Rattle.level.proofs.Nexts.{head-fits, lost-fits, next-wrong, known-from, known-end, known-place, next-known, next-refused, skipped-end, skipped-place, next-skipped, next-cut}
+use Rattle.level.proofs.Nexts.{head-fits, lost-fits, next-wrong, known-start, known-from, known-end, known-place, next-known, next-refused, skipped-end, skipped-place, next-skipped, next-cut}
 use Rattle.level.proofs.optionals.optional.Statement.{statement}
 use Rattle.level.proofs.optionals.optional.Tie as tie
 
@@ -15,6 +15,7 @@ optional-spec =
     (λ c. search needs)  -- part-used-up-end
     (λ c κs. search needs)  -- used-up-requires
     (λ c. search needs)  -- enum-known-p
+    (λ c. search known-start)  -- sub-t33
     (λ c. search (needs, known-from))  -- add-t33
     (λ c. search (needs, known-end))  -- add-t34
     (λ c. search needs)  -- enum-known-p-2

@@ -1,4 +1,4 @@
--- By whether an ID is due. Assumes nothing.
+-- By whether an ID is due.
 use Rattle.reader.proofs.Headings.{id-due, id-none}
 use borrow.Author.Needs.{needs}
 use Rattle.reader.proofs.heads.id_text.Statement.{statement}
@@ -8,6 +8,6 @@ pub id-text-spec : {M : Type 1} → statement M
 id-text-spec =
     tie.close
     (tie.spec
-    (λ c κs. search needs)  -- text-requires
+    (λ c κs. search needs)  -- read-string-requires
     (λ c. search id-due)  -- returns
     (λ c. search id-none))  -- returns-2

@@ -1,5 +1,5 @@
--- The flags, then an ID where one is due, then what they mean; the ID lies within the bytes at hand. Assumes nothing.
-use Rattle.reader.proofs.Headings.{id-order, id-within, id-start-fits, id-end-fits, id-place-fits, head-none, head-flags, head-unread, head-named}
+-- The flags, then an ID if one is due, then what they mean; the ID lies within the bytes at hand.
+use Rattle.reader.proofs.Headings.{id-order, id-length, id-within, id-end-fits, id-place-fits, head-none, head-flags, head-unread, head-named}
 use borrow.Author.Needs.{needs}
 use Rattle.reader.proofs.heads.slice_head.Statement.{statement}
 use Rattle.reader.proofs.heads.slice_head.Tie as tie
@@ -18,12 +18,11 @@ slice-head-spec =
     (λ c. search needs)  -- part-id-text-end
     (λ c κs. search needs)  -- id-text-requires
     (λ c. search needs)  -- enum-known-id
-    (λ c. search (needs, id-start-fits))  -- add-heading
-    (λ c. search (needs, id-end-fits))  -- add-heading-2
-    (λ c. search id-order)  -- sub-heading
+    (λ c. search (needs, id-end-fits))  -- add-e
+    (λ c. search (needs, id-length))  -- sub-a
+    (λ c. search (needs, id-order))  -- sub-heading
     (λ c. search (needs, id-order))  -- part-heading-start
     (λ c. search (needs, id-within))  -- part-heading-end
-    (λ c. search (needs, id-end-fits))  -- add-heading-3
     (λ c κs. search needs)  -- heading-requires
     (λ c. search needs)  -- enum-known-id-2
     (λ c. search (needs, id-place-fits))  -- add-t25
