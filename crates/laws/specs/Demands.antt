@@ -299,12 +299,12 @@ pub record BeginsRight (T : List ℕ) (type : ℕ) (buffer : List ℕ) (rs : Lis
 abbrev pub RowFits : List ℕ → List ℕ → Row → Type 0
 RowFits T buffer r = IsValue (memberTy T (trees T) (r .member)) (partOf buffer r)
 
--- where rows are no right list: at the first row with which no right list begins, or at their count where they alone are none; the rows before have their types' bytes
+-- where rows are no right list: at the first row with which no right list begins, or, if a row is missing at the end, at their count; the bytes of the rows before are values of their types
 pub data NoneRight (T : List ℕ) (type : ℕ) (buffer : List ℕ) (rs : List Row) (i : ℕ) : Type 0 where
   at-row : i < length rs → BeginsRight T type buffer (take i rs) → (BeginsRight T type buffer (take (suc i) rs) → ⊥) → All (RowFits T buffer) (take i rs) → NoneRight T type buffer rs i
   at-count : i ≡ length rs → BeginsRight T type buffer rs → (Right T type buffer rs → ⊥) → All (RowFits T buffer) rs → NoneRight T type buffer rs i
 
--- where 20 stands: at the count where the row bytes are too few for it, else where the rows are no right list
+-- the place of 20: the count, if the row bytes are too few for it, else where the rows are no right list
 pub data Twenty (T : List ℕ) (type count : ℕ) (rs buffer : List ℕ) (i : ℕ) : Type 0 where
   too-few : length rs < 12 * count → i ≡ count → Twenty T type count rs buffer i
   none-right : 12 * count ≤ length rs → NoneRight T type buffer (rowList count rs) i → Twenty T type count rs buffer i
@@ -315,7 +315,7 @@ RightLists =
     → (writing T type format count rs buffer room ≡ stop 20 i → Ready T type format buffer × Twenty T type count rs buffer i)
     × (Ready T type format buffer → Twenty T type count rs buffer i → writing T type format count rs buffer room ≡ stop 20 i)
 
--- where 21 stands: at the first row whose bytes aren't exactly its type's, a right list beginning with the rows up to it
+-- the place of 21: the first row whose bytes aren't exactly one value of its type; some right list begins with the rows up to it
 pub record TwentyOne (T : List ℕ) (type : ℕ) (buffer : List ℕ) (rs : List Row) (i : ℕ) : Type 0 where
   pub inside : i < length rs
   pub begins : BeginsRight T type buffer (take (suc i) rs)
@@ -351,7 +351,7 @@ RightMakes =
     (T : List ℕ) (type format count : ℕ) (rs buffer : List ℕ) → Writable T type format count rs buffer
     → (m : List ℕ) × MessageOf T type format (rowList count rs) buffer m × ((o : List ℕ) → MessageOf T type format (rowList count rs) buffer o → o ≡ m)
 
--- where 22 stands: at the length of a message over 65,536 bytes or over its room
+-- the place of 22: the length of a message that is over 65,536 bytes or over its room
 pub record TwentyTwo (T : List ℕ) (type format count : ℕ) (rs buffer : List ℕ) (room i : ℕ) : Type 0 where
   pub writable : Writable T type format count rs buffer
   pub made : List ℕ
