@@ -7,17 +7,17 @@ use mathlib.Core.Path.{_≡_, refl, sym, ap, _∙_, subst, subst₂}
 use mathlib.Core.Bool.{Bool, true, false, true≢false}
 use mathlib.Core.Option.{some}
 use mathlib.Core.List.{List, _∷_}
-use Prim.Native.Nat.{ℕ, zero, suc, _<_}
+use Prim.Native.Nat.{ℕ, zero, suc}
 use native.Mathlib.Omega.{arith}
 use lib.Dec.{eqb}
 use borrow.Author.Tests.{eqb-true}
 use Rattle.encoding.specs.Result.{pick}
 use Rattle.encoding.specs.ResultLaws.{some≢none}
 use Rattle.encoding.specs.Types.{Ty}
-use Rattle.encoding.specs.Table.{types, kind, field, mark, tag, range, trees, memberTy, Member, requiredOf, ownRows, lookup}
+use Rattle.encoding.specs.Table.{kind, field, mark, tag, range, trees, memberTy, Member, requiredOf, ownRows, lookup}
 use Rattle.encoding.specs.Table
 use Rattle.encoding.specs.RuleLaws.{required-among, required-own, optional-own}
-use Rattle.encoding.specs.Extends.{Extends, TopsMatch, as-lists, SameOwner, as-records, as-tops, MembersMatch, both-required, both-optional, Counterpart}
+use Rattle.encoding.specs.Extends.{Extends, SameOwner, as-records, as-tops, MembersMatch, both-required, both-optional, Counterpart}
 use Rattle.laws.specs.Demands.{OneCounterpart}
 use Rattle.laws.specs.OptionalNewer.{lookup-key}
 use Rattle.laws.specs.RecordNewer.{record-list, new-record, pair-only}

@@ -25,6 +25,8 @@
 --   RightMakes     a right list makes exactly one message
 --   TooLong        when it answers 22, and where
 --   RightWritten   when it writes a message, and which
+--   ListFilled     a lent list after the call: the rows first, the bytes after them as they were
+--   OutputFilled   a lent output after the call: the message first, the bytes after it as they were
 --   NewerRead      demand 3: an old table accepts what a new one that extends it accepts, and lists the rows of the members that it knows
 --   NewerRefused   the one exception of demand 3
 --   NewerReading   demand 3 of the reader's answer, given room
@@ -47,8 +49,8 @@ use Rattle.encoding.specs.Valid.{Owner, Valid, FirstBroken}
 use Rattle.encoding.specs.Table
 use Rattle.encoding.specs.Optional.{Piece, required, optional, skipped, extent}
 use Rattle.encoding.specs.Slice.{Format, compact, sliced, formatNumber, Slice, known, passed, idOf}
-use Rattle.encoding.specs.Message.{Pieces, list, exception, class, Read, encode, encapsulate, noTop, limit, rules, Row, rows, rowBytes, firstKnown, optionalsSkipped, slicesSkipped, answer, reading, room, readingOf, readingNumbers}
-use Rattle.encoding.specs.Write.{Right, out, stop, partOf, rowAt, writing, noFormat}
+use Rattle.encoding.specs.Message.{Pieces, list, exception, class, Read, encode, encapsulate, noTop, limit, rules, Row, rows, rowBytes, firstKnown, optionalsSkipped, slicesSkipped, answer, reading, room, readingOf, readingNumbers, listed}
+use Rattle.encoding.specs.Write.{Right, out, stop, partOf, rowAt, writing, noFormat, output}
 use Rattle.encoding.specs.Conform.{Conform}
 use Rattle.encoding.specs.Extends.{Extends, TopsMatch, Counterpart}
 
@@ -377,6 +379,25 @@ RightWritten =
     (T : List ℕ) (type format count : ℕ) (rs buffer : List ℕ) (room : ℕ) (m : List ℕ)
     → (writing T type format count rs buffer room ≡ out m → WrittenAs T type format count rs buffer room m)
     × (WrittenAs T type format count rs buffer room m → writing T type format count rs buffer room ≡ out m)
+
+-- ---- the lent bytes
+
+-- a lent list after the call: it begins with the rows, the bytes after them are as they were, and it is as long as before
+pub record ListAfter (rs : List Row) (lent after : List ℕ) : Type 0 where
+  pub first : rowList (length rs) after ≡ rs
+  pub rest : drop (12 * length rs) after ≡ drop (12 * length rs) lent
+  pub long : length after ≡ length lent
+
+abbrev pub ListFilled : Type 0
+ListFilled =
+    (T : List ℕ) (top : ℕ) (m lent : List ℕ) → Bytes m
+    → ListAfter (reading T top m (length lent) .rows) lent (listed (reading T top m (length lent)) lent)
+
+-- a lent output after the call: it begins with the message, the bytes after it are as they were, and it is as long as before
+abbrev pub OutputFilled : Type 0
+OutputFilled =
+    (T : List ℕ) (type format count : ℕ) (rs buffer lent m : List ℕ) → writing T type format count rs buffer (length lent) ≡ out m
+    → (take (length m) (output (out m) lent) ≡ m) × (drop (length m) (output (out m) lent) ≡ drop (length m) lent) × (length (output (out m) lent) ≡ length lent)
 
 -- ---- demand 3: an old table reads a newer message
 

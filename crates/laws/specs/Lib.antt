@@ -31,4 +31,5 @@ pub mod RowsApart
 pub mod RowsRight
 pub mod RightLists
 pub mod WriterAnswers
+pub mod LentFilled
 pub mod Promises

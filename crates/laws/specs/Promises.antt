@@ -1,6 +1,6 @@
 -- Every promise of `Demands`, with its proof.
 use Rattle.encoding.specs.ExactLaws.{exact-is, is-exact, extent-is, is-extent}
-use Rattle.laws.specs.Demands.{ExactTable, OneOwner, TablePlace, Exact, ExactRows, ListedRows, RowsApart, RowsRight, RowsOnce, Unambiguous, ExactCounts, ExactValues, ExactExtents, ReadBack, WriteAgain, OneMessage, RightLists, WrongBytes, RightWritten, TooLong, NewerRead, NewerRefused, NewerReading, OneCounterpart, NewerThere, WriteSame, EarlyRefused, RightMakes}
+use Rattle.laws.specs.Demands.{ExactTable, OneOwner, TablePlace, Exact, ExactRows, ListedRows, RowsApart, RowsRight, RowsOnce, Unambiguous, ExactCounts, ExactValues, ExactExtents, ReadBack, WriteAgain, WriteSame, OneMessage, EarlyRefused, RightLists, WrongBytes, RightMakes, TooLong, RightWritten, ListFilled, OutputFilled, NewerRead, NewerRefused, NewerReading, OneCounterpart, NewerThere}
 use Rattle.laws.specs.TableExact.{exact-table, one-owner}
 use Rattle.laws.specs.TablePlace.{table-place}
 use Rattle.laws.specs.MessageExact.{exact-message, exact-rows}
@@ -11,6 +11,7 @@ use Rattle.laws.specs.CountsExact.{exact-counts-from}
 use Rattle.laws.specs.WriteBack.{read-back}
 use Rattle.laws.specs.WriteAgain.{write-again, write-same, one-message}
 use Rattle.laws.specs.WriterAnswers.{early-refused, right-lists, wrong-bytes, right-makes, too-long-written, right-written}
+use Rattle.laws.specs.LentFilled.{list-filled, output-filled}
 use Rattle.laws.specs.MessageNewer.{newer-read, newer-refused, newer-reading}
 use Rattle.laws.specs.CounterpartsOne.{one-counterpart}
 use Rattle.laws.specs.Witness.{newer-there}
@@ -39,6 +40,8 @@ pub record Promises : Type 0 where
   pub makes : RightMakes
   pub long : TooLong
   pub written : RightWritten
+  pub list : ListFilled
+  pub output : OutputFilled
   pub newer : NewerRead
   pub newer-exception : NewerRefused
   pub newer-answer : NewerReading
@@ -70,6 +73,8 @@ promises = record {
   makes = right-makes;
   long = too-long-written;
   written = right-written;
+  list = list-filled;
+  output = output-filled;
   newer = newer-read;
   newer-exception = newer-refused;
   newer-answer = newer-reading;
