@@ -2,7 +2,7 @@
 
 use crate::input::Source;
 use crate::{accepted, json, refused, tell, words, Status};
-use icehub::{Refusal, Table, MOST_BYTES, MOST_ROWS, ROW_SIZE};
+use icehub::{Reading, Refusal, Table, MOST_BYTES, MOST_ROWS, ROW_SIZE};
 use std::collections::BTreeMap;
 use std::io::{self, IsTerminal, Write};
 use std::time::{Duration, Instant};
@@ -28,42 +28,32 @@ pub fn run(request: &Request, out: &mut impl Write, status: &mut Status) -> io::
             return Ok(());
         }
     };
-    let is_shown = request.files.len() > 1 && io::stderr().is_terminal() && !io::stdout().is_terminal();
+    let all = request.files.len();
+    let is_shown = all > 1 && io::stderr().is_terminal() && !io::stdout().is_terminal();
     let mut progress = Progress::new(io::stderr(), is_shown, Instant::now());
     let mut tally = Tally::default();
     let mut rows = [0; MOST_ROWS * ROW_SIZE];
     for (done, file) in request.files.iter().enumerate() {
-        progress.tell(done, request.files.len(), Instant::now());
+        progress.tell(done, all, Instant::now());
         let bytes = if request.hex { file.hex_bytes() } else { file.bytes(MOST_BYTES) };
-        match bytes {
-            Ok(message) => {
-                let answer = icehub::read(&table, top, &message, &mut rows);
-                tally.count(answer.as_ref().err());
-                if request.json {
-                    let name = file.json_name();
-                    let line = match answer {
-                        Ok(reading) => json::accepted(&name, &reading),
-                        Err(refusal) => json::refused(&name, &table, top, &message, refusal),
-                    };
-                    writeln!(out, "{line}")?;
-                } else {
-                    if request.files.len() > 1 {
-                        write!(out, "{}{}: ", if done > 0 { "\n" } else { "" }, file.name())?;
-                    }
-                    match answer {
-                        Ok(reading) => {
-                            writeln!(out, "accepted")?;
-                            accepted::write(out, &reading)?;
-                        }
-                        Err(refusal) => {
-                            writeln!(out, "{}", refused::head(refusal))?;
-                            refused::write(out, &table, top, &message, refusal)?;
-                        }
-                    }
+        let answer = bytes.map(|message| {
+            let answer = icehub::read(&table, top, &message, &mut rows);
+            tally.count(answer.as_ref().err());
+            status.raise(tally.status());
+            if request.json {
+                write_json(out, file, &table, top, &message, answer)
+            } else {
+                if all > 1 {
+                    write!(out, "{}{}: ", if done > 0 { "\n" } else { "" }, file.name())?;
                 }
+                write_text(out, &table, top, &message, answer)
             }
+        });
+        match answer {
+            Ok(written) => written?,
             Err(wrong) => {
                 tally.unread += 1;
+                status.raise(tally.status());
                 progress.clear();
                 tell(&wrong);
                 if request.json {
@@ -71,17 +61,48 @@ pub fn run(request: &Request, out: &mut impl Write, status: &mut Status) -> io::
                 }
             }
         }
-        status.raise(tally.status());
     }
     progress.clear();
-    if request.files.len() > 1 {
-        if request.json {
+    match (all, request.json) {
+        (1, _) => Ok(()),
+        (_, true) => {
             tell(&tally.summary());
-        } else {
-            writeln!(out, "\n{}", tally.summary())?;
+            Ok(())
+        }
+        (_, false) => writeln!(out, "\n{}", tally.summary()),
+    }
+}
+
+/// What the library says of a message.
+type Answer<'a> = Result<Reading<'a>, Refusal>;
+
+fn write_json(
+    out: &mut impl Write,
+    file: &Source,
+    table: &[u8],
+    top: u32,
+    message: &[u8],
+    answer: Answer,
+) -> io::Result<()> {
+    let name = file.json_name();
+    let line = match answer {
+        Ok(reading) => json::accepted(&name, &reading),
+        Err(refusal) => json::refused(&name, table, top, message, refusal),
+    };
+    writeln!(out, "{line}")
+}
+
+fn write_text(out: &mut impl Write, table: &[u8], top: u32, message: &[u8], answer: Answer) -> io::Result<()> {
+    match answer {
+        Ok(reading) => {
+            writeln!(out, "accepted")?;
+            accepted::write(out, &reading)
+        }
+        Err(refusal) => {
+            writeln!(out, "{}", refused::head(refusal))?;
+            refused::write(out, table, top, message, refusal)
         }
     }
-    Ok(())
 }
 
 /// The row that TOP names: a number, or the name of a record in the table.
