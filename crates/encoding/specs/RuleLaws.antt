@@ -1,5 +1,6 @@
 -- What a table that breaks no rule gives: `faults T ≡ fine`.
 --
+--   pass-fine                      a pass that is fine has no true test
 --   header-right, type-right, member-right   each pass is fine: no test of the header or of a row is true
 --   header-test, row-test, member-row-test, member-test   each such test is false
 --   row-begins, sum-right          what the tests of the member rows taken tell
@@ -22,6 +23,7 @@
 --   rows-there                     an owner's member rows are there
 --   owner-at                       the owner of a member row
 --   mark-known, tags-differ        a mark is 0 or 1; optionals of one owner and one tag are one
+--   orElse-fault, faultAt-place    which of two passes a fault is of, and its place
 --   fault-place                    where a broken rule stands is at most so far into the table, whatever the table
 use mathlib.Core.Path.{_≡_, refl, sym, ap, _∙_, subst}
 use mathlib.Core.Bool.{Bool, true, false, _&&_, _||_, not, true≢false, false≢true}

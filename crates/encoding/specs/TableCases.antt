@@ -20,6 +20,7 @@ use Rattle.encoding.specs.Table
 abbrev sampleHeader : List ℕ
 sampleHeader = 70 ∷ 71 ∷ 84 ∷ 1 ∷ 0 ∷ 17 ∷ 0 ∷ 8 ∷ 0 ∷ 16 ∷ 0 ∷ 0 ∷ []
 
+-- the type rows, each with its place and its meaning
 abbrev sampleTypes : List ℕ
 sampleTypes =
     0 ∷ 0 ∷ 0 ∷ 0 ∷ 0 ∷ 0 ∷ 0 ∷ 0 ∷ 0 ∷ 0 ∷ 0 ∷ 0  -- 0, at 12: bool
@@ -40,6 +41,7 @@ sampleTypes =
     ∷ 15 ∷ 0 ∷ 5 ∷ 0 ∷ 1 ∷ 0 ∷ 0 ∷ 0 ∷ 0 ∷ 0 ∷ 0 ∷ 0  -- 15, at 192: parameter list of member 5
     ∷ 13 ∷ 0 ∷ 6 ∷ 0 ∷ 2 ∷ 0 ∷ 14 ∷ 0 ∷ 9 ∷ 0 ∷ 7 ∷ 0 ∷ []  -- 16, at 204: exception Derived of members 6, 7, base 13
 
+-- the member rows
 abbrev sampleMembers : List ℕ
 sampleMembers =
     1 ∷ 0 ∷ 0 ∷ 0 ∷ 0 ∷ 0 ∷ 0 ∷ 0  -- 0, at 216: byte
@@ -51,6 +53,7 @@ sampleMembers =
     ∷ 4 ∷ 0 ∷ 1 ∷ 0 ∷ 6 ∷ 0 ∷ 0 ∷ 0  -- 6, at 264: optional(6) long
     ∷ 2 ∷ 0 ∷ 1 ∷ 0 ∷ 7 ∷ 0 ∷ 0 ∷ 0 ∷ []  -- 7, at 272: optional(7) short
 
+-- the names of its records, in ASCII
 abbrev nameBase : List ℕ
 nameBase = 66 ∷ 97 ∷ 115 ∷ 101 ∷ []
 
@@ -66,12 +69,15 @@ sample = sampleHeader ++ sampleTypes ++ sampleMembers ++ (46 ∷ nameBase) ++ na
 
 -- ---- what it means
 
+-- a member by its row, its tag or position, and its type
 abbrev member : ℕ → ℕ → Ty → Table.Member
 member r k t = record { row = r; key = k; ty = t }
 
+-- row 9: a byte and an enumerator
 abbrev pair : Ty
 pair = struct (cons byte (cons (enum (upto 131372)) nil))
 
+-- no rule broken; the tree of each row; the members of the owners 9, 13, 14, 15, 16; names, and the records found by name; chains of bases
 pub record Meaning (T : List ℕ) : Type 0 where
   pub fine : Table.faults T ≡ Table.fine
   pub trees : Table.trees T ≡ bool ∷ byte ∷ num short ∷ num int ∷ num long ∷ num float ∷ num double ∷ string ∷ enum (upto 131372) ∷ pair ∷ seq pair ∷ dict string (seq pair)
