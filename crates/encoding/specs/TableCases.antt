@@ -4,6 +4,7 @@
 --   sample                          the table
 --   Meaning, sample-means           its trees, members, names and bases
 --   Change, changes, changes-told   for each rule, one byte changed: the class and the place of the fault
+--   cuts-told, zero-bytes-apart     bytes left out; a zero byte that is not 0
 use mathlib.Core.Path.{_≡_, refl}
 use mathlib.Core.List.{List, [], _∷_, _++_, map}
 use mathlib.Core.Option.{none, some}
@@ -124,7 +125,7 @@ changes =
     ∷ change 13 1 32 12  -- zero byte of row 0
     ∷ change 136 1 32 132  -- a sequence's b
     ∷ change 23 1 32 12  -- a bool's e
-    ∷ change 144 16 33 144  -- kind 16, its fields unjudged
+    ∷ change 204 16 33 204  -- kind 16, its fields unjudged
     ∷ change 134 10 34 132  -- a sequence of itself
     ∷ change 146 11 34 144  -- a dictionary with itself as key
     ∷ change 148 11 34 144  -- with itself as value
@@ -142,6 +143,7 @@ changes =
     ∷ change 220 1 32 216  -- a required member with a tag
     ∷ change 216 9 34 216  -- a struct as its own member's type
     ∷ change 264 13 34 264  -- an exception as a member's type
+    ∷ change 217 1 34 216  -- a type 257 of a member
     ∷ change 258 2 36 256  -- mark 2
     ∷ change 218 1 36 216  -- an optional in a struct
     ∷ change 263 128 38 256  -- a tag above 2^31 - 1
@@ -151,3 +153,15 @@ changes =
 pub changes-told : map (λ c. Table.faults (changed c)) changes ≡ map (λ c. Table.fault (c .class) (c .place)) changes
 unfolding sample changed changes Result.firstOf Result.sameBytes Number.val Number.negative Table.at Table.types Table.members Table.names Table.typesAt Table.rowAt Table.membersAt Table.memberAt Table.namesAt Table.kind Table.field Table.memberType Table.mark Table.tag Table.takes Table.range Table.nameOf Table.orElse Table.faultAt Table.any Table.headerTests Table.headerRules Table.used Table.taken Table.noPart Table.noBase Table.alike Table.typeRules Table.sumRules Table.ownerOf Table.tagAlike Table.memberRules Table.pass Table.passes Table.faults
 changes-told = refl
+
+-- ---- bytes left out
+
+-- cut off in the mark, in the header, after the header, before the last byte; and whole
+pub cuts-told : map (λ n. Table.faults (take n sample)) (0 ∷ 4 ∷ 11 ∷ 12 ∷ 295 ∷ 296 ∷ []) ≡ Table.fault 31 0 ∷ Table.fault 31 0 ∷ Table.fault 31 0 ∷ Table.fault 31 0 ∷ Table.fault 31 0 ∷ Table.fine ∷ []
+unfolding sample Result.firstOf Result.sameBytes Number.val Number.negative Table.at Table.types Table.members Table.names Table.typesAt Table.rowAt Table.membersAt Table.memberAt Table.namesAt Table.kind Table.field Table.memberType Table.mark Table.tag Table.takes Table.range Table.nameOf Table.orElse Table.faultAt Table.any Table.headerTests Table.headerRules Table.used Table.taken Table.noPart Table.noBase Table.alike Table.typeRules Table.sumRules Table.ownerOf Table.tagAlike Table.memberRules Table.pass Table.passes Table.faults
+cuts-told = refl
+
+-- a zero byte that is not 0 is no part of the kind or of the mark before it
+pub zero-bytes-apart : (Table.kind (changed (change 13 1 32 12)) 0 ≡ 0) × (Table.mark (changed (change 219 1 32 216)) 0 ≡ 0)
+unfolding sample changed Number.val Table.at Table.types Table.typesAt Table.rowAt Table.membersAt Table.memberAt Table.kind Table.mark
+zero-bytes-apart = (refl, refl)
