@@ -11,24 +11,42 @@ use Prim.Native.Nat.{ℕ}
 use native.Mathlib.Omega.{arith}
 use lib.ListN.{length}
 use lib.Seq.{take-length}
-use Rattle.encoding.specs.Result.{Parser, ok, chunk, mapc, bytes}
+use borrow.Author.Tests.{leb-true, le-leb}
+use Rattle.encoding.specs.Result.{Parser, ok, chunk, skip, mapc, bytes}
 use Rattle.encoding.specs.ResultLaws.{pick-true, bytes-ok, bytes-step, mapc-ok, mapc-step}
-use Rattle.encoding.specs.Types.{Allowed, allows, width, Ty, Tys, nil, cons, broken, bool, byte, string, proxy, num, enum, struct, seq, dict, Bits, f1, f2, f4, f8, size, vsize, fsize, class}
+use Rattle.encoding.specs.Types.{Allowed, upto, allows, Num, short, int, long, float, double, width, Ty, Tys, nil, cons, broken, bool, byte, string, proxy, num, enum, struct, seq, dict, Bits, f1, f2, f4, f8, size, vsize, fsize, class}
 use Rattle.encoding.specs.Value.{enumForm, value, values, exact}
 use Rattle.encoding.specs.ValueLaws.{exact-ok, exact-step}
 use Rattle.encoding.specs.Optional.{extent}
-use Rattle.encoding.specs.Grammar.{IsInt, IsSize, Run, IsEnum, enumerator, IsValue, AreValues, IsSizeAlone, alone, IsVSize, behind-size, IsFSize, behind-int, IsExtent}
+use Rattle.encoding.specs.Grammar.{IsInt, IsSize, AnyBytes, IsNum, Among, IsEnum, enumerator, IsValue, AreValues, IsSizeAlone, alone, IsVSize, vsize-of, IsFSize, fsize-of, IsExtent}
 use Rattle.encoding.specs.GrammarLaws.{Reads, Takes, reads-as, reads-must, takes-map, takes-then, reads-fail, reads-chunk, takes-skip, takes-pure, takes-counted, reads-size, SizeThen, after-size, reads-sized, IntThen, after-int, reads-declared}
 use Rattle.encoding.specs.ProxyLaws.{takes-text, takes-bool, takes-proxy}
 
 -- ---- values
 
+takes-num : (w : Num) → Takes (skip (width w)) (IsNum w)
+takes-num short = takes-skip 2
+takes-num int = takes-skip 4
+takes-num long = takes-skip 8
+takes-num float = takes-skip 4
+takes-num double = takes-skip 8
+
+allows-among : (g : Allowed) (n : ℕ) → allows g n ≡ true → Among g n
+unfolding allows
+allows-among (upto g) n h = leb-true n g h
+
+among-allows : (g : Allowed) (n : ℕ) → Among g n → allows g n ≡ true
+unfolding allows
+among-allows (upto g) n h = le-leb n g h
+
 takes-enum : (g : Allowed) → Takes (value (enum g)) (IsEnum g)
 unfolding value enumForm
-takes-enum g = reads-as (λ _ b w. enumerator (pick-true (allows g (w .0)) 8 (w .1 .0)) (w .1 .1)) (λ _ b w. back w) (takes-map (reads-must (enumForm g) reads-size))
+takes-enum g =
+    reads-as (λ _ b w. enumerator (allows-among g (w .0) (pick-true (allows g (w .0)) 8 (w .1 .0))) (w .1 .1)) (λ _ b w. back w)
+    (takes-map (reads-must (enumForm g) reads-size))
   where
     back : {b : List ℕ} → IsEnum g b → (n : ℕ) × ((enumForm g n ≡ 0) × IsSize n b)
-    back (enumerator {n} a s) = (n, (rw a, s))
+    back (enumerator {n} a s) = (n, (rw (among-allows g n a), s))
 
 mutual
   unfolding value values IsValue AreValues
@@ -39,7 +57,7 @@ mutual
   takes-value byte = takes-skip 1
   takes-value string = takes-text
   takes-value proxy = takes-proxy
-  takes-value (num w) = takes-skip (width w)
+  takes-value (num w) = takes-num w
   takes-value (enum g) = takes-enum g
   takes-value (struct ts) = takes-values ts
   takes-value (seq t) = takes-counted (takes-value t)
@@ -57,7 +75,7 @@ is-exact t b w = exact-step t b (rw append-nil at (takes-value t .written tt b w
 
 -- ---- extents
 
-takes-run : (k : ℕ) → Takes (mapc (λ _ _. tt) (chunk k (λ b. b))) (Run k)
+takes-run : (k : ℕ) → Takes (mapc (λ _ _. tt) (chunk k (λ b. b))) (AnyBytes k)
 takes-run k = reads-as (λ _ b w. w .1 .1) (λ _ b w. (b, (refl, w))) (takes-map (reads-chunk k (λ b. b)))
 
 -- the bytes of a reader, dropped
@@ -80,17 +98,17 @@ takes-extent size = reads-as (λ _ b w. alone (w .1)) (λ _ b w. back w) (takes-
 takes-extent vsize = reads-as (λ _ b w. onward (w .0) (w .1)) (λ _ b w. back w) (takes-map reads-sized)
   where
     onward : (d : List ℕ) {b : List ℕ} → SizeThen d b → IsVSize b
-    onward d (after-size s) = behind-size d s
+    onward d (after-size s) = vsize-of d s
 
     back : {b : List ℕ} → IsVSize b → (d : List ℕ) × SizeThen d b
-    back (behind-size d s) = (d, after-size s)
+    back (vsize-of d s) = (d, after-size s)
 takes-extent fsize = reads-as (λ _ b w. onward (w .0) (w .1)) (λ _ b w. back w) (takes-map (reads-declared 1 0 (omega arith)))
   where
     onward : (d : List ℕ) {b : List ℕ} → IntThen 1 0 d b → IsFSize b
-    onward d (after-int {a} l i) = behind-int d (omega arith) (subst (λ (n : ℕ). IsInt n a) (omega arith) i)
+    onward d (after-int {a} l i) = fsize-of d (omega arith) (subst (λ (n : ℕ). IsInt n a) (omega arith) i)
 
     back : {b : List ℕ} → IsFSize b → (d : List ℕ) × IntThen 1 0 d b
-    back (behind-int {a} d l i) = (d, after-int (omega arith) (subst (λ (n : ℕ). IsInt n a) (omega arith) i))
+    back (fsize-of {a} d l i) = (d, after-int (omega arith) (subst (λ (n : ℕ). IsInt n a) (omega arith) i))
 takes-extent class = reads-as (λ _ b w. w .1) (λ _ b w. absurd w) (takes-map (reads-fail 13))
 
 pub extent-is : (k : Bits) (b : List ℕ) (d : List ℕ) → extent k b ≡ ok d (length b) → IsExtent k b

@@ -1,11 +1,12 @@
 -- The grammars of values and of extents: which byte strings are a value of a type, and which are what an optional's type declares.
 -- They are stated apart from the readers and the encoder: `ExactValues` and `ExactExtents` promise that the readers take just these strings.
+-- They speak of lists of numbers, so the promises hold of any buffer; where the numbers are bytes, a long size begins with 255.
 -- A grammar is a set of strings, `List ℕ → Type 0`; the greater ones are put together from these:
 --
 --   P ⨾ Q           a string of P, then one of Q
 --   Repeats P n     n strings of P, one after another
---   Run k           k bytes of any content
---   Below n         one byte, below n
+--   AnyBytes k      k bytes of any content
+--   ByteBelow n     one byte, below n
 --   IsInt n         the int n, which is not negative
 --   IsSize n        the size n
 --   Counted P       a size, then that many strings of P
@@ -17,12 +18,11 @@
 --   AreValues ts    values of the types ts, one after another
 --   IsExtent k      what an optional declares whose header has type k
 use mathlib.Core.Path.{_≡_}
-use mathlib.Core.Bool.{true}
 use mathlib.Core.List.{List, [], _∷_, _++_}
 use Prim.Native.Nat.{ℕ, zero, suc, _+_, _≤_, _<_}
 use lib.ListN.{length}
 use Rattle.encoding.specs.Number.{val, Short}
-use Rattle.encoding.specs.Types.{Allowed, allows, width, Ty, Tys, nil, cons, broken, bool, byte, string, proxy, num, enum, struct, seq, dict, Bits, f1, f2, f4, f8, size, vsize, fsize, class}
+use Rattle.encoding.specs.Types.{Allowed, upto, Num, short, int, long, float, double, Ty, Tys, nil, cons, broken, bool, byte, string, proxy, num, enum, struct, seq, dict, Bits, f1, f2, f4, f8, size, vsize, fsize, class}
 
 -- ---- putting grammars together
 
@@ -37,22 +37,22 @@ pub data Repeats (P : List ℕ → Type 0) : ℕ → List ℕ → Type 0 where
   more : {n : ℕ} {a b : List ℕ} → P a → Repeats P n b → Repeats P (suc n) (a ++ b)
 
 -- so many bytes
-abbrev pub Run : ℕ → List ℕ → Type 0
-Run k b = length b ≡ k
+abbrev pub AnyBytes : ℕ → List ℕ → Type 0
+AnyBytes k b = length b ≡ k
 
 -- one byte that is 0, 1, .. up to below n
-pub data Below (n : ℕ) : List ℕ → Type 0 where
-  below : {x : ℕ} → x < n → Below n (x ∷ [])
+pub data ByteBelow (n : ℕ) : List ℕ → Type 0 where
+  below : {x : ℕ} → x < n → ByteBelow n (x ∷ [])
 
 -- ---- ints and sizes
 
--- four bytes, the lowest first
+-- four bytes, the lowest first, the sign bit not set
 pub record IsInt (n : ℕ) (b : List ℕ) : Type 0 where
   pub four : length b ≡ 4
   pub number : val b ≡ n
   pub short : Short n
 
--- below 255 one byte; else a byte 255, which no byte exceeds, and an int
+-- below 255 one byte; else 255, the greatest byte, and an int
 pub data IsSize (n : ℕ) : List ℕ → Type 0 where
   one-byte : n < 255 → IsSize n (n ∷ [])
   with-int : {x : ℕ} {b : List ℕ} → 255 ≤ x → 255 ≤ n → IsInt n b → IsSize n (x ∷ b)
@@ -86,11 +86,11 @@ pub data IsEncapsulation : List ℕ → Type 0 where
 -- endpoints, each a short and an encapsulation; or with count 0 an adapter string
 pub data AreEndpoints : List ℕ → Type 0 where
   adapter : {a b : List ℕ} → IsSize 0 a → IsText b → AreEndpoints (a ++ b)
-  some : {n : ℕ} {a b : List ℕ} → IsSize (suc n) a → Repeats (Run 2 ⨾ IsEncapsulation) (suc n) b → AreEndpoints (a ++ b)
+  some : {n : ℕ} {a b : List ℕ} → IsSize (suc n) a → Repeats (AnyBytes 2 ⨾ IsEncapsulation) (suc n) b → AreEndpoints (a ++ b)
 
 -- facets, mode, secure, protocol and encoding of two bytes each, endpoints
 abbrev pub IsReference : List ℕ → Type 0
-IsReference = AreFacets ⨾ Below 5 ⨾ Below 2 ⨾ Run 4 ⨾ AreEndpoints
+IsReference = AreFacets ⨾ ByteBelow 5 ⨾ ByteBelow 2 ⨾ AnyBytes 4 ⨾ AreEndpoints
 
 -- identity name, then category; both empty is nil and ends it, an empty name has no category
 pub data IsProxy : List ℕ → Type 0 where
@@ -99,26 +99,38 @@ pub data IsProxy : List ℕ → Type 0 where
 
 -- ---- values
 
--- an enumerator that the enum has, as a size
+-- two, four or eight bytes, whatever the number
+abbrev pub IsNum : Num → List ℕ → Type 0
+IsNum short = AnyBytes 2
+IsNum int = AnyBytes 4
+IsNum long = AnyBytes 8
+IsNum float = AnyBytes 4
+IsNum double = AnyBytes 8
+
+-- an enumerator that the enum has: at most the greatest
+abbrev pub Among : Allowed → ℕ → Type 0
+Among (upto g) n = n ≤ g
+
+-- an enumerator, as a size
 pub data IsEnum (g : Allowed) : List ℕ → Type 0 where
-  enumerator : {n : ℕ} {b : List ℕ} → allows g n ≡ true → IsSize n b → IsEnum g b
+  enumerator : {n : ℕ} {b : List ℕ} → Among g n → IsSize n b → IsEnum g b
 
 -- string: size, then that many bytes; sequence: size, elements; dictionary: size, pairs, order and equal keys kept; struct: its members
 unfoldable mutual
   pub IsValue : Ty → List ℕ → Type 0
   IsValue broken = λ b. ⊥
-  IsValue bool = Below 2
-  IsValue byte = Run 1
+  IsValue bool = ByteBelow 2
+  IsValue byte = AnyBytes 1
   IsValue string = IsText
   IsValue proxy = IsProxy
-  IsValue (num w) = Run (width w)
+  IsValue (num w) = IsNum w
   IsValue (enum g) = IsEnum g
   IsValue (struct ts) = AreValues ts
   IsValue (seq t) = Counted (IsValue t)
   IsValue (dict k v) = Counted (IsValue k ⨾ IsValue v)
 
   pub AreValues : Tys → List ℕ → Type 0
-  AreValues nil = Run 0
+  AreValues nil = AnyBytes 0
   AreValues (cons t ts) = IsValue t ⨾ AreValues ts
 
 -- ---- extents
@@ -129,18 +141,18 @@ pub data IsSizeAlone : List ℕ → Type 0 where
 
 -- a size and that many bytes
 pub data IsVSize : List ℕ → Type 0 where
-  behind-size : {a : List ℕ} (b : List ℕ) → IsSize (length b) a → IsVSize (a ++ b)
+  vsize-of : {a : List ℕ} (b : List ℕ) → IsSize (length b) a → IsVSize (a ++ b)
 
 -- an int, not counting itself, and that many bytes, at least one
 pub data IsFSize : List ℕ → Type 0 where
-  behind-int : {a : List ℕ} (b : List ℕ) → 1 ≤ length b → IsInt (length b) a → IsFSize (a ++ b)
+  fsize-of : {a : List ℕ} (b : List ℕ) → 1 ≤ length b → IsInt (length b) a → IsFSize (a ++ b)
 
--- F1, F2, F4, F8 are 1, 2, 4, 8 bytes; Size, VSize, FSize as above; Class is refused
+-- F1, F2, F4, F8 are 1, 2, 4, 8 bytes; Size, VSize, FSize as above; no bytes are a Class
 abbrev pub IsExtent : Bits → List ℕ → Type 0
-IsExtent f1 = Run 1
-IsExtent f2 = Run 2
-IsExtent f4 = Run 4
-IsExtent f8 = Run 8
+IsExtent f1 = AnyBytes 1
+IsExtent f2 = AnyBytes 2
+IsExtent f4 = AnyBytes 4
+IsExtent f8 = AnyBytes 8
 IsExtent size = IsSizeAlone
 IsExtent vsize = IsVSize
 IsExtent fsize = IsFSize

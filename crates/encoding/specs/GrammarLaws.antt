@@ -19,7 +19,7 @@ use Rattle.encoding.specs.Result.{ok, Parser, pick, _>>=_, pure, fail, c
 use Rattle.encoding.specs.ResultLaws.{ok≢bad, pick-true, Bound, bind-ok, bind-take, bind-written, pure-ok, chunk-ok, chunk-written, item-ok, item-step, must-ok, must-step, mapc-ok, mapc-step}
 use Rattle.encoding.specs.Number.{Short, val, number, byte, sizeForm, sizeTail, size, lengthForm, declared, Content, string}
 use Rattle.encoding.specs.NumberLaws.{byte-written, byte-canonical, sizeForm-ok, sizeForm-step, lengthForm-ok, lengthForm-step}
-use Rattle.encoding.specs.Grammar.{_⨾_, both, Repeats, none, more, Counted, counted, Run, Below, below, IsInt, IsSize, one-byte, with-int, IsString, spelt}
+use Rattle.encoding.specs.Grammar.{_⨾_, both, Repeats, none, more, Counted, counted, AnyBytes, ByteBelow, below, IsInt, IsSize, one-byte, with-int, IsString, spelt}
 
 pub record Reads {A : Type 0} (p : Parser A) (P : A → List ℕ → Type 0) : Type 0 where
   pub canonical : (xs : List ℕ) (a : A) (n : ℕ) → p xs ≡ ok a n → P a (take n xs)
@@ -96,17 +96,17 @@ unfolding fail
 reads-fail c = record { canonical = λ xs a n h. absurd (ok≢bad h refl); written = λ a b w r. absurd w }
 
 -- k bytes, and f of them
-pub reads-chunk : {A : Type 0} (k : ℕ) (f : List ℕ → A) → Reads (chunk k f) (λ a b. (a ≡ f b) × Run k b)
+pub reads-chunk : {A : Type 0} (k : ℕ) (f : List ℕ → A) → Reads (chunk k f) (λ a b. (a ≡ f b) × AnyBytes k b)
 reads-chunk k f = record {
   canonical = λ xs a n h. let e = chunk-ok k f xs h in rw (e .2) (e .1, length-take-le k xs (e .0));
   written = λ a b w r. rw (w .0, w .1) (chunk-written k f b r (w .1));
 }
 
-pub takes-skip : (k : ℕ) → Takes (skip k) (Run k)
+pub takes-skip : (k : ℕ) → Takes (skip k) (AnyBytes k)
 unfolding skip
 takes-skip k = reads-as (λ c b w. w .1) (λ c b w. (refl, w)) (reads-chunk k (λ _. tt))
 
-pub reads-pure : {A : Type 0} (a : A) → Reads (pure a) (λ c b. (c ≡ a) × Run 0 b)
+pub reads-pure : {A : Type 0} (a : A) → Reads (pure a) (λ c b. (c ≡ a) × AnyBytes 0 b)
 unfolding pure
 reads-pure a = record { canonical = λ xs c n h. let P = pure-ok a xs h in rw (P .1) (P .0, refl); written = λ c b w r. rw (w .0, w .1) refl }
 
@@ -116,7 +116,7 @@ reads-item {p = p} R = record {
   written = λ a b w r. item-step p (b ++ r) (R .written a b w r);
 }
 
-pub takes-pure : Takes (pure tt) (Run 0)
+pub takes-pure : Takes (pure tt) (AnyBytes 0)
 takes-pure = reads-as (λ c b w. w .1) (λ c b w. (refl, w)) (reads-pure tt)
 
 pub takes-times : {p : Parser (Unit {0})} {P : List ℕ → Type 0} (n : ℕ) → Takes p P → Takes (times n p) (Repeats P n)
@@ -152,13 +152,13 @@ reads-byte = record {
     back {x} is-byte r = byte-written x r
 
 -- a byte below k, or the refusal c
-pub takes-below : (k c : ℕ) → Takes (mapc (λ _ _. tt) (must (λ x. pick (ltb x k) 0 (suc c)) byte)) (Below k)
+pub takes-below : (k c : ℕ) → Takes (mapc (λ _ _. tt) (must (λ x. pick (ltb x k) 0 (suc c)) byte)) (ByteBelow k)
 takes-below k c = reads-as (λ _ b w. onward (w .0) (w .1 .0) (w .1 .1)) (λ _ b w. back w) (takes-map (reads-must (λ x. pick (ltb x k) 0 (suc c)) reads-byte))
   where
-    onward : (x : ℕ) {b : List ℕ} → _≡_ {A = ℕ} (pick (ltb x k) 0 (suc c)) 0 → IsByte x b → Below k b
+    onward : (x : ℕ) {b : List ℕ} → _≡_ {A = ℕ} (pick (ltb x k) 0 (suc c)) 0 → IsByte x b → ByteBelow k b
     onward x e is-byte = below (ltb-true x k (pick-true (ltb x k) c e))
 
-    back : {b : List ℕ} → Below k b → (x : ℕ) × ((_≡_ {A = ℕ} (pick (ltb x k) 0 (suc c)) 0) × IsByte x b)
+    back : {b : List ℕ} → ByteBelow k b → (x : ℕ) × ((_≡_ {A = ℕ} (pick (ltb x k) 0 (suc c)) 0) × IsByte x b)
     back (below {x} l) = (x, (rw (lt-ltb x k l), is-byte))
 
 -- an int that a judgement leaves at least `least` and not negative
@@ -167,10 +167,10 @@ reads-int : (form : ℕ → ℕ) (least : ℕ) → ((n : ℕ) → form n ≡ 0 �
 unfolding number
 reads-int form least to from = reads-as (λ n b w. onward n w) (λ n b w. back n w) (reads-must form (reads-chunk 4 val))
   where
-    onward : (n : ℕ) {b : List ℕ} → (form n ≡ 0) × ((n ≡ val b) × Run 4 b) → (least ≤ n) × IsInt n b
+    onward : (n : ℕ) {b : List ℕ} → (form n ≡ 0) × ((n ≡ val b) × AnyBytes 4 b) → (least ≤ n) × IsInt n b
     onward n (e, (v, l)) = let F = to n e in (F .0, record { four = l; number = sym v; short = F .1 })
 
-    back : (n : ℕ) {b : List ℕ} → (least ≤ n) × IsInt n b → (form n ≡ 0) × ((n ≡ val b) × Run 4 b)
+    back : (n : ℕ) {b : List ℕ} → (least ≤ n) × IsInt n b → (form n ≡ 0) × ((n ≡ val b) × AnyBytes 4 b)
     back n (l, i) = (from n l (i .short), (sym (i .number), i .four))
 
 -- after a size's first byte
@@ -178,11 +178,11 @@ reads-tail : (x : ℕ) → Reads (sizeTail x) (λ n b. IsSize n (x ∷ b))
 unfolding sizeTail
 reads-tail x = go (ltb x 255) refl
   where
-    alone : {n : ℕ} (b : List ℕ) → x < 255 → (n ≡ x) × Run 0 b → IsSize n (x ∷ b)
+    alone : {n : ℕ} (b : List ℕ) → x < 255 → (n ≡ x) × AnyBytes 0 b → IsSize n (x ∷ b)
     alone [] l (e, z) = rw e (one-byte l)
     alone (y ∷ b) l (e, z) = absurd (omega arith)
 
-    alone-back : {n : ℕ} {b : List ℕ} → x < 255 → IsSize n (x ∷ b) → (n ≡ x) × Run 0 b
+    alone-back : {n : ℕ} {b : List ℕ} → x < 255 → IsSize n (x ∷ b) → (n ≡ x) × AnyBytes 0 b
     alone-back l (one-byte k) = (refl, refl)
     alone-back l (with-int g k i) = absurd (omega arith)
 
@@ -224,10 +224,10 @@ pub data SizeThen (d : List ℕ) : List ℕ → Type 0 where
 pub reads-sized : Reads (item (size >>= λ n. chunk n (λ b. b))) SizeThen
 reads-sized = reads-as (λ d b w. onward (w .1)) (λ d b w. back w) (reads-item (reads-bind reads-size (λ n. reads-chunk n (λ b. b))))
   where
-    onward : {n : ℕ} {d b : List ℕ} → (IsSize n ⨾ (λ b. (d ≡ b) × Run n b)) b → SizeThen d b
+    onward : {n : ℕ} {d b : List ℕ} → (IsSize n ⨾ (λ b. (d ≡ b) × AnyBytes n b)) b → SizeThen d b
     onward {d = d} (both {a = a} s (e, l)) = rw (← e) (after-size (subst (λ (n : ℕ). IsSize n a) (sym l ∙ ap length (sym e)) s))
 
-    back : {d b : List ℕ} → SizeThen d b → (n : ℕ) × (IsSize n ⨾ (λ b. (d ≡ b) × Run n b)) b
+    back : {d b : List ℕ} → SizeThen d b → (n : ℕ) × (IsSize n ⨾ (λ b. (d ≡ b) × AnyBytes n b)) b
     back {d} (after-size s) = (length d, both s (refl, refl))
 
 pub data IntThen (least own : ℕ) (d : List ℕ) : List ℕ → Type 0 where
@@ -239,12 +239,12 @@ reads-declared least own o =
     reads-as (λ d b w. onward (w .1)) (λ d b w. back w)
     (reads-item (reads-bind (reads-int (lengthForm least) least (lengthForm-ok least) (lengthForm-step least)) (λ n. reads-chunk (n - own) (λ b. b))))
   where
-    onward : {n : ℕ} {d b : List ℕ} → ((λ b. (least ≤ n) × IsInt n b) ⨾ (λ b. (d ≡ b) × Run (n - own) b)) b → IntThen least own d b
+    onward : {n : ℕ} {d b : List ℕ} → ((λ b. (least ≤ n) × IsInt n b) ⨾ (λ b. (d ≡ b) × AnyBytes (n - own) b)) b → IntThen least own d b
     onward {n} {d} (both {a = a} (l, i) (e, k)) =
         let s : n ≡ own + length d = omega (arith, k, ap length e) in
         rw (← e) (after-int (omega arith) (subst (λ (n : ℕ). IsInt n a) s i))
 
-    back : {d b : List ℕ} → IntThen least own d b → (n : ℕ) × ((λ b. (least ≤ n) × IsInt n b) ⨾ (λ b. (d ≡ b) × Run (n - own) b)) b
+    back : {d b : List ℕ} → IntThen least own d b → (n : ℕ) × ((λ b. (least ≤ n) × IsInt n b) ⨾ (λ b. (d ≡ b) × AnyBytes (n - own) b)) b
     back {d} (after-int l i) = (own + length d, both (l, i) (refl, omega arith))
 
 pub reads-string : Reads string IsString

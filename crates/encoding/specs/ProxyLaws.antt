@@ -12,7 +12,7 @@ use Rattle.encoding.specs.Result.{pick, pure, must, mapc, times}
 use Rattle.encoding.specs.ResultLaws.{pick-ok, pick-true}
 use Rattle.encoding.specs.Number.{byte, boolForm, bool, declared}
 use Rattle.encoding.specs.Proxy.{identityForm, identity, facetForm, text, facets, modeForm, endpoint, endpoints, versions, reference, proxy}
-use Rattle.encoding.specs.Grammar.{_⨾_, both, Repeats, none, more, Run, Below, IsSize, IsString, IsText, AreFacets, IsEncapsulation, encapsulation, AreEndpoints, adapter, some, IsReference, IsProxy, is-nil, is-full}
+use Rattle.encoding.specs.Grammar.{_⨾_, both, Repeats, none, more, AnyBytes, ByteBelow, IsSize, IsString, IsText, AreFacets, IsEncapsulation, encapsulation, AreEndpoints, adapter, some, IsReference, IsProxy, is-nil, is-full}
 use Rattle.encoding.specs.Grammar
 use Rattle.encoding.specs.GrammarLaws.{Reads, Takes, reads-as, reads-must, reads-map, takes-map, reads-bind, takes-next, takes-then, takes-skip, takes-pure, takes-times, takes-below, reads-size, IntThen, after-int, reads-declared, reads-string}
 
@@ -23,11 +23,11 @@ takes-text = reads-as (λ _ b w. Grammar.text (w .1)) (λ _ b w. back w) (takes-
     back : {b : List ℕ} → IsText b → (t : List ℕ) × IsString t b
     back (Grammar.text {t} s) = (t, s)
 
-pub takes-bool : Takes bool (Below 2)
+pub takes-bool : Takes bool (ByteBelow 2)
 unfolding bool boolForm
 takes-bool = takes-below 2 7
 
-takes-mode : Takes (mapc (λ _ _. tt) (must modeForm byte)) (Below 5)
+takes-mode : Takes (mapc (λ _ _. tt) (must modeForm byte)) (ByteBelow 5)
 unfolding modeForm
 takes-mode = takes-below 5 9
 
@@ -52,13 +52,13 @@ takes-encapsulation = reads-as (λ _ b w. onward (w .0) (w .1)) (λ _ b w. back 
     back : {b : List ℕ} → IsEncapsulation b → (d : List ℕ) × IntThen 6 4 d b
     back (encapsulation d l i) = (d, after-int (omega arith) i)
 
-takes-endpoint : Takes endpoint (Run 2 ⨾ IsEncapsulation)
+takes-endpoint : Takes endpoint (AnyBytes 2 ⨾ IsEncapsulation)
 unfolding endpoint
 takes-endpoint = takes-then (takes-skip 2) takes-encapsulation
 
 abbrev Ends : ℕ → List ℕ → Type 0
 Ends zero = IsText
-Ends (suc n) = Repeats (Run 2 ⨾ IsEncapsulation) (suc n)
+Ends (suc n) = Repeats (AnyBytes 2 ⨾ IsEncapsulation) (suc n)
 
 takes-ends : (n : ℕ) → Takes (pick (eqb n 0) text (times n endpoint)) (Ends n)
 takes-ends zero = takes-text
@@ -78,15 +78,15 @@ takes-endpoints = reads-as (λ _ b w. onward (w .0) (w .1)) (λ _ b w. back w) (
 
 -- ---- all of a reference
 
-takes-versions : Takes versions (Run 4)
+takes-versions : Takes versions (AnyBytes 4)
 unfolding versions
 takes-versions = reads-as (λ _ b w. onward w) (λ _ b w. back 4 b w) (takes-times 4 (takes-skip 1))
   where
-    onward : {n : ℕ} {b : List ℕ} → Repeats (Run 1) n b → length b ≡ n
+    onward : {n : ℕ} {b : List ℕ} → Repeats (AnyBytes 1) n b → length b ≡ n
     onward none = refl
     onward (more {a = a} {b = b} x y) = omega (arith, length-append a b, onward y)
 
-    back : (n : ℕ) (b : List ℕ) → length b ≡ n → Repeats (Run 1) n b
+    back : (n : ℕ) (b : List ℕ) → length b ≡ n → Repeats (AnyBytes 1) n b
     back zero [] e = none
     back zero (x ∷ b) e = absurd (omega arith)
     back (suc n) [] e = absurd (omega arith)
@@ -105,7 +105,7 @@ abbrev Identity : ℕ × ℕ → List ℕ → Type 0
 Identity l b = (identityForm l ≡ 0) × ((n : List ℕ) × (IsString n ⨾ Category (length n) l) b)
 
 abbrev Rest : ℕ → List ℕ → Type 0
-Rest zero = Run 0
+Rest zero = AnyBytes 0
 Rest (suc n) = IsReference
 
 takes-rest : (n : ℕ) → Takes (pick (eqb n 0) (pure tt) reference) (Rest n)
@@ -141,5 +141,5 @@ takes-proxy = reads-as (λ _ b w. onward (w .0) (w .1)) (λ _ b w. back w) (read
     full (x ∷ n) c l sn sc w = both (identified (rw (ne-eqb (suc (length n)) 0 (λ e. omega arith))) sn sc) w
 
     back : {b : List ℕ} → IsProxy b → (l : ℕ × ℕ) × (Identity l ⨾ Rest (l .0)) b
-    back (is-nil {a} {b} sn sc) = ((0, 0), subst (Identity (0, 0) ⨾ Run 0) (append-nil (a ++ b)) (both (identified refl sn sc) refl))
+    back (is-nil {a} {b} sn sc) = ((0, 0), subst (Identity (0, 0) ⨾ AnyBytes 0) (append-nil (a ++ b)) (both (identified refl sn sc) refl))
     back (is-full {name} {category} l sn sc w) = ((length name, length category), full name category l sn sc w)

@@ -41,7 +41,7 @@ flags-most s f =
     firstOf-most 14 _ _ (omega arith) (firstOf-most 14 _ _ (omega arith) (firstOf-most 14 _ _ (omega arith)
     (firstOf-most 13 _ _ (omega arith) (firstOf-most 13 _ [] (omega arith) firstOf-none))))
 
--- behind bit 2 at least one optional
+-- bit 2 asks for at least one optional
 pub someForm-ok : (ps : List Piece) → someForm ps ≡ 0 → 1 ≤ length ps
 unfolding someForm
 someForm-ok [] h = absurd (omega arith)

@@ -12,7 +12,7 @@ use lib.Seq.{take-at, drop-at}
 use lib.Dec.{leb}
 use borrow.Author.Tests.{leb-true}
 use Rattle.encoding.specs.Result.{Res, ok, bad, pick, concat}
-use Rattle.encoding.specs.NumberLaws.{Bytes}
+use Rattle.encoding.specs.Number.{Bytes}
 use Rattle.encoding.specs.Message.{Read, rules, rowBytes, Answer, refused, accepted, answer, room, within, reading, listed}
 use Rattle.encoding.specs.MessageLaws.{length-rows}
 use Rattle.encoding.specs.Write.{output}
