@@ -3,23 +3,19 @@
 --   told-done, told-short, told-stop     what a walk gives, case by case; count-done, count-stop the rows of it
 --   told-reading                         the answer of a walk is the reader's answer
 --   list-short, list-few, list-again     the lent list where there is no room, where the rows come from another list, where they are laid in it
-use mathlib.Core.Path.{_≡_, refl, sym, ap, _∙_, subst}
+use mathlib.Core.Path.{_≡_, refl, sym, ap, _∙_}
 use mathlib.Core.Bool.{Bool, true, false}
 use mathlib.Core.List.{List, [], _∷_, _++_}
-use Prim.Native.Nat.{ℕ, zero, suc, _+_, _*_, _/_, _≤_, _<_}
+use Prim.Native.Nat.{ℕ, _+_, _*_, _/_, _≤_, _<_}
 use native.Mathlib.Omega.{arith}
 use lib.ListN.{length, take, drop}
 use lib.Seq.{take-at}
-use lib.Dec.{eqb, leb, ltb}
-use borrow.Author.Tests.{le-leb, lt-leb, ltb-false, ne-eqb}
-use Rattle.encoding.specs.Result.{Res, ok, bad, pick, firstOf, concat}
-use Rattle.encoding.specs.ResultLaws.{firstOf-ok, held-refused}
-use Rattle.encoding.specs.Table.{Fault, fine, fault, faults}
-use Rattle.encoding.specs.RuleLaws.{fault-place}
+use lib.Dec.{eqb, leb}
+use borrow.Author.Tests.{le-leb, lt-leb, ne-eqb}
+use Rattle.encoding.specs.Result.{Res, ok, bad, pick, concat}
 use Rattle.encoding.specs.Slice.{Format, sliced, compact, formatNumber}
-use Rattle.encoding.specs.Message.{Read, body, noTop, limit, afterRules, unless, rules, Row, rows, rowBytes, firstKnown, optionalsSkipped, slicesSkipped, Answer, refused, accepted, answer, room, within, reading, listed, readingOf}
-use Rattle.encoding.specs.MessageLaws.{held-body, length-rows}
-use Rattle.encoding.specs.RefusalLaws.{Told, refuses-rules}
+use Rattle.encoding.specs.Message.{Read, limit, rules, Row, rows, rowBytes, firstKnown, optionalsSkipped, slicesSkipped, Answer, refused, accepted, answer, room, within, reading, listed, readingOf}
+use Rattle.encoding.specs.MessageLaws.{length-rows}
 use Rattle.encoding.specs.declared.Reading.{Reading}
 use Rattle.encoding.specs.declared.Reading.the-variants.{Accepted, Refused}
 use Rattle.wire.specs.Put.{put}
@@ -30,6 +26,7 @@ use Rattle.reader.specs.Walks.{bodyWalk, readDone}
 use Rattle.reader.specs.declared.Walk.{Walk}
 use Rattle.reader.specs.declared.Walk.the-variants.{Done, Stop}
 use Rattle.laws.specs.Small.{Small, accepted-small}
+use Rattle.laws.specs.Refusals.{Numbered, refusal-numbered, rules-refused}
 use Rattle.codec.specs.Told.{Walked, low, toldOf, rowCount}
 
 -- ---- a walk, case by case
@@ -65,26 +62,6 @@ format-small : (f : Format) → formatNumber f ≤ limit
 format-small sliced = omega arith
 format-small compact = omega arith
 
-module _ (T : List ℕ) (top : ℕ) (m : List ℕ) where
-  refusal-number : {c p : ℕ} → rules T top m ≡ bad c p → (1 ≤ c) × (c ≤ 18)
-  refusal-number h = subst (λ (r : Res Read). Told r) h (refuses-rules T top m)
-
-  -- a refusal stands within the table or within the message
-  refusal-place : (c p : ℕ) → rules T top m ≡ bad c p → p ≤ limit
-  unfolding rules unless afterRules
-  refusal-place c p h = table (faults T) refl h
-    where
-      early : (n : ℕ) → firstOf ((2, noTop T top) ∷ (3, ltb limit (length m)) ∷ []) ≡ n → unless n (body T top m) ≡ bad c p → p ≤ limit
-      early zero e h =
-          let f = firstOf-ok 1 (noTop T top) ((3, ltb limit (length m)) ∷ []) e in
-          let g = firstOf-ok 2 (ltb limit (length m)) [] (f .1) in
-          omega (arith, held-refused (body T top) (held-body T top) m h, ltb-false limit (length m) (g .0))
-      early (suc n) e h = let z : _≡_ {A = ℕ} 0 p = cc in omega arith
-
-      table : (f : Fault) → faults T ≡ f → afterRules f (unless (firstOf ((2, noTop T top) ∷ (3, ltb limit (length m)) ∷ [])) (body T top m)) ≡ bad c p → p ≤ limit
-      table fine e h = early (firstOf ((2, noTop T top) ∷ (3, ltb limit (length m)) ∷ [])) refl h
-      table (fault k q) e h = let z : q ≡ p = cc in omega (arith, fault-place T k q e)
-
 -- ---- the answer
 
 told-accepted : (T : List ℕ) (top : ℕ) (rd : Read) (n k : ℕ) → Small T top (rd .format) (rd .pieces)
@@ -112,12 +89,12 @@ told-accepted T top rd n k S = go (leb (length (rows T top (rd .format) (rd .pie
         cc (low-small t (omega (arith, S .first)), low-small g (format-small (rd .format)), low-small c (omega (arith, S .count)), low-small o (S .optionals), low-small s (S .slices))
     go false = ap (Refused 19) (low-small c (omega (arith, S .count)))
 
-told-refused : (T : List ℕ) (top k c p : ℕ) → 1 ≤ c → c ≤ 18 → p ≤ limit → toldOf k (bodyWalk T top (bad c p)) ≡ readingOf (within k (refused c p))
+told-refused : (T : List ℕ) (top k c p : ℕ) → Numbered c p → toldOf k (bodyWalk T top (bad c p)) ≡ readingOf (within k (refused c p))
 unfolding toldOf bodyWalk readingOf within refused
-told-refused T top k c p h l q =
-    let num : low c ≡ c = low-small c (omega arith) in
-    let at : low p ≡ p = low-small p q in
-    let some : eqb c 0 ≡ false = ne-eqb c 0 (λ e. omega arith) in
+told-refused T top k c p N =
+    let num : low c ≡ c = low-small c (omega (arith, N .known-number)) in
+    let at : low p ≡ p = low-small p (N .small-place) in
+    let some : eqb c 0 ≡ false = ne-eqb c 0 (λ e. omega (arith, N .some-number)) in
     let it : Refused (low c) (low p) ≡ Refused c p = cc in
     let kept : within k (refused c p) ≡ refused c p = ap (λ (b : Bool). pick b (refused c p) (refused 19 0)) (le-leb 0 k (omega arith)) in
     it ∙ sym (ap readingOf kept ∙ ap (λ (b : Bool). pick b (Accepted 0 0 0 0 0) (Refused c p)) some)
@@ -129,9 +106,7 @@ told-reading T top m out last w W b k ek r er = er ∙ ap (toldOf k) (W .says) �
   where
     go : (r : Res Read) → rules T top m ≡ r → toldOf (b / 12) (bodyWalk T top r) ≡ readingOf (within (b / 12) (answer T top r))
     go (ok rd n) e = told-accepted T top rd n (b / 12) (accepted-small T top m (rd .format) (rd .pieces) n (W .bytes) e)
-    go (bad c p) e =
-        let h = refusal-number T top m e in
-        told-refused T top (b / 12) c p (h .0) (h .1) (refusal-place T top m c p e)
+    go (bad c p) e = told-refused T top (b / 12) c p (refusal-numbered (rules-refused T top m e))
 
 -- ---- the lent list
 

@@ -52,7 +52,7 @@ mutual
   unfolding value values IsValue AreValues
 
   pub takes-value : (t : Ty) → Takes (value t) (IsValue t)
-  takes-value broken = reads-fail 1
+  takes-value broken = reads-fail 4
   takes-value bool = takes-bool
   takes-value byte = takes-skip 1
   takes-value string = takes-text

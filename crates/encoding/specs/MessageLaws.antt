@@ -1,13 +1,13 @@
 -- The laws of a whole message: what its readers take and where they refuse lies within the input, and what acceptance tells.
 --
---   closed-parameters, closed-contents, closed-message   what each way of joining readers keeps; held-contents, held-body the extent
+--   closed-parameters, closed-contents, closed-rest   what each way of joining readers keeps; held-contents, held-rest the extent
 --   ended-ok               nothing is behind the record
 --   length-encapsulate, body-encapsulated   an encapsulation is six bytes longer than what it holds, and read as that
 --   top-there              a top is a row of a kind from 13 on
 --   rules-ok, rules-step   what the rules accept: table, top, limit and body; rules-body where only the body is left
 --   length-row, length-rows   a row has twelve bytes in a list
 use mathlib.Core.Path.{_≡_, refl, sym, ap, _∙_}
-use mathlib.Core.Bool.{false, _||_, not}
+use mathlib.Core.Bool.{false}
 use mathlib.Core.Option.{Option}
 use mathlib.Core.List.{List, [], _∷_, _++_}
 use Prim.Native.Nat.{ℕ, zero, suc, _+_, _*_, _^_, _≤_, _<_}
@@ -17,9 +17,9 @@ use lib.Seq.{drop-at}
 use lib.Dec.{eqb, leb, ltb}
 use borrow.Author.Tests.{leb-false, ltb-false, le-ltb, eq-eqb}
 use Rattle.encoding.specs.Result.{ok, Parser, shift, _>>=_, must, atEnd, atMark, firstOf, concat}
-use Rattle.encoding.specs.ResultLaws.{shift-shift, Closed, Lies, by-pick, held, pick-most, atMark-looks, ok≢bad, either-false, firstOf-ok, bind-next, must-step, Held, atEnd-fits}
+use Rattle.encoding.specs.ResultLaws.{shift-shift, Closed, Lies, by-pick, held, pick-judges, atMark-looks, ok≢bad, either-false, firstOf-ok, bind-next, must-step, Held, atEnd-fits}
 use Rattle.encoding.specs.Number.{byte, number, leBytes}
-use Rattle.encoding.specs.NumberLaws.{closed-byte, closed-number, length-leBytes, number-written}
+use Rattle.encoding.specs.NumberLaws.{closed-byte, length-leBytes, number-written}
 use Rattle.encoding.specs.Table.{types, kind, Fault, fine, fault, faults, required, optional}
 use Rattle.encoding.specs.Optional.{Piece}
 use Rattle.encoding.specs.OptionalLaws.{closed-optionals, closed-requireds}
@@ -43,24 +43,19 @@ module _ {P : (A : Type 0) → Parser A → Type 0} {Stops : (List ℕ → Optio
   closed-contents =
       by-pick C (eqb (kind T top) 15) _ _ (C .by-mapc _ closed-parameters (λ ps _. record { format = sliced; pieces = list ps }))
       (by-pick C (eqb (kind T top) 14) _ _
-      (C .by-bind _ _ (C .by-must byte (closed-byte C) markerForm (λ b. pick-most (eqb b 1) 0 13 (omega arith) (omega arith)))
+      (C .by-bind _ _ (C .by-must byte (closed-byte C) markerForm (λ b. pick-judges (eqb b 1) 0 13 refl refl))
       (λ _. C .by-mapc _ (closed-slices C marked T top) (λ (c : Chain) _. record { format = c .format; pieces = class (c .list) })))
       (C .by-mapc _ (closed-slices C marked T top) (λ (c : Chain) _. record { format = c .format; pieces = exception (c .list) })))
 
-  -- the size is judged with the length l of the input; `last` is the end of the message
-  pub closed-message : ((r : Read) → P Read (ended r)) → (l : ℕ) → P Read (must (sizeForm l) (number 4) >>= λ _. must versionForm (number 2) >>= λ _. contents T top >>= ended)
-  unfolding sizeForm versionForm
-  closed-message last l =
-      C .by-bind _ _ (C .by-must _ (closed-number C 4) (sizeForm l) (λ n. pick-most (ltb n 6 || not (eqb n l)) 5 0 (omega arith) (omega arith)))
-      (λ _. C .by-bind _ _ (C .by-must _ (closed-number C 2) versionForm (λ v. pick-most (eqb v 257) 0 6 (omega arith) (omega arith)))
-      (λ _. C .by-bind _ ended closed-contents last))
+  -- then nothing more
+  pub closed-rest : ((r : Read) → P Read (ended r)) → P Read (contents T top >>= ended)
+  closed-rest nothing = C .by-bind _ ended closed-contents nothing
 
 pub held-contents : (T : List ℕ) (top : ℕ) → Held (contents T top)
 held-contents = closed-contents held (atMark-looks .fits) atEnd-fits
 
-pub held-body : (T : List ℕ) (top : ℕ) → Held (body T top)
-unfolding body
-held-body T top m = closed-message held (atMark-looks .fits) atEnd-fits T top ended-in (length m) m
+pub held-rest : (T : List ℕ) (top : ℕ) → Held (contents T top >>= ended)
+held-rest T top = closed-rest held (atMark-looks .fits) atEnd-fits T top ended-in
 
 pub ended-ok : {A : Type 0} (a : A) (xs : List ℕ) {b : A} {n : ℕ} → ended a xs ≡ ok b n → (xs ≡ []) × (b ≡ a) × (n ≡ 0)
 unfolding ended

@@ -16,7 +16,7 @@ use lib.Dec.{ltb}
 use borrow.Author.Tests.{leb-false, ltb-true, ltb-false, lt-leb, lt-ltb, le-ltb}
 use mathlib.Core.Option.{Option}
 use Rattle.encoding.specs.Result.{Parser, ok, pick, _>>=_, pure, chunk, item, must, firstOf}
-use Rattle.encoding.specs.ResultLaws.{Closed, by-pick, held, pick-most, firstOf-most, firstOf-none, Bound, bind-ok, bind-step, bind-take, bind-written, pure-ok, chunk-ok, chunk-written, item-ok, item-step, must-ok, must-step, firstOf-ok, Held, Ends, ends-chunk, ends-item, ends-bind, Eats, eats-chunk, eats-first, eats-item, eats-must, eats-mapc, Starved, starved-chunk}
+use Rattle.encoding.specs.ResultLaws.{Closed, by-pick, held, pick-judges, firstOf-judges, none-judges, Bound, bind-ok, bind-step, bind-take, bind-written, pure-ok, chunk-ok, chunk-written, item-ok, item-step, must-ok, must-step, firstOf-ok, Held, Ends, ends-chunk, ends-item, ends-bind, Eats, eats-chunk, eats-first, eats-item, eats-must, eats-mapc, Starved, starved-chunk}
 pub use Rattle.encoding.specs.Number.{Bytes}
 use Rattle.encoding.specs.Number.{val, leBytes, negative, number, byte, boolForm, bool, sizeForm, sizeTail, size, sizeBytes, lengthForm, declared, Content, string, stringBytes}
 
@@ -102,25 +102,25 @@ module _ {P : (A : Type 0) → Parser A → Type 0} {Stops : (List ℕ → Optio
 
   pub closed-bool : P (Unit {0}) bool
   unfolding bool boolForm
-  closed-bool = C .by-mapc _ (C .by-must _ closed-byte boolForm (λ b. pick-most (ltb b 2) 0 8 (omega arith) (omega arith))) (λ _ _. tt)
+  closed-bool = C .by-mapc _ (C .by-must _ closed-byte boolForm (λ b. pick-judges (ltb b 2) 0 8 refl refl)) (λ _ _. tt)
 
   pub closed-size : P ℕ size
   unfolding size sizeTail sizeForm
   closed-size =
       C .by-item _ (C .by-bind byte sizeTail closed-byte λ b.
       by-pick C (ltb b 255) _ _ (C .by-pure b)
-      (C .by-must _ (closed-number 4) sizeForm (λ n. firstOf-most 7 (ltb n 255) _ (omega arith) (firstOf-most 7 (negative 4 n) [] (omega arith) firstOf-none))))
+      (C .by-must _ (closed-number 4) sizeForm (λ n. firstOf-judges 7 (ltb n 255) _ refl (firstOf-judges 7 (negative 4 n) [] refl none-judges))))
 
   pub closed-declared : (least own : ℕ) → P (List ℕ) (declared least own)
   unfolding declared lengthForm
   closed-declared least own =
       C .by-item _ (C .by-bind _ _
-      (C .by-must _ (closed-number 4) (lengthForm least) (λ n. firstOf-most 11 (ltb n least) _ (omega arith) (firstOf-most 11 (negative 4 n) [] (omega arith) firstOf-none)))
+      (C .by-must _ (closed-number 4) (lengthForm least) (λ n. firstOf-judges 11 (ltb n least) _ refl (firstOf-judges 11 (negative 4 n) [] refl none-judges)))
       (λ n. C .by-chunk (n - own) (λ b. b)))
 
   pub closed-string : P (List ℕ) string
   unfolding string Content
-  closed-string = C .by-must _ (C .by-item _ (C .by-bind size _ closed-size (λ n. C .by-chunk n (λ b. b)))) Content (λ b. omega arith)
+  closed-string = C .by-must _ (C .by-item _ (C .by-bind size _ closed-size (λ n. C .by-chunk n (λ b. b)))) Content (λ b. refl)
 
 pub held-byte : Held byte
 held-byte = closed-byte held

@@ -17,7 +17,7 @@ use lib.ListN.{length, take, drop}
 use lib.Seq.{length-take-le}
 use lib.Dec.{eqb, ltb}
 use Rattle.encoding.specs.Result.{Parser, ok, pick, fail, chunk, many}
-use Rattle.encoding.specs.ResultLaws.{Closed, by-pick, framed, held, many-fuel, pick-most, firstOf-most, firstOf-none, ok≢bad, Bound, bind-ok, bind-take, chunk-ok, item-ok, bytes-ok, Framed, Held, Ends, ends-chunk, ends-bytes, ends-item, ends-bind, Eats, eats-must, eats-first, Starved, starved-must, starved-bind, many-enough}
+use Rattle.encoding.specs.ResultLaws.{Closed, Judges, by-pick, framed, held, many-fuel, pick-judges, firstOf-judges, none-judges, ok≢bad, Bound, bind-ok, bind-take, chunk-ok, item-ok, bytes-ok, Framed, Held, Ends, ends-chunk, ends-bytes, ends-item, ends-bind, Eats, eats-must, eats-first, Starved, starved-must, starved-bind, many-enough}
 use Rattle.encoding.specs.Number.{Bytes, sizeBytes}
 use Rattle.encoding.specs.Number
 use Rattle.encoding.specs.NumberLaws.{closed-byte, closed-size, closed-declared, held-size, ends-declared, eats-byte, starved-byte, size-canonical, declared-canonical}
@@ -28,9 +28,9 @@ use Rattle.encoding.specs.Optional.{Piece, Header, firstForm, headerTail
 
 -- ---- headers
 
-headers-most : (ms : List Member) (least : ℕ) (h : Header) → headerForm ms least h ≤ 18
+headers-judge : (ms : List Member) (least : ℕ) (h : Header) → Judges (headerForm ms least h)
 unfolding headerForm
-headers-most ms least h = firstOf-most 12 _ _ (omega arith) (firstOf-most 12 _ _ (omega arith) (firstOf-most 13 _ _ (omega arith) (firstOf-most 12 _ [] (omega arith) firstOf-none)))
+headers-judge ms least h = firstOf-judges 12 _ _ refl (firstOf-judges 12 _ _ refl (firstOf-judges 13 _ _ refl (firstOf-judges 12 _ [] refl none-judges)))
 
 module _ (ms : List Member) (least : ℕ) where
   pub eats-header : Eats (header ms least)
@@ -69,10 +69,10 @@ module _ {P : (A : Type 0) → Parser A → Type 0} {Stops : (List ℕ → Optio
   unfolding header headerTail firstForm
   closed-header ms least =
       C .by-must _
-      (C .by-bind _ headerTail (C .by-must _ (closed-byte C) firstForm (λ h. pick-most (ltb (h / 8) 31) 0 12 (omega arith) (omega arith))) λ h.
+      (C .by-bind _ headerTail (C .by-must _ (closed-byte C) firstForm (λ h. pick-judges (ltb (h / 8) 31) 0 12 refl refl)) λ h.
       by-pick C (eqb (h / 8) 30) _ _ (C .by-mapc _ (closed-size C) (λ n _. record { long = true; tag = n; type = bitsAt (h % 8) }))
       (C .by-pure (record { long = false; tag = h / 8; type = bitsAt (h % 8) })))
-      (headerForm ms least) (headers-most ms least)
+      (headerForm ms least) (headers-judge ms least)
 
   pub closed-extent : (k : Bits) → P (List ℕ) (extent k)
   unfolding extent
@@ -83,7 +83,7 @@ module _ {P : (A : Type 0) → Parser A → Type 0} {Stops : (List ℕ → Optio
   closed-extent size = C .by-bytes _ (closed-size C)
   closed-extent vsize = C .by-item _ (C .by-bind _ _ (closed-size C) (λ n. C .by-chunk n (λ b. b)))
   closed-extent fsize = closed-declared C 1 0
-  closed-extent class = C .by-fail (List ℕ) 13 (omega arith, omega arith)
+  closed-extent class = C .by-fail (List ℕ) 13 refl
 
   pub closed-part : (f : Form) → P (List ℕ) (part f)
   unfolding part

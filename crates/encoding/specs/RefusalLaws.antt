@@ -1,27 +1,24 @@
--- Every refusal of a reader is one of document 01's table: its number is between 1 and 18. (19 is the reader's with its list, 20 to 23 the writer's.)
+-- Every refusal in what an encapsulation holds is one of document 01's table for it: 4 or 7 to 18.
 --
---   Told r             r is no refusal, or one of the table
---   Refuses p          each refusal of p is one of the table
+--   Told r             r is no refusal, or one of these
+--   Refuses p          each refusal of p is one of these
 --   refuses            each way of joining readers keeps this
---   refuses-body       of the body of a message under any table; refuses-rules of the rules
-use mathlib.Core.Path.{_≡_, refl}
-use mathlib.Core.Bool.{Bool, true, false}
+--   refuses-rest       of what an encapsulation holds, to its end, under any table
+use mathlib.Core.Path.{_≡_, refl, sym, ap, _∙_}
+use mathlib.Core.Bool.{Bool, true, false, _||_}
 use mathlib.Core.Option.{Option, none, some}
 use mathlib.Core.List.{List, [], _∷_}
-use Prim.Native.Nat.{ℕ, zero, suc, _≤_}
-use native.Mathlib.Omega.{arith}
+use Prim.Native.Nat.{ℕ, zero, suc}
 use lib.ListN.{length, take, drop}
-use lib.Dec.{eqb, leb, ltb}
-use borrow.Author.Tests.{eqb-false}
-use Rattle.encoding.specs.Result.{Res, ok, bad, Parser, pick, shift, after, _>>=_, pure, fail, chunk, atFirst, item, judged, must, made, mapc, bytes, recalled, recall, leave, enter, inside, turn, many, firstOf}
-use Rattle.encoding.specs.ResultLaws.{Closed, InTable, firstOf-most, firstOf-none}
-use Rattle.encoding.specs.MessageLaws.{closed-message}
-use Rattle.encoding.specs.Table.{Fault, fine, fault, faults, ruleNumber}
-use Rattle.encoding.specs.Message.{Read, ended, body, noTop, limit, afterRules, unless, rules}
+use lib.Dec.{eqb, leb}
+use Rattle.encoding.specs.Result.{Res, ok, bad, Parser, pick, shift, after, _>>=_, pure, fail, chunk, atFirst, item, judged, must, made, mapc, bytes, recalled, recall, leave, enter, inside, turn, many}
+use Rattle.encoding.specs.ResultLaws.{Closed, ofContents, Judges}
+use Rattle.encoding.specs.MessageLaws.{closed-rest}
+use Rattle.encoding.specs.Message.{contents, ended}
 
 abbrev pub Told : {A : Type 0} → Res A → Type 0
 Told (ok a n) = Unit {0}
-Told (bad c p) = InTable c
+Told (bad c p) = ofContents c ≡ true
 
 abbrev pub Refuses : {A : Type 0} → Parser A → Type 0
 Refuses p = (xs : List ℕ) → Told (p xs)
@@ -45,7 +42,7 @@ refuses-pure : {A : Type 0} (a : A) → Refuses (pure a)
 unfolding pure
 refuses-pure a xs = tt
 
-refuses-fail : (A : Type 0) (c : ℕ) → InTable c → Refuses (fail {A = A} c)
+refuses-fail : (A : Type 0) (c : ℕ) → ofContents c ≡ true → Refuses (fail {A = A} c)
 unfolding fail
 refuses-fail A c h xs = h
 
@@ -55,7 +52,7 @@ refuses-chunk k f xs = go (leb k (length xs))
   where
     go : (t : Bool) → Told (pick t (ok (f (take k xs)) k) (bad 4 0))
     go true = tt
-    go false = (omega arith, omega arith)
+    go false = refl
 
 module _ {A : Type 0} (p : Parser A) (P : Refuses p) where
   refuses-item : Refuses (item p)
@@ -70,7 +67,7 @@ module _ {A : Type 0} (p : Parser A) (P : Refuses p) where
   unfolding recall recalled
   refuses-recall k xs = go (p xs) (P xs)
     where
-      go₂ : (c q : ℕ) (t : Bool) → InTable c → Told (pick {X = Res A} t (bad c 0) (bad c q))
+      go₂ : (c q : ℕ) (t : Bool) → ofContents c ≡ true → Told (pick {X = Res A} t (bad c 0) (bad c q))
       go₂ c q true h = h
       go₂ c q false h = h
 
@@ -79,16 +76,13 @@ module _ {A : Type 0} (p : Parser A) (P : Refuses p) where
       go (bad c q) h = go₂ c q (eqb c k) h
 
   -- a judgement gives numbers of the table
-  refuses-must : (f : A → ℕ) → ((a : A) → f a ≤ 18) → Refuses (must f p)
+  refuses-must : (f : A → ℕ) → ((a : A) → Judges (f a)) → Refuses (must f p)
   unfolding must judged
-  refuses-must f most xs = go (p xs) (P xs)
+  refuses-must f judges xs = go (p xs) (P xs)
     where
       go₂ : (a : A) (n : ℕ) (t : Bool) → eqb (f a) 0 ≡ t → Told (pick t (ok a n) (bad (f a) 0))
       go₂ a n true e = tt
-      go₂ a n false e = (above (f a) (eqb-false (f a) 0 e), most a)
-        where
-          above : (n : ℕ) → (n ≡ 0 → ⊥) → 1 ≤ n
-          above n h = omega arith
+      go₂ a n false e = ap (λ (b : Bool). b || ofContents (f a)) (sym e) ∙ judges a
 
       go : (r : Res A) → Told r → Told (judged f r)
       go (ok a n) h = go₂ a n (eqb (f a) 0) refl
@@ -113,7 +107,7 @@ refuses-inside {B} p q P Q xs = go (p xs) (P xs)
   where
     go₃ : (b : B) (n : ℕ) (t : Bool) → Told (pick t (ok b n) (bad 11 0))
     go₃ b n true = tt
-    go₃ b n false = (omega arith, omega arith)
+    go₃ b n false = refl
 
     go₂ : (l n : ℕ) (r : Res B) → Told r → Told (leave l n r)
     go₂ l n (ok b m) h = go₃ b n (eqb m l)
@@ -130,7 +124,7 @@ told-turn none r h = h
 
 refuses-many : {S A : Type 0} (stop : List ℕ → Option ℕ) (p : S → Parser (A × S)) → ((s : S) → Refuses (p s)) → (f : ℕ) (s : S) → Refuses (many stop p f s)
 unfolding many
-refuses-many stop p P zero s xs = told-turn (stop xs) (bad 4 0) (omega arith, omega arith)
+refuses-many stop p P zero s xs = told-turn (stop xs) (bad 4 0) refl
 refuses-many {S} {A} stop p P (suc f) s xs =
     told-turn (stop xs) _ (refuses-bind (p s) (λ (r : A × S). mapc (λ l _. r .0 ∷ l) (many stop p f (r .1))) (P s) (λ r. refuses-mapc (many stop p f (r .1)) (refuses-many stop p P f (r .1)) (λ l _. r .0 ∷ l)) xs)
 
@@ -155,24 +149,7 @@ refuses = record {
 told-ended : {A : Type 0} (a : A) (xs : List ℕ) → Told (ended a xs)
 unfolding ended
 told-ended a [] = tt
-told-ended a (x ∷ xs) = (omega arith, omega arith)
+told-ended a (x ∷ xs) = refl
 
-module _ (T : List ℕ) (top : ℕ) where
-  pub refuses-body : Refuses (body T top)
-  unfolding body
-  refuses-body m = closed-message refuses tt tt T top told-ended (length m) m
-
-  pub refuses-rules : Refuses (rules T top)
-  unfolding rules unless afterRules ruleNumber
-  refuses-rules m = table (faults T) _ (early (firstOf ((2, noTop T top) ∷ (3, ltb limit (length m)) ∷ [])) most (body T top m) (refuses-body m))
-    where
-      most : firstOf ((2, noTop T top) ∷ (3, ltb limit (length m)) ∷ []) ≤ 18
-      most = firstOf-most 2 (noTop T top) _ (omega arith) (firstOf-most 3 (ltb limit (length m)) [] (omega arith) firstOf-none)
-
-      early : (n : ℕ) → n ≤ 18 → (r : Res Read) → Told r → Told (unless n r)
-      early zero l r h = h
-      early (suc n) l r h = (omega arith, l)
-
-      table : (f : Fault) (r : Res Read) → Told r → Told (afterRules f r)
-      table fine r h = h
-      table (fault c p) r h = (omega arith, omega arith)
+pub refuses-rest : (T : List ℕ) (top : ℕ) → Refuses (contents T top >>= ended)
+refuses-rest T top = closed-rest refuses tt tt T top told-ended

@@ -720,19 +720,23 @@ atMark-looks = record { fits = fits; ends = ends; goes = goes }
 
 -- ---- a property that each way of joining readers keeps
 
--- the numbers of document 01's table that a reader gives
-abbrev pub InTable : ℕ → Type 0
-InTable c = (1 ≤ c) × (c ≤ 18)
+-- the refusal numbers of what an encapsulation holds: 4 and 7 to 18
+abbrev pub ofContents : ℕ → Bool
+ofContents c = eqb c 4 || (leb 7 c && leb c 18)
+
+-- a judgement gives 0 or one of them
+abbrev pub Judges : ℕ → Type 0
+Judges n = eqb n 0 || ofContents n ≡ true
 
 -- P is kept by each way of joining readers; Stops says which stops of a loop keep it
 pub record Closed (P : (A : Type 0) → Parser A → Type 0) (Stops : (List ℕ → Option ℕ) → Type 0) : Type 1 where
   pub by-bind : {A B : Type 0} (p : Parser A) (f : A → Parser B) → P A p → ((a : A) → P B (f a)) → P B (p >>= f)
   pub by-pure : {A : Type 0} (a : A) → P A (pure a)
-  pub by-fail : (A : Type 0) (c : ℕ) → InTable c → P A (fail c)
+  pub by-fail : (A : Type 0) (c : ℕ) → ofContents c ≡ true → P A (fail c)
   pub by-chunk : {A : Type 0} (k : ℕ) (f : List ℕ → A) → P A (chunk k f)
   pub by-item : {A : Type 0} (p : Parser A) → P A p → P A (item p)
   pub by-recall : {A : Type 0} (p : Parser A) → P A p → (k : ℕ) → P A (recall k p)
-  pub by-must : {A : Type 0} (p : Parser A) → P A p → (f : A → ℕ) → ((a : A) → f a ≤ 18) → P A (must f p)
+  pub by-must : {A : Type 0} (p : Parser A) → P A p → (f : A → ℕ) → ((a : A) → Judges (f a)) → P A (must f p)
   pub by-mapc : {A B : Type 0} (p : Parser A) → P A p → (f : A → ℕ → B) → P B (mapc f p)
   pub by-bytes : {A : Type 0} (p : Parser A) → P A p → P (List ℕ) (bytes p)
   pub by-inside : {B : Type 0} (p : Parser (List ℕ)) (q : Parser B) → P (List ℕ) p → Ends p → P B q → P B (inside p q)
@@ -754,18 +758,18 @@ module _ {P : (A : Type 0) → Parser A → Type 0} {Stops : (List ℕ → Optio
   by-times zero p x = C .by-pure tt
   by-times (suc n) p x = C .by-bind p (λ _. times n p) x (λ _. by-times n p x)
 
--- judgements give numbers of the table
-pub pick-most : (b : Bool) (x y : ℕ) → x ≤ 18 → y ≤ 18 → pick b x y ≤ 18
-pick-most true x y h k = h
-pick-most false x y h k = k
+-- how judgements are built
+pub pick-judges : (b : Bool) (x y : ℕ) → Judges x → Judges y → Judges (pick b x y)
+pick-judges true x y h k = h
+pick-judges false x y h k = k
 
-pub firstOf-most : (n : ℕ) (b : Bool) (l : List (ℕ × Bool)) → n ≤ 18 → firstOf l ≤ 18 → firstOf ((n, b) ∷ l) ≤ 18
+pub firstOf-judges : (n : ℕ) (b : Bool) (l : List (ℕ × Bool)) → Judges n → Judges (firstOf l) → Judges (firstOf ((n, b) ∷ l))
 unfolding firstOf
-firstOf-most n b l h k = pick-most b n (firstOf l) h k
+firstOf-judges n b l h k = pick-judges b n (firstOf l) h k
 
-pub firstOf-none : firstOf [] ≤ 18
+pub none-judges : Judges (firstOf [])
 unfolding firstOf
-firstOf-none = omega arith
+none-judges = refl
 
 -- the frame
 pub framed : Closed (λ A p. Framed {A = A} p) Looks

@@ -16,7 +16,7 @@ use native.Mathlib.Omega.{arith}
 use lib.ListN.{length, drop, length-drop}
 use lib.Dec.{eqb}
 use Rattle.encoding.specs.Result.{pick, sameBytes, Res, ok, bad, Parser, shift, after, _>>=_, pure, fail, made, mapc, atMark}
-use Rattle.encoding.specs.ResultLaws.{Closed, InTable, by-pick, held, pick-most, firstOf-most, firstOf-none, ok≢bad, Bound, bind-ok, bind-step, mapc-ok, mapc-step, Held, Eats, eats-must, eats-first, eats-recall, Starved, starved-must, starved-bind, starved-recall, atMark-looks}
+use Rattle.encoding.specs.ResultLaws.{Closed, ofContents, Judges, by-pick, held, pick-judges, firstOf-judges, none-judges, ok≢bad, Bound, bind-ok, bind-step, mapc-ok, mapc-step, Held, Eats, eats-must, eats-first, eats-recall, Starved, starved-must, starved-bind, starved-recall, atMark-looks}
 use Rattle.encoding.specs.Number.{byte}
 use Rattle.encoding.specs.NumberLaws.{closed-byte, closed-string, closed-declared, ends-declared, eats-byte, starved-byte}
 use Rattle.encoding.specs.Table.{any, chain, named, required, optional, nameOf, base}
@@ -35,11 +35,11 @@ module _ (s : Stand) (judge : Format → List ℕ → ℕ) where
   unfolding head
   starved-head = starved-bind _ _ (starved-must (flagForm s) byte starved-byte)
 
-flags-most : (s : Stand) (f : ℕ) → flagForm s f ≤ 18
+flags-judge : (s : Stand) (f : ℕ) → Judges (flagForm s f)
 unfolding flagForm
-flags-most s f =
-    firstOf-most 14 _ _ (omega arith) (firstOf-most 14 _ _ (omega arith) (firstOf-most 14 _ _ (omega arith)
-    (firstOf-most 13 _ _ (omega arith) (firstOf-most 13 _ [] (omega arith) firstOf-none))))
+flags-judge s f =
+    firstOf-judges 14 _ _ refl (firstOf-judges 14 _ _ refl (firstOf-judges 14 _ _ refl
+    (firstOf-judges 13 _ _ refl (firstOf-judges 13 _ [] refl none-judges))))
 
 -- bit 2 asks for at least one optional
 pub someForm-ok : (ps : List Piece) → someForm ps ≡ 0 → 1 ≤ length ps
@@ -52,44 +52,48 @@ unfolding someForm
 someForm-step [] h = absurd (omega arith)
 someForm-step (p ∷ ps) h = refl
 
-some-most : (ps : List Piece) → someForm ps ≤ 18
+some-judges : (ps : List Piece) → Judges (someForm ps)
 unfolding someForm
-some-most [] = omega arith
-some-most (p ∷ ps) = omega arith
+some-judges [] = refl
+some-judges (p ∷ ps) = refl
 
 -- a wrong meaning is 16 or 17
 abbrev pub Meant : Meaning → Type 0
 Meant skip = Unit {0}
 Meant (row t) = Unit {0}
-Meant (wrong n) = InTable n
+Meant (wrong n) = ofContents n ≡ true
 
 meant-pick : (b : Bool) (m n : Meaning) → Meant m → Meant n → Meant (pick b m n)
 meant-pick true m n h k = h
 meant-pick false m n h k = k
 
-meant-most : (m : Meaning) → Meant m → meaningForm m ≤ 18
+meant-judges : (m : Meaning) → Meant m → Judges (meaningForm m)
 unfolding meaningForm
-meant-most skip h = omega arith
-meant-most (row t) h = omega arith
-meant-most (wrong n) h = h .1
+meant-judges skip h = refl
+meant-judges (row t) h = refl
+meant-judges (wrong n) h = go (eqb n 0) (ofContents n) h
+  where
+    go : (a b : Bool) → b ≡ true → a || b ≡ true
+    go true b e = refl
+    go false b e = e
 
 module _ (T : List ℕ) where
   meant-seek : (top : ℕ) (last : Bool) (o : Option ℕ) → Meant (seekMeaning T top last o)
   unfolding seekMeaning knownMeaning
-  meant-seek top last none = meant-pick last (wrong 16) skip (omega arith, omega arith) tt
-  meant-seek top last (some t) = meant-pick (any (λ r. eqb r top) (chain T t) && not (wrongLast T t last)) (row t) (wrong 17) tt (omega arith, omega arith)
+  meant-seek top last none = meant-pick last (wrong 16) skip refl tt
+  meant-seek top last (some t) = meant-pick (any (λ r. eqb r top) (chain T t) && not (wrongLast T t last)) (row t) (wrong 17) tt refl
 
   pub meant-head : (top : ℕ) (st : Stage) (h : Head) → Meant (meaning T top st h)
   unfolding meaning
   meant-head top (seek s) h = meant-seek top (h .last) (named T (h .id))
-  meant-head top (follow g zero) h = (omega arith, omega arith)
+  meant-head top (follow g zero) h = refl
   meant-head top (follow g (suc t)) h =
-      meant-pick (isSliced g && not (sameBytes (h .id) (nameOf T t)) || wrongLast T t (h .last)) (wrong 17) (row t) (omega arith, omega arith) tt
+      meant-pick (isSliced g && not (sameBytes (h .id) (nameOf T t)) || wrongLast T t (h .last)) (wrong 17) (row t) refl tt
 
-  id-most : (st : Stage) (g : Format) (nm : List ℕ) → idForm T st g nm ≤ 18
+  id-judges : (st : Stage) (g : Format) (nm : List ℕ) → Judges (idForm T st g nm)
   unfolding idForm
-  id-most (seek s) g nm = pick-most (not (isSliced g) && isNone (named T nm)) 15 0 (omega arith) (omega arith)
-  id-most (follow h b) g nm = omega arith
+  id-judges (seek s) g nm = pick-judges (not (isSliced g) && isNone (named T nm)) 15 0 refl refl
+  id-judges (follow h b) g nm = refl
 
 module _ (T : List ℕ) (top : ℕ) (st : Stage) where
   judge : Head → ℕ
@@ -107,10 +111,10 @@ module _ (T : List ℕ) (top : ℕ) (st : Stage) where
 
 module _ {P : (A : Type 0) → Parser A → Type 0} {Stops : (List ℕ → Option ℕ) → Type 0} (C : Closed P Stops) where
   -- whatever is judged of the type ID
-  pub closed-head : (s : Stand) (judge : Format → List ℕ → ℕ) → ((g : Format) (nm : List ℕ) → judge g nm ≤ 18) → P Head (head s judge)
+  pub closed-head : (s : Stand) (judge : Format → List ℕ → ℕ) → ((g : Format) (nm : List ℕ) → Judges (judge g nm)) → P Head (head s judge)
   unfolding head
   closed-head s judge most =
-      C .by-bind _ _ (C .by-must _ (closed-byte C) (flagForm s) (flags-most s))
+      C .by-bind _ _ (C .by-must _ (closed-byte C) (flagForm s) (flags-judge s))
       (λ f. C .by-mapc _ (by-pick C (due s (formatOf f)) _ _ (C .by-must _ (closed-string C) (judge (formatOf f)) (most (formatOf f))) (C .by-pure []))
       (λ nm _. record { format = formatOf f; optionals = bit f 4; last = bit f 32; id = nm }))
 
@@ -119,7 +123,7 @@ module _ {P : (A : Type 0) → Parser A → Type 0} {Stops : (List ℕ → Optio
     unfolding fields
     closed-fields t opt =
         C .by-bind _ _ (closed-requireds C (required T t))
-        (λ a. by-pick C opt _ _ (C .by-mapc _ (C .by-must _ (closed-optionals C atMark marked (optional T t)) someForm some-most) (λ ps _. a ++ ps)) (C .by-pure a))
+        (λ a. by-pick C opt _ _ (C .by-mapc _ (C .by-must _ (closed-optionals C atMark marked (optional T t)) someForm some-judges) (λ ps _. a ++ ps)) (C .by-pure a))
 
     pub closed-knownData : (t : ℕ) (h : Head) → P Slice (knownData T t h)
     unfolding knownData
@@ -139,7 +143,7 @@ module _ {P : (A : Type 0) → Parser A → Type 0} {Stops : (List ℕ → Optio
     closed-slice top st =
         C .by-recall _
         (C .by-bind _ _
-        (C .by-must _ (closed-head (standOf st) (idForm T st) (id-most T st)) (λ h. meaningForm (meaning T top st h)) (λ h. meant-most (meaning T top st h) (meant-head T top st h)))
+        (C .by-must _ (closed-head (standOf st) (idForm T st) (id-judges T st)) (λ h. meaningForm (meaning T top st h)) (λ h. meant-judges (meaning T top st h) (meant-head T top st h)))
         (λ h. closed-enter h (meaning T top st h) (meant-head T top st h)))
         14
 
@@ -150,13 +154,13 @@ module _ {P : (A : Type 0) → Parser A → Type 0} {Stops : (List ℕ → Optio
 
     pub closed-walk : (top f : ℕ) (st : Stage) → P Chain (walk T top f st)
     unfolding walk
-    closed-walk top zero st = closed-unless (fail 4) (finished st) (C .by-fail Chain 4 (omega arith, omega arith))
+    closed-walk top zero st = closed-unless (fail 4) (finished st) (C .by-fail Chain 4 refl)
     closed-walk top (suc f) st =
         closed-unless _ (finished st)
         (C .by-bind (slice T top st) _ (closed-slice top st) (λ (r : Slice × Stage). C .by-mapc _ (closed-walk top f (r .1)) (λ c _. ahead (r .0) c)))
 
 pub held-head : (T : List ℕ) (st : Stage) → Held (head (standOf st) (idForm T st))
-held-head T st = closed-head held (standOf st) (idForm T st) (id-most T st)
+held-head T st = closed-head held (standOf st) (idForm T st) (id-judges T st)
 
 pub held-slice : (T : List ℕ) (top : ℕ) (st : Stage) → Held (slice T top st)
 held-slice T top st = closed-slice held (atMark-looks .fits) T top st

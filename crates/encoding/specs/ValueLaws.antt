@@ -10,12 +10,11 @@ use mathlib.Core.Bool.{Bool, true, false, _&&_, true≢false, false≢true}
 use mathlib.Core.Option.{Option}
 use mathlib.Core.List.{List}
 use Prim.Native.Nat.{ℕ}
-use native.Mathlib.Omega.{arith}
 use lib.ListN.{length}
 use lib.Dec.{eqb, ltb}
 use borrow.Author.Tests.{eqb-true, eq-eqb}
 use Rattle.encoding.specs.Result.{Res, ok, bad, Parser, _>>=_, skip}
-use Rattle.encoding.specs.ResultLaws.{Closed, by-pick, by-skip, by-times, framed, held, pick-most, Framed, Held, Eats, eats-fail, eats-first, eats-next, eats-mapc, eats-must}
+use Rattle.encoding.specs.ResultLaws.{Closed, by-pick, by-skip, by-times, framed, held, pick-judges, Framed, Held, Eats, eats-fail, eats-first, eats-next, eats-mapc, eats-must}
 use Rattle.encoding.specs.Number.{size}
 use Rattle.encoding.specs.NumberLaws.{closed-byte, closed-bool, closed-size, closed-declared, closed-string, eats-size, eats-string, eats-bool}
 use Rattle.encoding.specs.Proxy.{identityForm, identity, facetForm, text, facets, modeForm, endpoint, endpoints, versions, reference}
@@ -34,7 +33,7 @@ module _ {P : (A : Type 0) → Parser A → Type 0} {Stops : (List ℕ → Optio
   unfolding identity identityForm
   closed-identity =
       C .by-must _ (C .by-bind _ _ (closed-string C) (λ n. C .by-mapc _ (closed-string C) (λ c _. (length n, length c)))) identityForm
-      (λ l. pick-most (eqb (l .0) 0 && ltb 0 (l .1)) 10 0 (omega arith) (omega arith))
+      (λ l. pick-judges (eqb (l .0) 0 && ltb 0 (l .1)) 10 0 refl refl)
 
   pub closed-endpoint : P (Unit {0}) endpoint
   unfolding endpoint
@@ -43,8 +42,8 @@ module _ {P : (A : Type 0) → Parser A → Type 0} {Stops : (List ℕ → Optio
   pub closed-reference : P (Unit {0}) reference
   unfolding reference facets facetForm modeForm versions endpoints
   closed-reference =
-      C .by-bind _ _ (C .by-bind _ _ (C .by-must _ (closed-size C) facetForm (λ n. pick-most (ltb n 2) 0 10 (omega arith) (omega arith))) (λ n. by-times C n text closed-text)) λ _.
-      C .by-bind _ _ (C .by-must _ (closed-byte C) modeForm (λ n. pick-most (ltb n 5) 0 10 (omega arith) (omega arith))) λ _.
+      C .by-bind _ _ (C .by-bind _ _ (C .by-must _ (closed-size C) facetForm (λ n. pick-judges (ltb n 2) 0 10 refl refl)) (λ n. by-times C n text closed-text)) λ _.
+      C .by-bind _ _ (C .by-must _ (closed-byte C) modeForm (λ n. pick-judges (ltb n 5) 0 10 refl refl)) λ _.
       C .by-bind _ _ (closed-bool C) λ _.
       C .by-bind _ _ (by-times C 4 (skip 1) (by-skip C 1)) λ _.
       C .by-bind _ _ (closed-size C) (λ n. by-pick C (eqb n 0) _ _ closed-text (by-times C n endpoint closed-endpoint))
@@ -57,13 +56,13 @@ module _ {P : (A : Type 0) → Parser A → Type 0} {Stops : (List ℕ → Optio
     unfolding value values enumForm
 
     pub closed-value : (t : Ty) → P (Unit {0}) (value t)
-    closed-value broken = C .by-fail (Unit {0}) 1 (omega arith, omega arith)
+    closed-value broken = C .by-fail (Unit {0}) 4 refl
     closed-value bool = closed-bool C
     closed-value byte = by-skip C 1
     closed-value string = closed-text
     closed-value proxy = closed-proxy
     closed-value (num w) = by-skip C (width w)
-    closed-value (enum g) = C .by-mapc _ (C .by-must _ (closed-size C) (enumForm g) (λ n. pick-most (allows g n) 0 9 (omega arith) (omega arith))) (λ _ _. tt)
+    closed-value (enum g) = C .by-mapc _ (C .by-must _ (closed-size C) (enumForm g) (λ n. pick-judges (allows g n) 0 9 refl refl)) (λ _ _. tt)
     closed-value (struct ts) = closed-values ts
     closed-value (seq t) = C .by-bind _ _ (closed-size C) (λ n. by-times C n (value t) (closed-value t))
     closed-value (dict k v) = C .by-bind _ _ (closed-size C) (λ n. by-times C n _ (C .by-bind _ _ (closed-value k) (λ _. closed-value v)))
@@ -104,7 +103,7 @@ mutual
   unfolding value values fixed fixeds
 
   pub eats-value : (t : Ty) → fixed t ≡ false → Eats (value t)
-  eats-value broken f = eats-fail 1
+  eats-value broken f = eats-fail 4
   eats-value bool f = eats-bool
   eats-value byte f = absurd (true≢false f)
   eats-value string f = eats-text

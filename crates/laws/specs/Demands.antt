@@ -6,7 +6,10 @@
 --   ExactTable     a table breaks no rule exactly if it is valid, said by properties apart from the passes that look for a broken rule
 --   OneOwner       each member row of a valid table has exactly one owner, and no owner takes a row that is not there
 --   TablePlace     the place of a broken rule: 0, or the first byte of the first row that is not valid
+--   ReaderRefuses  demand 1: each refusal of the reader has its number and place of document 01's table; every other number is 0 and no lent byte changes
+--   NumbersTold    the numbers of the public calls are those of the reader's answer
 --   Exact          demand 2, first sentence: a message is accepted exactly when it is the encoding of pieces that conform, and those are read
+--   Reads          the reader's answer: accepted exactly if some pieces follow and their rows have room, and then the answer is theirs
 --   ExactRows      each listed row lies in the message, and its bytes are exactly one value of its member's type
 --   ListedRows     the rows are those of the pieces that are not skipped: each has its piece's member and bytes
 --   RowsApart      rows are in message order and share no byte
@@ -15,7 +18,8 @@
 --   Unambiguous    a message has one reading
 --   ExactCounts    the skip counts count what the rows leave out
 --   ExactValues    a value of a type is exactly a string of the grammar of values; ExactExtents: an extent is one of the grammar of extents
---   ReadBack       demand 2: what the writer makes is read as the members given
+--   Viewed         the member view: where it shows a part of the message, the fallback, nothing
+--   ReadBack       demand 2: what the writer makes is read as the members given; ReadBackReading of the reader's answer
 --   WriteAgain     demand 2: an accepted message with nothing skipped, written again in any format, is the encoding of its pieces in that format
 --   WriteSame      demand 2: in its own format, it is the same message
 --   OneMessage     demand 2: the members and their bytes, type and format fix the message
@@ -25,10 +29,12 @@
 --   RightMakes     a right list makes exactly one message
 --   TooLong        when it answers 22, and where
 --   RightWritten   when it writes a message, and which
+--   WriterRefuses  demand 1: each refusal of the writer has its number and place of document 01's table, and no byte of the output changes
+--   WritingNumbersTold   the numbers of the public calls are those of the writer's answer
 --   ListFilled     a lent list after the call: the rows first, the bytes after them as they were
 --   OutputFilled   a lent output after the call: the message first, the bytes after it as they were
 --   NewerRead      demand 3: an old table accepts what a new one that extends it accepts, and lists the rows of the members that it knows
---   NewerRefused   the one exception of demand 3
+--   NewerRefused   the one exception of demand 3; NewerRefusedReading of the reader's answer
 --   NewerReading   demand 3 of the reader's answer, given room
 --   OneCounterpart, NewerThere   a new member has at most one match in the old table; demand 3 speaks of some message
 use mathlib.Core.Path.{_≡_}
@@ -40,17 +46,18 @@ use Prim.Native.Nat.{ℕ, suc, _+_, _*_, _≤_, _<_}
 use lib.ListN.{length, take, drop, getD}
 use lib.Dec.{eqb}
 use Rattle.encoding.specs.Result.{ok, bad, concat}
-use Rattle.encoding.specs.Number.{Bytes}
+use Rattle.encoding.specs.Number.{Bytes, val}
 use Rattle.encoding.specs.Types.{Ty, Form, Bits}
 use Rattle.encoding.specs.Value.{exact}
 use Rattle.encoding.specs.Grammar.{IsValue, IsExtent}
-use Rattle.encoding.specs.Table.{types, fine, faults, memberTy, trees, named, any, chain, range, kind, fault, members, Member, lookup}
+use Rattle.encoding.specs.Table.{types, fine, faults, memberTy, trees, named, any, chain, range, kind, field, fault, members, Member, lookup}
 use Rattle.encoding.specs.Valid.{Owner, Valid, FirstBroken}
 use Rattle.encoding.specs.Table
 use Rattle.encoding.specs.Optional.{Piece, required, optional, skipped, extent}
 use Rattle.encoding.specs.Slice.{Format, compact, sliced, formatNumber, Slice, known, passed, idOf}
-use Rattle.encoding.specs.Message.{Pieces, list, exception, class, Read, encode, encapsulate, noTop, limit, rules, Row, rows, rowBytes, firstKnown, optionalsSkipped, slicesSkipped, answer, reading, room, readingOf, readingNumbers, listed}
-use Rattle.encoding.specs.Write.{Right, out, stop, partOf, rowAt, writing, noFormat, output}
+use Rattle.encoding.specs.Message.{Pieces, list, exception, class, Read, encode, encapsulate, noTop, limit, rules, Row, rows, rowBytes, firstKnown, optionalsSkipped, slicesSkipped, Answer, numbers, answer, reading, room, listed, readingOf, readingNumbers}
+use Rattle.encoding.specs.Write.{Right, out, stop, partOf, rowAt, writing, noFormat, output, writingOf, writingNumbers}
+use Rattle.encoding.specs.View.{part, fallback, nothing, viewing, seenBytes}
 use Rattle.encoding.specs.Conform.{Conform}
 use Rattle.encoding.specs.Extends.{Extends, TopsMatch, Counterpart}
 
@@ -70,11 +77,63 @@ OneOwner =
 abbrev pub TablePlace : Type 0
 TablePlace = (T : List ℕ) (p : ℕ) → ((class : ℕ) → faults T ≡ fault class p → FirstBroken T p) × (FirstBroken T p → (class : ℕ) × (faults T ≡ fault class p))
 
--- ---- demand 2: what is accepted
+-- ---- demand 1: one refusal, with its number and its place
 
 -- format and pieces, as they are read
 abbrev pub readAs : Format → Pieces → Read
 readAs f p = record { format = f; pieces = p }
+
+-- 1, 2 and 3 have nothing to refuse
+pub record Admissible (T : List ℕ) (top : ℕ) (m : List ℕ) : Type 0 where
+  pub table : faults T ≡ fine
+  pub top-there : noTop T top ≡ false
+  pub short : length m ≤ limit
+
+-- 5 has nothing to refuse either: the first four bytes are there and hold the message's length, which is at least 6
+pub record Sized (T : List ℕ) (top : ℕ) (m : List ℕ) : Type 0 where
+  pub admissible : Admissible T top m
+  pub least : 6 ≤ length m
+  pub size : val (take 4 m) ≡ length m
+
+-- a refusal by the rules, its number and its place: 1 to 6 in their order, then what the encapsulation holds
+pub data Refusal (T : List ℕ) (top : ℕ) (m : List ℕ) : ℕ → ℕ → Type 0 where
+  broken-table : {p : ℕ} → FirstBroken T p → Refusal T top m 1 p
+  no-top : faults T ≡ fine → noTop T top ≡ true → Refusal T top m 2 0
+  too-great : faults T ≡ fine → noTop T top ≡ false → limit < length m → Refusal T top m 3 0
+  no-size : Admissible T top m → length m < 4 → Refusal T top m 4 0
+  wrong-size : Admissible T top m → 4 ≤ length m → ((6 ≤ length m) × (val (take 4 m) ≡ length m) → ⊥) → Refusal T top m 5 0
+  wrong-version : Sized T top m → (take 2 (drop 4 m) ≡ 1 ∷ 1 ∷ [] → ⊥) → Refusal T top m 6 4
+  cut-off : {p : ℕ} → Sized T top m → 6 ≤ p → p ≤ length m → Refusal T top m 4 p
+  misread : {n p : ℕ} → Sized T top m → 7 ≤ n → n ≤ 18 → 6 ≤ p → p ≤ length m → Refusal T top m n p
+
+-- a refusal by the reader with a lent list of so many bytes: 19 comes last, at the rows needed
+pub data ReaderRefusal (T : List ℕ) (top : ℕ) (m : List ℕ) (bytes : ℕ) : ℕ → ℕ → Type 0 where
+  by-rules : {n p : ℕ} → Refusal T top m n p → ReaderRefusal T top m bytes n p
+  short-list : {f : Format} {p : Pieces} {n : ℕ} → rules T top m ≡ ok (readAs f p) n → bytes < 12 * length (rows T top f p) → ReaderRefusal T top m bytes 19 (length (rows T top f p))
+
+-- every number but the refusal's and its place is 0, and no byte of a lent list changes
+pub record NothingElse (a : Answer) : Type 0 where
+  pub type : a .type ≡ 0
+  pub format : a .format ≡ 0
+  pub none-listed : a .rows ≡ []
+  pub optionals : a .optionals ≡ 0
+  pub slices : a .slices ≡ 0
+  pub list-kept : (lent : List ℕ) → listed a lent ≡ lent
+
+abbrev pub ReaderRefuses : Type 0
+ReaderRefuses =
+    (T : List ℕ) (top : ℕ) (m : List ℕ) (bytes : ℕ) → (reading T top m bytes .refusal ≡ 0 → ⊥)
+    → ReaderRefusal T top m bytes (reading T top m bytes .refusal) (reading T top m bytes .place) × NothingElse (reading T top m bytes)
+
+-- ---- the numbers of the public calls
+
+-- the enum that the reader's call returns tells the seven numbers of the answer
+abbrev pub NumbersTold : Type 0
+NumbersTold =
+    (T : List ℕ) (top : ℕ) (m : List ℕ) (bytes : ℕ)
+    → readingNumbers (readingOf (reading T top m bytes)) ≡ numbers (reading T top m bytes)
+
+-- ---- demand 2: what is accepted
 
 -- the table breaks no rule, the top is one, the message is within the limit, and it is the encoding of pieces that conform to table and top
 pub record Follows (T : List ℕ) (top : ℕ) (m : List ℕ) (f : Format) (p : Pieces) : Type 0 where
@@ -91,6 +150,28 @@ Exact =
     (T : List ℕ) (top : ℕ) (m : List ℕ) (f : Format) (p : Pieces) (n : ℕ) → Bytes m
     → (rules T top m ≡ ok (readAs f p) n → Follows T top m f p × (n ≡ length m))
     × (Follows T top m f p → rules T top m ≡ ok (readAs f p) (length m))
+
+-- the answer to pieces in a format
+pub record AnswerOf (T : List ℕ) (top : ℕ) (f : Format) (p : Pieces) (a : Answer) : Type 0 where
+  pub refusal : a .refusal ≡ 0
+  pub place : a .place ≡ 0
+  pub type : a .type ≡ firstKnown T top p
+  pub format : a .format ≡ formatNumber f
+  pub all-listed : a .rows ≡ rows T top f p
+  pub optionals : a .optionals ≡ optionalsSkipped p
+  pub slices : a .slices ≡ slicesSkipped p
+
+-- a message that follows the rules, and a lent list of so many bytes that holds its rows
+pub record Readable (T : List ℕ) (top : ℕ) (m : List ℕ) (bytes : ℕ) (f : Format) (p : Pieces) : Type 0 where
+  pub follows : Follows T top m f p
+  pub fits : 12 * length (rows T top f p) ≤ bytes
+
+-- the same of the reader's answer: refusal 0 exactly if some pieces follow and their rows have room, and then the answer is theirs
+abbrev pub Reads : Type 0
+Reads =
+    (T : List ℕ) (top : ℕ) (m : List ℕ) (bytes : ℕ) → Bytes m
+    → (reading T top m bytes .refusal ≡ 0 → (f : Format) × (p : Pieces) × Readable T top m bytes f p)
+    × ((f : Format) (p : Pieces) → Readable T top m bytes f p → AnswerOf T top f p (reading T top m bytes))
 
 -- each element of a list has a property
 pub data All {A : Type 0} (P : A → Type 0) : List A → Type 0 where
@@ -210,6 +291,56 @@ ExactValues = (t : Ty) (b : List ℕ) → (exact t b ≡ true → IsValue t b) �
 abbrev pub ExactExtents : Type 0
 ExactExtents = (k : Bits) (b : List ℕ) → ((d : List ℕ) × (extent k b ≡ ok d (length b)) → IsExtent k b) × (IsExtent k b → (d : List ℕ) × (extent k b ≡ ok d (length b)))
 
+-- ---- the member view
+
+-- an element of a list
+pub data In {A : Type 0} (a : A) : List A → Type 0 where
+  here : {l : List A} → In a (a ∷ l)
+  there : {b : A} {l : List A} → In a l → In a (b ∷ l)
+
+-- the rules accept the message and list this row, whatever room a list has
+pub record Lists (T : List ℕ) (top : ℕ) (m : List ℕ) (r : Row) : Type 0 where
+  pub read : Read
+  pub taken : ℕ
+  pub accepted : rules T top m ≡ ok read taken
+  pub row : In r (rows T top (read .format) (read .pieces))
+
+-- member row k is one that row t or a base of it takes: the field a is the first of them, b their count
+pub record OfChain (T : List ℕ) (t k : ℕ) : Type 0 where
+  pub owner : ℕ
+  pub above : In owner (chain T t)
+  pub from : field T owner 0 ≤ k
+  pub to : k < field T owner 0 + field T owner 1
+
+-- the rules accept the message, and it lacks member k of the first known type's chain
+pub record Lacks (T : List ℕ) (top : ℕ) (m : List ℕ) (k : ℕ) : Type 0 where
+  pub read : Read
+  pub taken : ℕ
+  pub accepted : rules T top m ≡ ok read taken
+  pub of-chain : OfChain T (firstKnown T top (read .pieces)) k
+  pub absent : (p l : ℕ) → In (record { member = k; place = p; len = l }) (rows T top (read .format) (read .pieces)) → ⊥
+
+-- the rules refuse the message, or k is no member of the first known type's chain
+pub data Hidden (T : List ℕ) (top : ℕ) (m : List ℕ) (k : ℕ) : Type 0 where
+  refused-message : {n p : ℕ} → rules T top m ≡ bad n p → Hidden T top m k
+  other-member : {r : Read} {n : ℕ} → rules T top m ≡ ok r n → (OfChain T (firstKnown T top (r .pieces)) k → ⊥) → Hidden T top m k
+
+-- what the view shows of member k, and the bytes that it hands back, of the message or of a fallback
+-- Rules out a fallback for a refused message, and one for a member that the message has.
+pub record ViewedAs (T : List ℕ) (top : ℕ) (m : List ℕ) (k : ℕ) : Type 0 where
+  pub part-shown : (p l : ℕ) → viewing T top m k ≡ part p l → Lists T top m (record { member = k; place = p; len = l })
+  pub part-listed : (p l : ℕ) → Lists T top m (record { member = k; place = p; len = l }) → viewing T top m k ≡ part p l
+  pub fallback-shown : viewing T top m k ≡ fallback → Lacks T top m k
+  pub fallback-due : Lacks T top m k → viewing T top m k ≡ fallback
+  pub nothing-shown : viewing T top m k ≡ nothing → Hidden T top m k
+  pub nothing-due : Hidden T top m k → viewing T top m k ≡ nothing
+  pub part-bytes : (p l : ℕ) (other : List ℕ) → viewing T top m k ≡ part p l → (p + l ≤ length m) × (seenBytes m other (viewing T top m k) ≡ take l (drop p m))
+  pub fallback-bytes : (other : List ℕ) → viewing T top m k ≡ fallback → seenBytes m other (viewing T top m k) ≡ other
+  pub nothing-bytes : (other : List ℕ) → viewing T top m k ≡ nothing → seenBytes m other (viewing T top m k) ≡ []
+
+abbrev pub Viewed : Type 0
+Viewed = (T : List ℕ) (top : ℕ) (m : List ℕ) (k : ℕ) → Bytes m → ViewedAs T top m k
+
 -- ---- demand 2: what is written
 
 -- a message and its rows, and another with its own: the same members in the same order, with the same bytes
@@ -246,6 +377,21 @@ abbrev pub ReadBack : Type 0
 ReadBack =
     (T : List ℕ) (top type format count : ℕ) (rs buffer : List ℕ) (room : ℕ) (m : List ℕ)
     → writing T type format count rs buffer room ≡ out m → Below T top type → ReadBackAs T top type format (rowList count rs) buffer m
+
+-- the same of the reader's answer, where the lent list of so many bytes holds a row for each member given
+pub record ReadBackAnswer (type format : ℕ) (rs : List Row) (buffer m : List ℕ) (a : Answer) : Type 0 where
+  pub accepted : a .refusal ≡ 0
+  pub of-type : a .type ≡ type
+  pub in-format : a .format ≡ format
+  pub no-optional-skipped : a .optionals ≡ 0
+  pub no-slice-skipped : a .slices ≡ 0
+  pub members : SameMembers buffer m rs (a .rows)
+
+abbrev pub ReadBackReading : Type 0
+ReadBackReading =
+    (T : List ℕ) (top type format count : ℕ) (rs buffer : List ℕ) (room : ℕ) (m : List ℕ)
+    → writing T type format count rs buffer room ≡ out m → Below T top type → (bytes : ℕ) → 12 * count ≤ bytes
+    → ReadBackAnswer type format (rowList count rs) buffer m (reading T top m bytes)
 
 -- An accepted message with nothing skipped, written again from itself with its own rows in a format that its type may have, is the encoding of its
 -- pieces in that format, where limit and room allow.
@@ -380,6 +526,36 @@ RightWritten =
     → (writing T type format count rs buffer room ≡ out m → WrittenAs T type format count rs buffer room m)
     × (WrittenAs T type format count rs buffer room m → writing T type format count rs buffer room ≡ out m)
 
+-- format not 0 or 1, or 0 for a parameter list
+pub data WrongFormat (T : List ℕ) (type format : ℕ) : Type 0 where
+  unknown-format : 1 < format → WrongFormat T type format
+  compact-list : format ≡ 0 → kind T type ≡ 15 → WrongFormat T type format
+
+-- demand 1 of the writer, its numbers and places: 20 and 21 at a row, 20 also at the count, 22 at the bytes needed
+pub data WriterRefusal (T : List ℕ) (type format count : ℕ) (rs buffer : List ℕ) (room : ℕ) : ℕ → ℕ → Type 0 where
+  wrong-table : {p : ℕ} → FirstBroken T p → WriterRefusal T type format count rs buffer room 1 p
+  no-type : WriterRefusal T type format count rs buffer room 2 0
+  great-buffer : limit < length buffer → WriterRefusal T type format count rs buffer room 3 0
+  wrong-row : {i : ℕ} → i ≤ count → WriterRefusal T type format count rs buffer room 20 i
+  wrong-bytes : {i : ℕ} → i < count → WriterRefusal T type format count rs buffer room 21 i
+  no-room : {i : ℕ} → TwentyTwo T type format count rs buffer room i → WriterRefusal T type format count rs buffer room 22 i
+  wrong-format : WrongFormat T type format → WriterRefusal T type format count rs buffer room 23 0
+
+-- and no byte of the output changes
+abbrev pub WriterRefuses : Type 0
+WriterRefuses =
+    (T : List ℕ) (type format count : ℕ) (rs buffer : List ℕ) (room n p : ℕ) → writing T type format count rs buffer room ≡ stop n p
+    → WriterRefusal T type format count rs buffer room n p × ((lent : List ℕ) → output (writing T type format count rs buffer room) lent ≡ lent)
+
+-- the writer's three numbers: 0, 0 and the message's length, or the refusal's number, which is not 0, its place and 0
+abbrev pub WritingNumbersTold : Type 0
+WritingNumbersTold =
+    (T : List ℕ) (type format count : ℕ) (rs buffer : List ℕ) (room : ℕ)
+    → ((m : List ℕ) → writing T type format count rs buffer room ≡ out m
+    → writingNumbers (writingOf (writing T type format count rs buffer room)) ≡ 0 ∷ 0 ∷ length m ∷ [])
+    × ((n p : ℕ) → writing T type format count rs buffer room ≡ stop n p
+    → (1 ≤ n) × (writingNumbers (writingOf (writing T type format count rs buffer room)) ≡ n ∷ p ∷ 0 ∷ []))
+
 -- ---- the lent bytes
 
 -- a lent list after the call: it begins with the rows, the bytes after them are as they were, and it is as long as before
@@ -452,6 +628,12 @@ NewerReading =
     → ((place : ℕ) → Foreign old f p place → ⊥) → (lent lent′ : ℕ)
     → length (answer old top (rules old top m) .rows) ≤ room lent → length (answer new top′ (rules new top′ m) .rows) ≤ room lent′
     → (reading old top m lent .refusal ≡ 0) × Kept old new top top′ (reading new top′ m lent′ .rows) (reading old top m lent .rows)
+
+-- the exception, of the reader's answer with a list of any length
+abbrev pub NewerRefusedReading : Type 0
+NewerRefusedReading =
+    (old new : List ℕ) (top top′ : ℕ) (m : List ℕ) (f : Format) (p : Pieces) → Newer old new top top′ m f p
+    → (place : ℕ) → Foreign old f p place → (lent : ℕ) → (reading old top m lent .refusal ≡ 15) × (reading old top m lent .place ≡ place)
 
 -- a member of the new table matches at most one member of the old one, so the rows that are kept are fixed
 abbrev pub OneCounterpart : Type 0

@@ -8,6 +8,7 @@ pub mod SliceExact
 pub mod MessageExact
 pub mod TableExact
 pub mod TablePlace
+pub mod Refusals
 pub mod Small
 pub mod RowsBack
 pub mod Lose
@@ -31,5 +32,8 @@ pub mod RowsApart
 pub mod RowsRight
 pub mod RightLists
 pub mod WriterAnswers
+pub mod WriterRefusals
 pub mod LentFilled
+pub mod Reads
+pub mod Viewed
 pub mod Promises

@@ -1,17 +1,21 @@
 -- Every promise of `Demands`, with its proof.
 use Rattle.encoding.specs.ExactLaws.{exact-is, is-exact, extent-is, is-extent}
-use Rattle.laws.specs.Demands.{ExactTable, OneOwner, TablePlace, Exact, ExactRows, ListedRows, RowsApart, RowsRight, RowsOnce, Unambiguous, ExactCounts, ExactValues, ExactExtents, ReadBack, WriteAgain, WriteSame, OneMessage, EarlyRefused, RightLists, WrongBytes, RightMakes, TooLong, RightWritten, ListFilled, OutputFilled, NewerRead, NewerRefused, NewerReading, OneCounterpart, NewerThere}
+use Rattle.laws.specs.Demands.{ExactTable, OneOwner, TablePlace, ReaderRefuses, NumbersTold, Exact, Reads, ExactRows, ListedRows, RowsApart, RowsRight, RowsOnce, Unambiguous, ExactCounts, ExactValues, ExactExtents, Viewed, ReadBack, ReadBackReading, WriteAgain, WriteSame, OneMessage, EarlyRefused, RightLists, WrongBytes, RightMakes, TooLong, RightWritten, WriterRefuses, WritingNumbersTold, ListFilled, OutputFilled, NewerRead, NewerRefused, NewerReading, NewerRefusedReading, OneCounterpart, NewerThere}
 use Rattle.laws.specs.TableExact.{exact-table, one-owner}
 use Rattle.laws.specs.TablePlace.{table-place}
+use Rattle.laws.specs.Refusals.{reader-refuses, numbers-told}
 use Rattle.laws.specs.MessageExact.{exact-message, exact-rows}
 use Rattle.laws.specs.RowsListed.{listed-rows}
 use Rattle.laws.specs.RowsApart.{listed-apart}
 use Rattle.laws.specs.RowsRight.{rows-right, rows-once, unambiguous}
 use Rattle.laws.specs.CountsExact.{exact-counts-from}
+use Rattle.laws.specs.Viewed.{viewed}
 use Rattle.laws.specs.WriteBack.{read-back}
 use Rattle.laws.specs.WriteAgain.{write-again, write-same, one-message}
 use Rattle.laws.specs.WriterAnswers.{early-refused, right-lists, wrong-bytes, right-makes, too-long-written, right-written}
+use Rattle.laws.specs.WriterRefusals.{writer-refuses, writing-numbers-told}
 use Rattle.laws.specs.LentFilled.{list-filled, output-filled}
+use Rattle.laws.specs.Reads.{reads, read-back-reading, newer-refused-reading}
 use Rattle.laws.specs.MessageNewer.{newer-read, newer-refused, newer-reading}
 use Rattle.laws.specs.CounterpartsOne.{one-counterpart}
 use Rattle.laws.specs.Witness.{newer-there}
@@ -20,7 +24,10 @@ pub record Promises : Type 0 where
   pub table : ExactTable
   pub owner : OneOwner
   pub table-at : TablePlace
+  pub refuses : ReaderRefuses
+  pub numbers : NumbersTold
   pub exact : Exact
+  pub reads : Reads
   pub rows : ExactRows
   pub listed : ListedRows
   pub apart : RowsApart
@@ -30,7 +37,9 @@ pub record Promises : Type 0 where
   pub counts : ExactCounts
   pub values : ExactValues
   pub extents : ExactExtents
+  pub view : Viewed
   pub reads-back : ReadBack
+  pub reads-back-answer : ReadBackReading
   pub writes-again : WriteAgain
   pub writes-same : WriteSame
   pub one : OneMessage
@@ -40,11 +49,14 @@ pub record Promises : Type 0 where
   pub makes : RightMakes
   pub long : TooLong
   pub written : RightWritten
+  pub writer-refuses : WriterRefuses
+  pub writing-numbers : WritingNumbersTold
   pub list : ListFilled
   pub output : OutputFilled
   pub newer : NewerRead
   pub newer-exception : NewerRefused
   pub newer-answer : NewerReading
+  pub newer-exception-answer : NewerRefusedReading
   pub counterparts : OneCounterpart
   pub newer-some : NewerThere
 
@@ -53,7 +65,10 @@ promises = record {
   table = exact-table;
   owner = one-owner;
   table-at = table-place;
+  refuses = reader-refuses;
+  numbers = numbers-told;
   exact = exact-message;
+  reads = reads;
   rows = exact-rows;
   listed = listed-rows;
   apart = listed-apart;
@@ -63,7 +78,9 @@ promises = record {
   counts = exact-counts-from exact-message;
   values = λ t b. (exact-is t b, is-exact t b);
   extents = λ k b. (λ w. extent-is k b (w .0) (w .1), is-extent k b);
+  view = viewed;
   reads-back = read-back;
+  reads-back-answer = read-back-reading;
   writes-again = write-again;
   writes-same = write-same;
   one = one-message;
@@ -73,11 +90,14 @@ promises = record {
   makes = right-makes;
   long = too-long-written;
   written = right-written;
+  writer-refuses = writer-refuses;
+  writing-numbers = writing-numbers-told;
   list = list-filled;
   output = output-filled;
   newer = newer-read;
   newer-exception = newer-refused;
   newer-answer = newer-reading;
+  newer-exception-answer = newer-refused-reading;
   counterparts = one-counterpart;
   newer-some = newer-there;
 }

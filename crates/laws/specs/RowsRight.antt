@@ -1,5 +1,6 @@
 -- The rows of an accepted message are a right list of its first known type, so no member has two.
 --
+--   chosen-among   each row has the member of one of the slots chosen from
 --   chosen-once    rows that choose from slots that differ have different members
 --   rows-right, rows-once, unambiguous
 use mathlib.Core.Path.{_≡_, sym, _∙_}
@@ -19,7 +20,7 @@ use Rattle.laws.specs.PlanRules.{plan-differ}
 use Rattle.laws.specs.WriteAgain.{follows-again}
 
 -- each row has the member of one of the slots
-chosen-among : {P : Slot → Type 0} {ss : List Slot} {rs : List Row} → All P ss → Chosen ss rs → All (λ (r : Row). (s : Slot) × P s × (r .member ≡ s .member .row)) rs
+pub chosen-among : {P : Slot → Type 0} {ss : List Slot} {rs : List Row} → All P ss → Chosen ss rs → All (λ (r : Row). (s : Slot) × P s × (r .member ≡ s .member .row)) rs
 chosen-among end Write.end = end
 chosen-among (more {a = s} p L) (chosen {r = r} e C) = more {a = r} (s, p, e) (chosen-among L C)
 chosen-among (more p L) (left d C) = chosen-among L C

@@ -51,7 +51,7 @@ past : {k i : ℕ} → i ≤ k → (k ≡ i → ⊥) → suc i ≤ k
 past h n = omega (arith, n)
 
 module _ (T : List ℕ) (t e : ℕ) (s : List ℕ) where
-  pub row-not : t ≤ e → Fault 1 0 ≡ stepOf (value (partTy T t e) s)
+  pub row-not : t ≤ e → Fault 4 0 ≡ stepOf (value (partTy T t e) s)
   unfolding partTy value fail stepOf
   row-not h = rw (below-none T t e h)
 
@@ -115,7 +115,7 @@ module _ (T : List ℕ) (t e : ℕ) (s : List ℕ) where
 
     -- a kind past the last that a value may have
     pub as-other : (k ≡ 0 → ⊥) → (k ≡ 1 → ⊥) → (k ≡ 2 → ⊥) → (k ≡ 3 → ⊥) → (k ≡ 4 → ⊥) → (k ≡ 5 → ⊥) → (k ≡ 6 → ⊥) → (k ≡ 7 → ⊥) → (k ≡ 8 → ⊥)
-        → (k ≡ 9 → ⊥) → (k ≡ 10 → ⊥) → (k ≡ 11 → ⊥) → (k ≡ 12 → ⊥) → r ≡ Fault 1 0 → r ≡ stepOf (value (partTy T t e) s)
+        → (k ≡ 9 → ⊥) → (k ≡ 10 → ⊥) → (k ≡ 11 → ⊥) → (k ≡ 12 → ⊥) → r ≡ Fault 4 0 → r ≡ stepOf (value (partTy T t e) s)
     unfolding value fail stepOf
     as-other n₀ n₁ n₂ n₃ n₄ n₅ n₆ n₇ n₈ n₉ n₁₀ n₁₁ n₁₂ g =
         by-row broken (row-broken T (tys T e) e (rw q at (past (past (past (past (past (past (past (past (past (past (past (past (past zero-le n₀) n₁) n₂) n₃) n₄) n₅) n₆) n₇) n₈) n₉) n₁₀) n₁₁) n₁₂))) g
@@ -235,12 +235,12 @@ module _ (T : List ℕ) (t : ℕ) (s : List ℕ) where
       unfolding values
       more = rw (members-more T (tys T t) m left h) at inv
 
-      pub member-gone : (n : ℕ) → n ≡ members T → n ≤ m → Fault 1 at ≡ all
+      pub member-gone : (n : ℕ) → n ≡ members T → n ≤ m → Fault 4 at ≡ all
       unfolding value fail stepOf
       member-gone n f l =
-          ap (Fault 1) (sym (add-zero at))
-          ∙ left-fault s all (value (memberTy T (tys T t) m)) (values (memberTys T (tys T t) (range (m + 1) (left - 1)))) at more (Fault 1 0)
-          (rw (member-past T m (tys T t) (omega arith))) 1 0 refl
+          ap (Fault 4) (sym (add-zero at))
+          ∙ left-fault s all (value (memberTy T (tys T t) m)) (values (memberTys T (tys T t) (range (m + 1) (left - 1)))) at more (Fault 4 0)
+          (rw (member-past T m (tys T t) (omega arith))) 4 0 refl
 
       module _ (r : Step) (d : r ≡ stepOf (value (memberTy T (tys T t) m) (take (length s - at) (drop at s)))) where
         pub member-next : (i : ℕ) → r ≡ Took i → Left s all (values (memberTys T (tys T t) (range (m + 1) (left - 1)))) (at + i)

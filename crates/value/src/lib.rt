@@ -22,7 +22,7 @@ fn value(table: &[u8], shapes: &[u8; 256], t: usize, e: usize, s: &[u8]) -> Step
     ensures { λ r. ⌜ r ≡ stepOf (value (partTy (now (table .entry)) t e) (now (s .entry))) ⌝ }
 {
     if t <= e {
-        return Step::Fault(1, 0);
+        return Step::Fault(4, 0);
     }
     let kind = table::kind(table, e);
     match kind {
@@ -42,7 +42,7 @@ fn value(table: &[u8], shapes: &[u8; 256], t: usize, e: usize, s: &[u8]) -> Step
         10 => sequence(table, shapes, e, s),
         11 => dictionary(table, shapes, e, s),
         12 => proxy::proxy(s),
-        _ => Step::Fault(1, 0),
+        _ => Step::Fault(4, 0),
     }
 }
 
@@ -78,7 +78,7 @@ fn struct_value(table: &[u8], shapes: &[u8; 256], t: usize, s: &[u8]) -> Step
     let mut at: usize = 0;
     while left > 0 {
         if all <= m {
-            return Step::Fault(1, at);
+            return Step::Fault(4, at);
         }
         let row = table::member_row(table, m);
         let step = part(table, shapes, t, row.of, &s[at..]);
