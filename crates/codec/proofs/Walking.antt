@@ -13,7 +13,7 @@ use lib.Dec.{ltb}
 use borrow.Author.Tests.{le-leb, lt-leb, lt-ltb, le-ltb}
 use Rattle.encoding.specs.Result.{ok, bad, firstOf}
 use Rattle.encoding.specs.ResultLaws.{ok≢bad}
-use Rattle.encoding.specs.NumberLaws.{Bytes}
+use Rattle.encoding.specs.Number.{Bytes}
 use Rattle.encoding.specs.Table.{types, kind, Fault, fine, fault, faults, ruleNumber}
 use Rattle.encoding.specs.Message.{Read, body, noTop, limit, afterRules, unless, rules, rows}
 use Rattle.encoding.specs.MessageLaws.{rules-body}

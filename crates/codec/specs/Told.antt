@@ -12,7 +12,7 @@ use Prim.Native.Nat.{ℕ, _+_, _≤_, _%_, _^_}
 use lib.ListN.{length}
 use lib.Dec.{leb}
 use Rattle.encoding.specs.Result.{ok, pick}
-use Rattle.encoding.specs.NumberLaws.{Bytes}
+use Rattle.encoding.specs.Number.{Bytes}
 use Rattle.encoding.specs.Message.{Read, rules, rows}
 use Rattle.encoding.specs.View.{Seen, part, fallback, nothing}
 use Rattle.encoding.specs.declared.Reading.{Reading}

@@ -1,7 +1,7 @@
 // What the reader's calls are made of: the walk over a message by the rules, and the answer made of it.
 ghost use mathlib.Core.Path.{_≡_};
 ghost use lib.ListN.{length};
-ghost use Rattle.encoding.specs.NumberLaws.{Bytes};
+ghost use Rattle.encoding.specs.Number.{Bytes};
 ghost use Rattle.codec.specs.Told.{Walked, low, toldOf, rowCount};
 use encoding::Reading;
 use reader::Walk;

@@ -14,7 +14,7 @@ use lib.Dec.{eqb, leb, ltb}
 use borrow.Author.Tests.{eqb-true, leb-true, ltb-true, le-leb, lt-ltb, eq-eqb, ne-eqb}
 use Rattle.encoding.specs.Result.{Res, ok, bad, pick}
 use Rattle.encoding.specs.ResultLaws.{both-true}
-use Rattle.encoding.specs.NumberLaws.{Bytes}
+use Rattle.encoding.specs.Number.{Bytes}
 use Rattle.encoding.specs.Table.{field, takes, any, chain}
 use Rattle.encoding.specs.Message.{Read, rules, Row, rows, firstKnown}
 use Rattle.encoding.specs.Write.{Slot, plan}
