@@ -16,14 +16,14 @@ use native.Mathlib.Omega.{arith}
 use lib.Dec.{ltb}
 use borrow.Author.Tests.{ltb-true, ltb-false, lt-ltb, le-ltb}
 use Rattle.encoding.specs.Result.{pick}
-use Rattle.encoding.specs.Types.{bits, Ty, Form, bare, own, counted, sized, bitsOf, formOf}
-use Rattle.encoding.specs.TypesLaws.{bits-below}
+use Rattle.encoding.specs.Types.{bits, Ty, bitsOf, formOf}
 use Rattle.encoding.specs.Table.{members, memberType, memberTy, trees, tyOf, Member, lookup}
 use Rattle.wire.specs.Put.{formBits}
 use Rattle.table.specs.declared.FoundMember.the-variants.{At, Nothing}
 use Rattle.table.specs.Found.{memberFound}
-use Rattle.shapes.specs.Shapes.{formNumber, shapesOf, formIn}
+use Rattle.shapes.specs.Shapes.{shapesOf, formIn}
 use Rattle.shapes.specs.ShapesLaws.{form-row}
+use Rattle.shapes.specs.FormLaws.{form-bits}
 use Rattle.table.specs.Tags.{optionalFrom}
 use Rattle.table.specs.TagsLaws.{found-own}
 use Rattle.table.proofs.Places.{member-row, no-member}
@@ -85,14 +85,6 @@ unmet T end from k h = go (lookup k (optionalFrom T end from)) refl h
 
 pub row-form : (T shapes : List ℕ) (ty g : ℕ) → shapes ≡ shapesOf T → g ≡ formIn shapes ty → formNamed g ≡ formOf (tyOf T ty)
 row-form T shapes ty g ef eg = ap formNamed (eg ∙ form-row T ty shapes ef) ∙ named-form (tyOf T ty)
-
--- the type bits of a form, by its number
-form-bits : (f : Form) → formBits (formNumber f) ≡ bits (bitsOf f)
-unfolding formBits formNumber
-form-bits (bare k) = rw (lt-ltb (bits k) 8 (bits-below k))
-form-bits own = refl
-form-bits counted = refl
-form-bits sized = refl
 
 pub met-bits : (T shapes : List ℕ) (end from k row of ty g : ℕ) (M : Met T end from k row of) → shapes ≡ shapesOf T → ty ≡ typeRow T row → g ≡ formIn shapes ty
     → formBits g ≡ bits (bitsOf (formOf (M .member .ty)))

@@ -33,7 +33,8 @@ use Rattle.pieces.specs.Cursors.{requiredIn, stateOf, mayMember, dueReac
 use Rattle.pieces.specs.Judged.{partForm, judgedRow}
 use Rattle.pieces.specs.Puts.{Puts}
 use Rattle.pieces.specs.PutsLaws.{puts-one, puts-none, puts-is, puts-number, puts-byte, puts-size, puts-then}
-use Rattle.pieces.specs.Pieces.{headerField, formBits, lengthField, optionalField, hereOf, takenOf, pieceAt, RowLaid}
+use Rattle.wire.specs.Put.{formBits}
+use Rattle.pieces.specs.Pieces.{headerField, lengthField, optionalField, hereOf, takenOf, pieceAt, RowLaid}
 use Rattle.pieces.specs.PiecesLaws.{required-bytes, optional-bytes, header-short, header-long, length-none, length-size, length-int}
 use Rattle.pieces.proofs.Judges.{row-none, row-refused, row-right}
 

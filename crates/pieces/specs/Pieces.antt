@@ -1,8 +1,6 @@
 -- One member as it is put, in numbers.
 --
---   rowOf          a row's numbers as a row
 --   headerField    an optional's header of a tag and type bits
---   formBits       the type bits in the header of a form's number
 --   lengthField    the length field in front of so many bytes, by a form's number
 --   optionalField  an optional of a tag, a form's number and bytes
 --   Taken          the piece of a row, and where the rows stand behind it
@@ -22,22 +20,16 @@ use Rattle.encoding.specs.Number.{leBytes, sizeBytes}
 use Rattle.encoding.specs.Optional.{Piece, pieceBytes, isOptional}
 use Rattle.encoding.specs.Message.{Row}
 use Rattle.encoding.specs.Write.{out, stop, State, Reached, reach, given, partOf, rowAt}
+use Rattle.wire.specs.Put.{formBits}
 use Rattle.pieces.specs.declared.Cursor.{Cursor}
 use Rattle.pieces.specs.declared.Placed.{Placed}
 use Rattle.pieces.specs.declared.Placed.the-variants.{Row as PutRow, Stop, Wrong}
-use Rattle.pieces.specs.declared.RowNumbers.{RowNumbers}
 use Rattle.pieces.specs.Cursors.{stateOf, Gone}
 use Rattle.pieces.specs.Judged.{judgedRow, Gives}
 use Rattle.pieces.specs.Puts.{Puts}
 
-abbrev pub rowOf : RowNumbers → Row
-rowOf r = record { member = r .member; place = r .place; len = r .len }
-
 unfoldable pub headerField : ℕ → ℕ → List ℕ
 headerField t k = pick (ltb t 30) ((t * 8 + k) ∷ []) ((240 + k) ∷ sizeBytes t)
-
-unfoldable pub formBits : ℕ → ℕ
-formBits n = pick (ltb n 8) n (pick (ltb n 10) 5 6)
 
 unfoldable pub lengthField : ℕ → ℕ → List ℕ
 lengthField form n = pick (ltb form 9) [] (pick (eqb form 9) (sizeBytes n) (leBytes 4 n))

@@ -3,7 +3,6 @@
 --   required-bytes, optional-bytes    a piece's bytes
 --   header-short, header-long         a header, by its tag
 --   length-none, length-size, length-int   a length field, by its form
---   form-plain, form-sized, form-other     the type bits of a form
 use mathlib.Core.Path.{_≡_, refl}
 use mathlib.Core.List.{List, [], _∷_, _++_}
 use Prim.Native.Nat.{ℕ, _+_, _*_, _≤_, _<_}
@@ -11,18 +10,12 @@ use native.Mathlib.Omega.{arith}
 use lib.ListN.{length}
 use borrow.Author.Tests.{lt-ltb, le-ltb, ne-eqb}
 use Rattle.encoding.specs.Number.{leBytes, sizeBytes}
-use Rattle.encoding.specs.Types.{bits, Form, bare, own, counted, sized, bitsOf}
+use Rattle.encoding.specs.Types.{bits, Form, bare, own, counted, sized}
 use Rattle.encoding.specs.TypesLaws.{bits-below}
 use Rattle.encoding.specs.Optional.{required, optional, headerBytes, lengthBytes, frontBytes, contentBytes, pieceBytes}
 use Rattle.shapes.specs.Shapes.{formNumber}
-use Rattle.pieces.specs.Pieces.{headerField, formBits, lengthField, optionalField}
-
-form-bits : (f : Form) → bits (bitsOf f) ≡ formBits (formNumber f)
-unfolding formBits formNumber
-form-bits (bare k) = rw (lt-ltb (bits k) 8 (bits-below k))
-form-bits own = refl
-form-bits counted = refl
-form-bits sized = refl
+use Rattle.shapes.specs.FormLaws.{form-bits}
+use Rattle.pieces.specs.Pieces.{headerField, lengthField, optionalField}
 
 length-field : (f : Form) (b : List ℕ) → lengthBytes f b ≡ lengthField (formNumber f) (length b)
 unfolding lengthBytes lengthField formNumber
@@ -37,7 +30,7 @@ required-bytes i b = refl
 
 pub optional-bytes : (t : ℕ) (f : Form) (b : List ℕ) → pieceBytes (optional t f b) ≡ optionalField t (formNumber f) b
 unfolding pieceBytes frontBytes contentBytes headerBytes headerField optionalField
-optional-bytes t f b = rw (form-bits f, length-field f b)
+optional-bytes t f b = rw (← form-bits f, length-field f b)
 
 module _ (t k : ℕ) where
   pub header-short : t < 30 → headerField t k ≡ (t * 8 + k) ∷ []
@@ -60,16 +53,3 @@ module _ (form n : ℕ) where
   pub length-int : 9 < form → lengthField form n ≡ leBytes 4 n
   unfolding lengthField
   length-int h = rw (le-ltb form 9 (omega arith), ne-eqb form 9 (λ q. omega arith))
-
-module _ (n : ℕ) where
-  pub form-plain : n < 8 → n ≡ formBits n
-  unfolding formBits
-  form-plain h = rw (lt-ltb n 8 h)
-
-  pub form-sized : 8 ≤ n → n < 10 → 5 ≡ formBits n
-  unfolding formBits
-  form-sized h l = rw (le-ltb n 8 h, lt-ltb n 10 l)
-
-  pub form-other : 10 ≤ n → 6 ≡ formBits n
-  unfolding formBits
-  form-other h = rw (le-ltb n 8 (omega arith), le-ltb n 10 h)

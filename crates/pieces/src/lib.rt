@@ -1,5 +1,5 @@
-// One row of the writer: reads its numbers, finds its member, checks its bytes and puts its piece. Each function equals its definition on any table, rows, buffer and output.
-// rows.rt reads the row bytes, state.rt decides which member of an owner a row gives, piece.rt checks a row and puts its member.
+// One row of the writer: finds its member, checks its bytes and puts its piece. Each function equals its definition on any table, rows, buffer and output.
+// rows.rt measures the part of the buffer that a row gives, state.rt decides which member of an owner a row gives, piece.rt checks a row and puts its member.
 pub mod piece;
 pub mod rows;
 pub mod state;
@@ -9,13 +9,6 @@ pub struct Cursor {
     pub owner: usize,
     pub passed: usize,
     pub least: usize,
-}
-
-// A row's three numbers: its member row, and the place and length of its part of the buffer.
-pub struct RowNumbers {
-    pub member: usize,
-    pub place: usize,
-    pub len: usize,
 }
 
 // What a member row is to an owner: a required member that is due or an optional one, with the state after it;

@@ -2,9 +2,9 @@
 use crate::Cursor;
 use crate::Placed;
 use crate::Reach;
-use crate::RowNumbers;
 use crate::rows;
 use crate::state;
+use wire::rows::RowNumbers;
 ghost use mathlib.Core.Path.{_≡_};
 ghost use Prim.Native.Nat.{_+_, _≤_, _<_};
 ghost use lib.ListN.{length};
@@ -12,14 +12,15 @@ ghost use Rattle.encoding.specs.Result.{pick};
 ghost use Rattle.encoding.specs.Table.{tyOf};
 ghost use Rattle.encoding.specs.Write.{partOf};
 ghost use Rattle.shapes.specs.Shapes.{shapesOf};
+ghost use Rattle.wire.specs.Row.{asRow};
 ghost use Rattle.pieces.specs.Puts.{Puts};
 ghost use Rattle.pieces.specs.Judged.{partForm};
-ghost use Rattle.pieces.specs.Pieces.{rowOf, headerField, formBits, lengthField, optionalField, RowPut};
+ghost use Rattle.pieces.specs.Pieces.{headerField, lengthField, optionalField, RowPut};
 
 // Puts the bytes of a row, and gives their end.
 fn put_content(out: &mut [u8], at: usize, row: RowNumbers, buffer: &[u8]) -> usize
     requires { ⌜ (at ≤ 1152921504606847000) × (length (now buffer) ≤ 65536) ⌝ }
-    ensures { λ r. ⌜ Puts at (partOf (now (buffer .entry)) (rowOf row)) (now (out .entry)) (now (out .exit)) r × (r ≤ at + length (now (buffer .entry))) ⌝ }
+    ensures { λ r. ⌜ Puts at (partOf (now (buffer .entry)) (asRow row)) (now (out .entry)) (now (out .exit)) r × (r ≤ at + length (now (buffer .entry))) ⌝ }
 {
     wire::put_part(out, at, buffer, row.place, row.len);
     at + rows::part_len(row, buffer)
@@ -37,19 +38,6 @@ fn put_header(out: &mut [u8], at: usize, tag: usize, kind: usize) -> usize
     wire::put_number(out, at, 1, wire::header_bits(30, kind));
     wire::put_size(out, at + 1, tag);
     at + 1 + wire::size_len(tag)
-}
-
-// The type bits in the header of a form.
-fn form_bits(form: usize) -> usize
-    ensures { λ r. ⌜ (r ≡ formBits form) × (r < 8) ⌝ }
-{
-    if form < 8 {
-        return form;
-    }
-    if form < 10 {
-        return 5;
-    }
-    6
 }
 
 // Puts the length field of a form, if it has one, and gives its end.
@@ -79,7 +67,7 @@ fn part_form(
 ) -> usize
     requires { ⌜ now shapes ≡ shapesOf (now table) ⌝ }
     requires { ⌜ length (now buffer) ≤ 65536 ⌝ }
-    ensures { λ r. ⌜ r ≡ pick judged 0 (partForm (now (buffer .entry)) (rowOf row) (tyOf (now (table .entry)) t)) ⌝ }
+    ensures { λ r. ⌜ r ≡ pick judged 0 (partForm (now (buffer .entry)) (asRow row) (tyOf (now (table .entry)) t)) ⌝ }
 {
     if judged {
         return 0;
@@ -106,9 +94,9 @@ fn put_optional(
     buffer: &[u8],
 ) -> usize
     requires { ⌜ (at ≤ 1152921504606846976) × (length (now buffer) ≤ 65536) ⌝ }
-    ensures { λ r. ⌜ Puts at (optionalField tag form (partOf (now (buffer .entry)) (rowOf row))) (now (out .entry)) (now (out .exit)) r × (r ≤ at + 11 + length (now (buffer .entry))) ⌝ }
+    ensures { λ r. ⌜ Puts at (optionalField tag form (partOf (now (buffer .entry)) (asRow row))) (now (out .entry)) (now (out .exit)) r × (r ≤ at + 11 + length (now (buffer .entry))) ⌝ }
 {
-    let a = put_header(out, at, tag, form_bits(form));
+    let a = put_header(out, at, tag, wire::form_bits(form));
     let b = put_length(out, a, form, rows::part_len(row, buffer));
     put_content(out, b, row, buffer)
 }
@@ -129,7 +117,7 @@ pub fn put_row(
     requires { ⌜ (at ≤ 1152921504606846976) × (i < 4294967296) × (from .passed ≤ 65536) × (length (now buffer) ≤ 65536) ⌝ }
     ensures { λ r. ⌜ RowPut (now (table .entry)) (now (rows .entry)) (now (buffer .entry)) judged from i at (now (out .entry)) (now (out .exit)) r ⌝ }
 {
-    let row = rows::row_at(rows, i);
+    let row = wire::rows::row_at(rows, i);
     let r = state::reach_in(table, from, row.member);
     match r {
         Reach::Due(c) => {
