@@ -39,7 +39,8 @@ use borrow.Author.Tests.{eqb-true, eqb-false, leb-true, leb-false, ltb-true, ltb
 use Rattle.encoding.specs.Result.{pick, firstOf, sameBytes}
 use Rattle.encoding.specs.ResultLaws.{both-true, both-false, either-false, sameBytes-ok, sameBytes-same}
 use Rattle.encoding.specs.Types.{Ty}
-use Rattle.encoding.specs.Table.{types, members, kind, field, mark, tag, isRecord, owns, takes, range, namesAt, nameOf, Fault, fine, fault, orElse, faultAt, any, headerTests, headerRules, taken, noBase, alike, typeRules, sumRules, ownerOf, tagAlike, memberRules, typesAt, membersAt, rowAt, memberAt, pass, passes, faults, search, named, base, upward, climb, chain, Member, memberTy, lookup, requiredOf, optionalOf, required, optional, ownRows, trees}
+use Rattle.encoding.specs.Table.{types, members, kind, field, mark, tag, isRecord, owns, takes, range, namesAt, nameOf, Fault, fine, fault, orElse, faultAt, any, headerTests, headerRules, taken, noBase, alike, typeRules, sumRules, ownerOf, tagAlike, memberRules, rowAt, memberAt, pass, passes, faults, search, named, base, upward, climb, chain, Member, memberTy, lookup, requiredOf, optionalOf, required, optional, ownRows, trees}
+use Rattle.encoding.specs.TableLaws.{header-most}
 
 -- ---- passes
 
@@ -512,30 +513,30 @@ pass-place place rules most i (suc k) all c p h = go (orElse-fault (faultAt (pla
     go (inl e) rest = omega (arith, faultAt-place (place i) (firstOf (rules i)) c p e, all i (omega arith))
     go (inr e) rest = rest (e .1)
 
--- a broken rule stands at 0 or at the first byte of a row: 12 of the header, 256 type rows, 1,024 member rows
-pub fault-place : (T : List ℕ) (c p : ℕ) → faults T ≡ fault c p → p ≤ 11276
-unfolding faults passes headerRules sumRules rowAt memberAt membersAt typesAt
+-- a broken rule is at 0 or at the first byte of a row; there are at most 256 type rows and 1,024 member rows
+pub fault-place : (T : List ℕ) (c p : ℕ) → faults T ≡ fault c p → p ≤ 65536
+unfolding faults passes headerRules sumRules
 fault-place T c p h = go (orElse-fault (headerRules T) _ c p h)
   where
-    rest : headerRules T ≡ fine → passes (pass (rowAt T) (typeRules T) (range 0 (types T)) ∷ sumRules T ∷ pass (memberAt T) (memberRules T) (range 0 (members T)) ∷ []) ≡ fault c p → p ≤ 11276
+    rest : headerRules T ≡ fine → passes (pass (rowAt T) (typeRules T) (range 0 (types T)) ∷ sumRules T ∷ pass (memberAt T) (memberRules T) (range 0 (members T)) ∷ []) ≡ fault c p → p ≤ 65536
     rest e k = types-then (orElse-fault (pass (rowAt T) (typeRules T) (range 0 (types T))) _ c p k)
       where
-        last : passes (pass (memberAt T) (memberRules T) (range 0 (members T)) ∷ []) ≡ fault c p → p ≤ 11276
+        last : passes (pass (memberAt T) (memberRules T) (range 0 (members T)) ∷ []) ≡ fault c p → p ≤ 65536
         last q = one (orElse-fault (pass (memberAt T) (memberRules T) (range 0 (members T))) fine c p q)
           where
-            one : (pass (memberAt T) (memberRules T) (range 0 (members T)) ≡ fault c p) ⊎ ((pass (memberAt T) (memberRules T) (range 0 (members T)) ≡ fine) × (fine ≡ fault c p)) → p ≤ 11276
-            one (inl z) = pass-place (memberAt T) (memberRules T) 11276 0 (members T) (λ r l. omega (arith, types-few T e, members-few T e)) c p z
+            one : (pass (memberAt T) (memberRules T) (range 0 (members T)) ≡ fault c p) ⊎ ((pass (memberAt T) (memberRules T) (range 0 (members T)) ≡ fine) × (fine ≡ fault c p)) → p ≤ 65536
+            one (inl z) = pass-place (memberAt T) (memberRules T) 65536 0 (members T) (λ r l. omega (arith, header-most T, types-few T e, members-few T e)) c p z
             one (inr z) = let u : _≡_ {A = ℕ} 0 1 = cc in absurd (omega arith)
 
-        sum-then : (sumRules T ≡ fault c p) ⊎ ((sumRules T ≡ fine) × (passes (pass (memberAt T) (memberRules T) (range 0 (members T)) ∷ []) ≡ fault c p)) → p ≤ 11276
+        sum-then : (sumRules T ≡ fault c p) ⊎ ((sumRules T ≡ fine) × (passes (pass (memberAt T) (memberRules T) (range 0 (members T)) ∷ []) ≡ fault c p)) → p ≤ 65536
         sum-then (inl z) = omega (arith, faultAt-place 0 _ c p z)
         sum-then (inr z) = last (z .1)
 
         types-then : (pass (rowAt T) (typeRules T) (range 0 (types T)) ≡ fault c p)
-            ⊎ ((pass (rowAt T) (typeRules T) (range 0 (types T)) ≡ fine) × (passes (sumRules T ∷ pass (memberAt T) (memberRules T) (range 0 (members T)) ∷ []) ≡ fault c p)) → p ≤ 11276
-        types-then (inl z) = pass-place (rowAt T) (typeRules T) 11276 0 (types T) (λ r l. omega (arith, types-few T e)) c p z
+            ⊎ ((pass (rowAt T) (typeRules T) (range 0 (types T)) ≡ fine) × (passes (sumRules T ∷ pass (memberAt T) (memberRules T) (range 0 (members T)) ∷ []) ≡ fault c p)) → p ≤ 65536
+        types-then (inl z) = pass-place (rowAt T) (typeRules T) 65536 0 (types T) (λ r l. omega (arith, header-most T, types-few T e)) c p z
         types-then (inr z) = sum-then (orElse-fault (sumRules T) _ c p (z .1))
 
-    go : (headerRules T ≡ fault c p) ⊎ ((headerRules T ≡ fine) × (passes (pass (rowAt T) (typeRules T) (range 0 (types T)) ∷ sumRules T ∷ pass (memberAt T) (memberRules T) (range 0 (members T)) ∷ []) ≡ fault c p)) → p ≤ 11276
+    go : (headerRules T ≡ fault c p) ⊎ ((headerRules T ≡ fine) × (passes (pass (rowAt T) (typeRules T) (range 0 (types T)) ∷ sumRules T ∷ pass (memberAt T) (memberRules T) (range 0 (members T)) ∷ []) ≡ fault c p)) → p ≤ 65536
     go (inl e) = omega (arith, faultAt-place 0 (firstOf (headerTests T)) c p e)
     go (inr e) = rest (e .0) (e .1)

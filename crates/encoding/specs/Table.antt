@@ -1,15 +1,18 @@
 -- The type table: its layout, its rules, and what a row means. Every look-up is total: past the end is 0.
 --
 --   types, members, names        T, M, N of the header
---   typesAt, membersAt, namesAt  where the type rows, member rows and names begin; rowAt, memberAt one row
---   kind t, field t i            a type row's kind, and its fields a, b, c, d, e as i = 0..4
---   memberType, mark, tag m      a member row's fields
+--   typesAt, membersAt, namesAt  where the type rows, member rows and names begin
+--   rowAt t, memberAt m          where a type row, a member row begins; fieldAt i where field i is within a type row
+--   kind t, field t i            a type row's kind, and its fields a, b, c, d, e as i = 0..4; spare t its zero byte
+--   memberType, mark, tag m      a member row's fields; memberSpare m its zero byte
+--   greatest t, allowed t        an enum row's greatest enumerator; what enumerators it allows
 --   owns k, isRecord k           a row of kind k takes member rows; is an exception or a class
 --   ownRows t, takes t m         the member rows of row t; whether m is one
 --   Fault, faults                the first rule broken, as its rule class (31 to 38, below) and its place
 --   ruleNumber                   the refusal's number of a class
 --   typeRows                     how many rows have a tree
 --   tys, trees, tyOf t           the tree of each row, made from the trees of the rows below it
+--   partTy t i                   the tree of row i as a part of row t: broken unless i is below t
 --   Member                       a member: its row, its tag (or, if required, its position) and its type
 --   required t, optional t       the members of row t, each as declared
 --   nameOf t, named nm           the name of a record; the record of a name
@@ -22,7 +25,7 @@ use lib.ListN.{length, take, drop, getD}
 use lib.Dec.{eqb, leb, ltb}
 use Rattle.encoding.specs.Result.{pick, firstOf, sameBytes}
 use Rattle.encoding.specs.Number.{val, negative}
-use Rattle.encoding.specs.Types.{upto, short, int, long, float, double, Ty, Tys, nil, cons, broken, bool, byte, string, proxy, num, enum, struct, seq, dict}
+use Rattle.encoding.specs.Types.{Allowed, upto, short, int, long, float, double, Ty, Tys, nil, cons, broken, bool, byte, string, proxy, num, enum, struct, seq, dict}
 
 -- ---- layout
 
@@ -47,28 +50,36 @@ unfoldable pub typesAt : List ℕ → ℕ
 typesAt T = 12
 
 -- T type rows of 12 bytes
-unfoldable pub rowAt : List ℕ → ℕ → ℕ
+abbrev pub rowAt : List ℕ → ℕ → ℕ
 rowAt T t = typesAt T + 12 * t
 
 -- then the member rows
-unfoldable pub membersAt : List ℕ → ℕ
+abbrev pub membersAt : List ℕ → ℕ
 membersAt T = rowAt T (types T)
 
--- M member rows of 8
-unfoldable pub memberAt : List ℕ → ℕ → ℕ
+-- M member rows of 8 bytes
+abbrev pub memberAt : List ℕ → ℕ → ℕ
 memberAt T m = membersAt T + 8 * m
 
 -- then N name bytes
-unfoldable pub namesAt : List ℕ → ℕ
+abbrev pub namesAt : List ℕ → ℕ
 namesAt T = memberAt T (members T)
 
 -- a type row's kind byte
 unfoldable pub kind : List ℕ → ℕ → ℕ
 kind T t = at T 1 (rowAt T t)
 
--- 16-bit a, b, c, d, e, behind the kind and a zero byte
+-- then its zero byte
+unfoldable pub spare : List ℕ → ℕ → ℕ
+spare T t = at T 1 (rowAt T t + 1)
+
+-- then a, b, c, d, e
+abbrev pub fieldAt : ℕ → ℕ
+fieldAt i = 2 + 2 * i
+
+-- of 16 bits each
 unfoldable pub field : List ℕ → ℕ → ℕ → ℕ
-field T t i = at T 2 (rowAt T t + 2 + 2 * i)
+field T t i = at T 2 (rowAt T t + fieldAt i)
 
 -- a member row's 16-bit type
 unfoldable pub memberType : List ℕ → ℕ → ℕ
@@ -77,6 +88,10 @@ memberType T m = at T 2 (memberAt T m)
 -- 0 required, 1 optional
 unfoldable pub mark : List ℕ → ℕ → ℕ
 mark T m = at T 1 (memberAt T m + 2)
+
+-- its zero byte
+unfoldable pub memberSpare : List ℕ → ℕ → ℕ
+memberSpare T m = at T 1 (memberAt T m + 3)
 
 -- 32-bit tag
 unfoldable pub tag : List ℕ → ℕ → ℕ
@@ -102,6 +117,10 @@ range i (suc k) = i ∷ range (suc i) k
 -- a record's name: d its start among the name bytes, e its length
 unfoldable pub nameOf : List ℕ → ℕ → List ℕ
 nameOf T t = take (field T t 4) (drop (namesAt T + field T t 3) T)
+
+-- an enum's greatest enumerator: a its low half, b its high half
+unfoldable pub greatest : List ℕ → ℕ → ℕ
+greatest T t = field T t 0 + 65536 * field T t 1
 
 -- ---- rules
 
@@ -153,8 +172,8 @@ unfoldable pub headerRules : List ℕ → Fault
 headerRules T = faultAt 0 (firstOf (headerTests T))
 
 -- how many fields a kind uses, from a on
-unfoldable pub used : ℕ → ℕ
-used k = getD (0 ∷ 0 ∷ 0 ∷ 0 ∷ 0 ∷ 0 ∷ 0 ∷ 0 ∷ 2 ∷ 2 ∷ 1 ∷ 2 ∷ 0 ∷ 5 ∷ 5 ∷ 2 ∷ []) k 5
+unfoldable pub used : List ℕ → ℕ → ℕ
+used T k = getD (0 ∷ 0 ∷ 0 ∷ 0 ∷ 0 ∷ 0 ∷ 0 ∷ 0 ∷ 2 ∷ 2 ∷ 1 ∷ 2 ∷ 0 ∷ 5 ∷ 5 ∷ 2 ∷ []) k 5
 
 -- the member rows that the first n type rows take
 unfoldable pub taken : List ℕ → ℕ → ℕ
@@ -178,8 +197,8 @@ alike T t = any (λ r. isRecord (kind T r) && sameBytes (nameOf T r) (nameOf T t
 unfoldable pub typeRules : List ℕ → ℕ → List (ℕ × Bool)
 typeRules T t =
     let k = kind T t in
-    (32, not (eqb (at T 1 (rowAt T t + 1)) 0))
-    ∷ (32, any (λ i. not (eqb (field T t i) 0)) (range (used k) (5 - used k)))
+    (32, not (eqb (spare T t) 0))
+    ∷ (32, any (λ i. not (eqb (field T t i) 0)) (range (used T k) (5 - used T k)))
     ∷ (33, ltb 15 k)
     ∷ (34, (eqb k 10 || eqb k 11) && noPart T t (field T t 0))
     ∷ (34, eqb k 11 && noPart T t (field T t 1))
@@ -189,7 +208,7 @@ typeRules T t =
     ∷ (37, isRecord k && (eqb (field T t 4) 0 || ltb 255 (field T t 4)))
     ∷ (37, isRecord k && ltb (names T) (field T t 3 + field T t 4))
     ∷ (37, isRecord k && alike T t)
-    ∷ (38, eqb k 8 && great (field T t 0 + 65536 * field T t 1))
+    ∷ (38, eqb k 8 && great (greatest T t))
     ∷ []
 
 -- the member rows are all taken, none left over, at 0
@@ -209,7 +228,7 @@ tagAlike T o m = any (λ i. eqb (mark T i) 1 && eqb (tag T i) (tag T m)) (range 
 unfoldable pub memberRules : List ℕ → ℕ → List (ℕ × Bool)
 memberRules T m =
     let o = ownerOf T m (types T) in
-    (32, not (eqb (at T 1 (memberAt T m + 3)) 0))
+    (32, not (eqb (memberSpare T m) 0))
     ∷ (32, eqb (mark T m) 0 && not (eqb (tag T m) 0))
     ∷ (34, noPart T o (memberType T m))
     ∷ (36, ltb 1 (mark T m))
@@ -256,10 +275,14 @@ memberTys T l (m ∷ ms) = cons (memberTy T l m) (memberTys T l ms)
 unfoldable pub ownRows : List ℕ → ℕ → List ℕ
 ownRows T t = range (field T t 0) (field T t 1)
 
+-- the enumerators that enum row t allows
+unfoldable pub allowed : List ℕ → ℕ → Allowed
+allowed T t = upto (greatest T t)
+
 -- the tree of a row, where l has the trees of the rows below it
 unfoldable pub rowTy : List ℕ → List Ty → ℕ → Ty
 rowTy T l t =
-    pick (eqb (kind T t) 8) (enum (upto (field T t 0 + 65536 * field T t 1)))
+    pick (eqb (kind T t) 8) (enum (allowed T t))
     (pick (eqb (kind T t) 9) (struct (memberTys T l (ownRows T t)))
     (pick (eqb (kind T t) 10) (seq (getD l (field T t 0) broken))
     (pick (eqb (kind T t) 11) (dict (getD l (field T t 0) broken) (getD l (field T t 1) broken))
@@ -274,6 +297,10 @@ grow T l = l ++ (rowTy T l (length l) ∷ [])
 unfoldable pub tys : List ℕ → ℕ → List Ty
 tys T zero = []
 tys T (suc n) = grow T (tys T n)
+
+-- the tree of row i as a part of row t: broken unless i is below t
+unfoldable pub partTy : List ℕ → ℕ → ℕ → Ty
+partTy T t i = getD (tys T t) i broken
 
 -- the rows that have a tree: those of the table, at most 256
 unfoldable pub typeRows : List ℕ → ℕ

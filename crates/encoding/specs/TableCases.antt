@@ -92,7 +92,7 @@ pub record Meaning (T : List ℕ) : Type 0 where
   pub chains : map (Table.chain T) (13 ∷ 14 ∷ 15 ∷ 16 ∷ []) ≡ (13 ∷ []) ∷ (14 ∷ []) ∷ (15 ∷ []) ∷ (16 ∷ 13 ∷ []) ∷ []
 
 pub sample-means : Meaning sample
-unfolding sample Result.firstOf Result.sameBytes Number.val Number.negative Table.at Table.types Table.members Table.names Table.typesAt Table.rowAt Table.membersAt Table.memberAt Table.namesAt Table.kind Table.field Table.memberType Table.mark Table.tag Table.takes Table.range Table.nameOf Table.orElse Table.faultAt Table.any Table.headerTests Table.headerRules Table.used Table.taken Table.noPart Table.noBase Table.alike Table.typeRules Table.sumRules Table.ownerOf Table.tagAlike Table.memberRules Table.pass Table.passes Table.faults Table.memberTy Table.memberTys Table.ownRows Table.rowTy Table.grow Table.tys Table.typeRows Table.trees Table.requiredOf Table.optionalOf Table.required Table.optional Table.search Table.named Table.base Table.upward Table.climb Table.chain
+unfolding sample Result.firstOf Result.sameBytes Number.val Number.negative Table.at Table.types Table.members Table.names Table.typesAt Table.kind Table.spare Table.field Table.memberType Table.mark Table.memberSpare Table.tag Table.takes Table.range Table.greatest Table.nameOf Table.orElse Table.faultAt Table.any Table.headerTests Table.headerRules Table.used Table.taken Table.noPart Table.noBase Table.alike Table.typeRules Table.sumRules Table.ownerOf Table.tagAlike Table.memberRules Table.pass Table.passes Table.faults Table.memberTy Table.memberTys Table.ownRows Table.allowed Table.rowTy Table.grow Table.tys Table.typeRows Table.trees Table.requiredOf Table.optionalOf Table.required Table.optional Table.search Table.named Table.base Table.upward Table.climb Table.chain
 sample-means = record { fine = refl; trees = refl; required = refl; optional = refl; names = refl; named = refl; chains = refl }
 
 -- ---- one byte changed
@@ -151,17 +151,17 @@ changes =
     ∷ []
 
 pub changes-told : map (λ c. Table.faults (changed c)) changes ≡ map (λ c. Table.fault (c .class) (c .place)) changes
-unfolding sample changed changes Result.firstOf Result.sameBytes Number.val Number.negative Table.at Table.types Table.members Table.names Table.typesAt Table.rowAt Table.membersAt Table.memberAt Table.namesAt Table.kind Table.field Table.memberType Table.mark Table.tag Table.takes Table.range Table.nameOf Table.orElse Table.faultAt Table.any Table.headerTests Table.headerRules Table.used Table.taken Table.noPart Table.noBase Table.alike Table.typeRules Table.sumRules Table.ownerOf Table.tagAlike Table.memberRules Table.pass Table.passes Table.faults
+unfolding sample changed changes Result.firstOf Result.sameBytes Number.val Number.negative Table.at Table.types Table.members Table.names Table.typesAt Table.kind Table.spare Table.field Table.memberType Table.mark Table.memberSpare Table.tag Table.takes Table.range Table.greatest Table.nameOf Table.orElse Table.faultAt Table.any Table.headerTests Table.headerRules Table.used Table.taken Table.noPart Table.noBase Table.alike Table.typeRules Table.sumRules Table.ownerOf Table.tagAlike Table.memberRules Table.pass Table.passes Table.faults
 changes-told = refl
 
 -- ---- bytes left out
 
 -- cut off in the mark, in the header, after the header, before the last byte; and whole
 pub cuts-told : map (λ n. Table.faults (take n sample)) (0 ∷ 4 ∷ 11 ∷ 12 ∷ 295 ∷ 296 ∷ []) ≡ Table.fault 31 0 ∷ Table.fault 31 0 ∷ Table.fault 31 0 ∷ Table.fault 31 0 ∷ Table.fault 31 0 ∷ Table.fine ∷ []
-unfolding sample Result.firstOf Result.sameBytes Number.val Number.negative Table.at Table.types Table.members Table.names Table.typesAt Table.rowAt Table.membersAt Table.memberAt Table.namesAt Table.kind Table.field Table.memberType Table.mark Table.tag Table.takes Table.range Table.nameOf Table.orElse Table.faultAt Table.any Table.headerTests Table.headerRules Table.used Table.taken Table.noPart Table.noBase Table.alike Table.typeRules Table.sumRules Table.ownerOf Table.tagAlike Table.memberRules Table.pass Table.passes Table.faults
+unfolding sample Result.firstOf Result.sameBytes Number.val Number.negative Table.at Table.types Table.members Table.names Table.typesAt Table.kind Table.spare Table.field Table.memberType Table.mark Table.memberSpare Table.tag Table.takes Table.range Table.greatest Table.nameOf Table.orElse Table.faultAt Table.any Table.headerTests Table.headerRules Table.used Table.taken Table.noPart Table.noBase Table.alike Table.typeRules Table.sumRules Table.ownerOf Table.tagAlike Table.memberRules Table.pass Table.passes Table.faults
 cuts-told = refl
 
 -- a zero byte that is not 0 is no part of the kind or of the mark before it
 pub zero-bytes-apart : (Table.kind (changed (change 13 1 32 12)) 0 ≡ 0) × (Table.mark (changed (change 219 1 32 216)) 0 ≡ 0)
-unfolding sample changed Number.val Table.at Table.types Table.typesAt Table.rowAt Table.membersAt Table.memberAt Table.kind Table.mark
+unfolding sample changed Number.val Table.at Table.types Table.typesAt Table.kind Table.mark
 zero-bytes-apart = (refl, refl)

@@ -1,5 +1,6 @@
 -- What a row's tree is, by the row's kind, in terms of the trees of the rows below it; and a row's chain, by its base.
 --
+--   header-least, header-most      the header has 12 to 64 bytes
 --   rows-below                     at most 256 rows have a tree
 --   length-tys                     the first n rows have n trees
 --   tys-at                         the tree of a row among the trees below any higher row
@@ -11,7 +12,7 @@
 --   member-in, member-past         a member row that is there; one that is not
 --   members-more, members-none     the members' types one after another
 --   base-below, chain-row          a base is a smaller row; a row's chain is the row, then its base's chain
-use Prim.Native.Nat.{ℕ, zero, suc, _+_, _-_, _*_, _≤_, _<_}
+use Prim.Native.Nat.{ℕ, zero, suc, _+_, _-_, _≤_, _<_}
 use mathlib.Core.Path.{_≡_, refl, sym, ap, _∙_}
 use mathlib.Core.Bool.{Bool, true, false, _&&_}
 use mathlib.Core.Logic.{⊎-elim}
@@ -24,8 +25,18 @@ use lib.Seq.{getD-at}
 use lib.Dec.{leb}
 use borrow.Author.Tests.{leb-true, ne-eqb, lt-ltb, le-ltb}
 use Rattle.encoding.specs.Result.{pick}
-use Rattle.encoding.specs.Types.{upto, short, int, long, float, double, Ty, nil, cons, broken, bool, byte, string, proxy, num, enum, struct, seq, dict}
-use Rattle.encoding.specs.Table.{types, kind, field, members, memberType, range, memberTy, memberTys, ownRows, rowTy, grow, tys, typeRows, trees, tyOf, isRecord, base, upward, climb, chain}
+use Rattle.encoding.specs.Types.{short, int, long, float, double, Ty, nil, cons, broken, bool, byte, string, proxy, num, enum, struct, seq, dict}
+use Rattle.encoding.specs.Table.{types, typesAt, kind, field, members, memberType, allowed, range, memberTy, memberTys, ownRows, rowTy, grow, tys, typeRows, trees, tyOf, isRecord, base, upward, climb, chain}
+
+-- all that laws and proofs use of the header's length
+module _ (T : List ℕ) where
+  pub header-least : 12 ≤ typesAt T
+  unfolding typesAt
+  header-least = omega arith
+
+  pub header-most : typesAt T ≤ 64
+  unfolding typesAt
+  header-most = omega arith
 
 pub rows-below : (T : List ℕ) → typeRows T ≤ 256
 unfolding typeRows
@@ -111,7 +122,7 @@ row-broken T l t k = simp (
     (List·getD-eq-default (bool ∷ byte ∷ num short ∷ num int ∷ num long ∷ num float ∷ num double ∷ string ∷ []) broken {n = kind T t} (omega arith))
 
 module _ (T : List ℕ) (t : ℕ) (h : t < typeRows T) where
-  pub row-enum : kind T t ≡ 8 → tyOf T t ≡ enum (upto (field T t 0 + 65536 * field T t 1))
+  pub row-enum : kind T t ≡ 8 → tyOf T t ≡ enum (allowed T t)
   unfolding rowTy
   row-enum k = ty-row T t h ∙ rw k
 

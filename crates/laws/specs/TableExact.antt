@@ -23,7 +23,7 @@ use borrow.Author.Tests.{eqb-true, eqb-false, leb-true, leb-false, ltb-true, ltb
 use Rattle.encoding.specs.Result.{pick, firstOf, sameBytes}
 use Rattle.encoding.specs.ResultLaws.{both-false, either-false, sameBytes-ok, sameBytes-same}
 use Rattle.encoding.specs.Number.{val, negative}
-use Rattle.encoding.specs.Table.{at, types, members, names, typesAt, rowAt, membersAt, memberAt, namesAt, kind, field, memberType, mark, tag, isRecord, owns, nameOf, range, fine, orElse, faultAt, any, headerTests, headerRules, used, taken, noPart, noBase, alike, typeRules, sumRules, ownerOf, tagAlike, memberRules, pass, passes, faults}
+use Rattle.encoding.specs.Table.{at, types, members, names, typesAt, rowAt, memberAt, kind, spare, field, memberType, mark, memberSpare, tag, greatest, isRecord, owns, nameOf, range, fine, orElse, faultAt, any, headerTests, headerRules, used, taken, noPart, noBase, alike, typeRules, sumRules, ownerOf, tagAlike, memberRules, pass, passes, faults}
 use Rattle.encoding.specs.RuleLaws.{any-none, record-kind, owns-record, taken-rises, taken-next, turn-apart, turn-owner, header-test, row-test, row-begins, member-row-test, header-right, type-right, taken-whole, member-right}
 use Rattle.laws.specs.Demands.{ExactTable, OneOwner}
 use Rattle.encoding.specs.Valid.{RecordKind, is-exception, is-class, OwnerKind, is-struct, is-record, is-parameters, Uses, of-basic, of-enum, of-struct, of-sequence, of-dictionary, of-proxy, of-record, of-parameters, ValuePart, NoOwner, TakenBefore, none-before, last-before, Owner, ValidHeader, TypeZeros, TypeReferences, TypeName, ValidType, ValidMember, Valid}
@@ -61,27 +61,27 @@ no-owner k h = go (owns k) refl
     go false e = refl
 
 -- the first eight kinds use none
-used-basic : (k : ℕ) → k ≤ 7 → used k ≡ 0
+used-basic : (T : List ℕ) (k : ℕ) → k ≤ 7 → used T k ≡ 0
 unfolding used
-used-basic k h = List·getD-append (replicate 8 0) (2 ∷ 2 ∷ 1 ∷ 2 ∷ 0 ∷ 5 ∷ 5 ∷ 2 ∷ []) 5 k (omega arith) ∙ getD-replicate 8 k 0 5 (omega arith)
+used-basic T k h = List·getD-append (replicate 8 0) (2 ∷ 2 ∷ 1 ∷ 2 ∷ 0 ∷ 5 ∷ 5 ∷ 2 ∷ []) 5 k (omega arith) ∙ getD-replicate 8 k 0 5 (omega arith)
 
-uses-ok : (k n : ℕ) → Uses k n → used k ≡ n
+uses-ok : (T : List ℕ) (k n : ℕ) → Uses k n → used T k ≡ n
 unfolding used
-uses-ok k n (of-basic h) = used-basic k h
-uses-ok k n (of-enum e) = rw e
-uses-ok k n (of-struct e) = rw e
-uses-ok k n (of-sequence e) = rw e
-uses-ok k n (of-dictionary e) = rw e
-uses-ok k n (of-proxy e) = rw e
-uses-ok k n (of-record (is-exception e)) = rw e
-uses-ok k n (of-record (is-class e)) = rw e
-uses-ok k n (of-parameters e) = rw e
+uses-ok T k n (of-basic h) = used-basic T k h
+uses-ok T k n (of-enum e) = rw e
+uses-ok T k n (of-struct e) = rw e
+uses-ok T k n (of-sequence e) = rw e
+uses-ok T k n (of-dictionary e) = rw e
+uses-ok T k n (of-proxy e) = rw e
+uses-ok T k n (of-record (is-exception e)) = rw e
+uses-ok T k n (of-record (is-class e)) = rw e
+uses-ok T k n (of-parameters e) = rw e
 
-uses-step : (k : ℕ) → k ≤ 15 → Uses k (used k)
+uses-step : (T : List ℕ) (k : ℕ) → k ≤ 15 → Uses k (used T k)
 unfolding used
-uses-step k h = go (leb k 7) refl
+uses-step T k h = go (leb k 7) refl
   where
-    above : (j : ℕ) → k ≡ 8 + j → Uses k (used k)
+    above : (j : ℕ) → k ≡ 8 + j → Uses k (used T k)
     above zero e = rw e (of-enum refl)
     above (suc zero) e = rw e (of-struct refl)
     above (suc (suc zero)) e = rw e (of-sequence refl)
@@ -92,8 +92,8 @@ uses-step k h = go (leb k 7) refl
     above (suc (suc (suc (suc (suc (suc (suc zero))))))) e = rw e (of-parameters refl)
     above (suc (suc (suc (suc (suc (suc (suc (suc j)))))))) e = absurd (omega arith)
 
-    go : (b : Bool) → leb k 7 ≡ b → Uses k (used k)
-    go true e = let l : k ≤ 7 = leb-true k 7 e in subst (Uses k) (sym (used-basic k l)) (of-basic l)
+    go : (b : Bool) → leb k 7 ≡ b → Uses k (used T k)
+    go true e = let l : k ≤ 7 = leb-true k 7 e in subst (Uses k) (sym (used-basic T k l)) (of-basic l)
     go false e = let l : 7 < k = leb-false k 7 e in above (k - 8) (omega arith)
 
 -- ---- references
@@ -211,7 +211,7 @@ one-bytes (a ∷ b ∷ c ∷ l) n h = absurd (omega arith)
 
 module _ (T : List ℕ) where
   pub header-ok : headerRules T ≡ fine → ValidHeader T
-  unfolding headerTests at typesAt rowAt membersAt memberAt namesAt
+  unfolding headerTests at typesAt
   header-ok right =
       let test = header-test T right in
       let front : take 5 T ≡ 70 ∷ 71 ∷ 84 ∷ 1 ∷ 0 ∷ [] = sameBytes-ok (take 5 T) _ (not-false _ (test 0)) in
@@ -232,7 +232,7 @@ module _ (T : List ℕ) where
       }
 
   pub header-step : ValidHeader T → headerRules T ≡ fine
-  unfolding headerRules headerTests faultAt at typesAt rowAt membersAt memberAt namesAt
+  unfolding headerRules headerTests faultAt at typesAt
   header-step H =
       let two = one-bytes (take 2 (drop 3 T)) (length-take-le 2 (drop 3 T) (omega (arith, length-drop 3 T, H .there))) (H .version) in
       let front : take 5 T ≡ 70 ∷ 71 ∷ 84 ∷ 1 ∷ 0 ∷ [] = take-add 3 2 T ∙ ap₂ _++_ (H .opening) two in
@@ -253,12 +253,12 @@ module _ (T : List ℕ) (t : ℕ) (turn : InTurn T t) where
     test = row-test T t right
 
     zeros-ok : TypeZeros T t
-    unfolding typeRules
+    unfolding typeRules spare
     zeros-ok = record {
       zero-byte = eqb-true _ 0 (not-false _ (test 0));
       unused = λ n u i l m.
-          let e = uses-ok (kind T t) n u in
-          eqb-true (field T t i) 0 (not-false _ (any-none (λ i. not (eqb (field T t i) 0)) (used (kind T t)) (5 - used (kind T t)) (test 1) i (omega (arith, e)) (omega (arith, e))));
+          let e = uses-ok T (kind T t) n u in
+          eqb-true (field T t i) 0 (not-false _ (any-none (λ i. not (eqb (field T t i) 0)) (used T (kind T t)) (5 - used T (kind T t)) (test 1) i (omega (arith, e)) (omega (arith, e))));
     }
 
     references-ok : TypeReferences T t
@@ -285,7 +285,7 @@ module _ (T : List ℕ) (t : ℕ) (turn : InTurn T t) where
         }
 
     pub type-ok : ValidType T t
-    unfolding typeRules negative
+    unfolding typeRules greatest negative
     type-ok = record {
       zeros = zeros-ok;
       known = ltb-false 15 (kind T t) (test 2);
@@ -311,12 +311,12 @@ module _ (T : List ℕ) (t : ℕ) (turn : InTurn T t) where
         where-true (isRecord (kind T r)) _ (λ e. bytes-differ (nameOf T r) (nameOf T t) (R .name k .new r (omega arith) (record-ok (kind T r) e))))
 
     pub type-step : firstOf (typeRules T t) ≡ 0
-    unfolding typeRules negative
+    unfolding typeRules spare greatest negative
     type-step =
         let k = kind T t in
         let rec : isRecord k ≡ true → RecordKind k = record-ok k in
         first-none (typeRules T t) (ap not (eq-eqb _ 0 (R .zeros .zero-byte))
-        also any-step (λ i. not (eqb (field T t i) 0)) (used k) (5 - used k) (λ i a b. ap not (eq-eqb (field T t i) 0 (R .zeros .unused (used k) (uses-step k (R .known)) i a (omega arith))))
+        also any-step (λ i. not (eqb (field T t i) 0)) (used T k) (5 - used T k) (λ i a b. ap not (eq-eqb (field T t i) 0 (R .zeros .unused (used T k) (uses-step T k (R .known)) i a (omega arith))))
         also le-ltb 15 k (R .known)
         also where-true (eqb k 10 || eqb k 11) _ (λ e. part-step T t (field T t 0) (first-part e))
         also where-true (eqb k 11) _ (λ e. part-step T t (field T t 1) (R .references .value (eqb-true k 11 e)))
@@ -358,7 +358,7 @@ module _ (T : List ℕ) (turn : InTurn T (types T)) where
     judged-by = turn-owner T (λ t l e. turn t l (owner-ok (kind T t) e)) o m (own .there) (owner-step (kind T o) (own .owner-kind)) (own .from) (own .to)
 
     pub member-ok : firstOf (memberRules T m) ≡ 0 → ValidMember T o m
-    unfolding memberRules negative tagAlike
+    unfolding memberRules memberSpare negative tagAlike
     member-ok right =
         let test = member-row-test T m right in
         let few : mark T m ≤ 1 = ltb-false 1 (mark T m) (test 3) in
@@ -395,7 +395,7 @@ module _ (T : List ℕ) (turn : InTurn T (types T)) where
           where-true (eqb (mark T i) 1) _ (λ b. ne-eqb (tag T i) (tag T m) (R .tagged .new a i k own-i (eqb-true (mark T i) 1 b))))
 
       pub member-step : firstOf (memberRules T m) ≡ 0
-      unfolding memberRules negative
+      unfolding memberRules memberSpare negative
       member-step =
           first-none (memberRules T m) (ap not (eq-eqb _ 0 (R .zeros .zero-byte))
           also where-true (eqb (mark T m) 0) _ (λ e. ap not (eq-eqb (tag T m) 0 (R .zeros .untagged (eqb-true (mark T m) 0 e))))

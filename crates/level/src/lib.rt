@@ -75,7 +75,7 @@ pub fn required(
     ensures { λ _. ⌜ ((ps : List Piece) (n : ℕ) → requireds (required (now (table .entry)) t) (now (s .entry)) ≡ ok ps n → now (out .exit) ≡ fill count (pieceRows (now (table .entry)) t at ps) (now (out .entry))) ⌝ }
 {
     let all = table::members(table);
-    let first = table::member_start(table);
+    let first = table::members_at(table);
     let owner = table::type_row(table, t);
     let mut m = owner.a;
     let mut left = owner.b;

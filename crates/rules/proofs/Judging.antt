@@ -35,18 +35,18 @@ use Rattle.encoding.specs.Result.{pick, firstOf, sameBytes}
 use Rattle.encoding.specs.ResultLaws.{both-true, either-false, sameBytes-ok}
 use Rattle.encoding.specs.Number.{val, leBytes, negative}
 use Rattle.encoding.specs.NumberLaws.{leBytes-val}
-use Rattle.encoding.specs.Table.{at, types, members, names, typesAt, rowAt, membersAt, memberAt, namesAt, kind, field, memberType, mark, tag, isRecord, owns, nameOf, range, any, used, taken, noPart, alike, typeRules, headerTests, headerRules, sumRules, faultAt, Fault, fine, fault, orElse, pass, passes, faults}
+use Rattle.encoding.specs.Table.{at, types, members, names, typesAt, rowAt, memberAt, namesAt, fieldAt, kind, spare, field, memberType, mark, memberSpare, tag, isRecord, owns, nameOf, range, any, used, taken, noPart, alike, typeRules, headerTests, headerRules, sumRules, faultAt, Fault, fine, fault, orElse, pass, passes, faults}
 use Rattle.wire.specs.At.{at-more, at-split}
 use Rattle.table.specs.Names.{nameStart, isNamed}
 use Rattle.table.specs.NamesLaws.{name-part}
 use Rattle.rules.specs.Checks.{verdictOf, isSetFrom, noBaseOf, alikeFrom, enumRules, structRules, seqRules, dictRules, recordRules, listRules, kindRules, rowRules, share, isBasic, past, typePass, memberPass, isOptionalOf, isTagBefore, isTagAlike, requiredRules, optionalRules, memberRulesBy, memberRulesOf, isUsual, ownerPass, ownersPass, MembersThere, OwnersThere}
 use Rattle.rules.specs.ChecksLaws.{row-rules, or-assoc, table-length, owners-pass, owners-there}
-use Rattle.table.specs.Rows.{typeRowOf, memberRowOf, IsTypeRow, IsMemberAt, IsMemberRow}
+use Rattle.table.specs.Rows.{typeRowOf, memberRowOf, IsTypeRow, IsMemberRow, greatestOf}
 use Rattle.table.specs.declared.TypeRow.{TypeRow}
 use Rattle.table.specs.declared.MemberRow.{MemberRow}
 use Rattle.rules.specs.declared.Verdict.{Verdict}
 use Rattle.rules.specs.declared.Verdict.the-variants.{Fine, Broken}
-use Rattle.table.proofs.Places.{row-shows, members-begin-at, member-placed}
+use Rattle.table.proofs.Places.{row-shows}
 use Rattle.table.proofs.Ranges.{range-more, range-none, range-left, range-empty, any-here, any-next, any-none, any-never, any-past}
 use Rattle.table.proofs.ByKind.{by-kind}
 use Rattle.table.proofs.Labels.{record-named, record-short, record-none}
@@ -56,14 +56,14 @@ use Rattle.table.proofs.Labels.{record-named, record-short, record-none}
 whole-type : (T : List ℕ) (t : ℕ) (r : TypeRow) → IsTypeRow T t r → r ≡ typeRowOf T t
 whole-type T t r i = go (i .kind-is) (i .spare-is) (i .a-is) (i .b-is) (i .c-is) (i .d-is) (i .e-is)
   where
-    go : {k s a b c d e : ℕ} → k ≡ kind T t → s ≡ at T 1 (rowAt T t + 1) → a ≡ field T t 0 → b ≡ field T t 1 → c ≡ field T t 2 → d ≡ field T t 3 → e ≡ field T t 4
+    go : {k s a b c d e : ℕ} → k ≡ kind T t → s ≡ spare T t → a ≡ field T t 0 → b ≡ field T t 1 → c ≡ field T t 2 → d ≡ field T t 3 → e ≡ field T t 4
         → _≡_ {A = TypeRow} (record { kind = k; spare = s; a = a; b = b; c = c; d = d; e = e }) (typeRowOf T t)
     go ek es ea eb ec ed ee = rw (ek, es, ea, eb, ec, ed, ee)
 
 whole-member : (T : List ℕ) (m : ℕ) (r : MemberRow) → IsMemberRow T m r → r ≡ memberRowOf T m
 whole-member T m r i = go (i .of-is) (i .mark-is) (i .spare-is) (i .tag-is)
   where
-    go : {t k s g : ℕ} → t ≡ memberType T m → k ≡ mark T m → s ≡ at T 1 (memberAt T m + 3) → g ≡ tag T m
+    go : {t k s g : ℕ} → t ≡ memberType T m → k ≡ mark T m → s ≡ memberSpare T m → g ≡ tag T m
         → _≡_ {A = MemberRow} (record { of = t; mark = k; spare = s; tag = g }) (memberRowOf T m)
     go et ek es eg = rw (et, ek, es, eg)
 
@@ -102,52 +102,59 @@ module _ (n : ℕ) where
   marked-last (a ∷ b ∷ c ∷ []) long small en eh v ev = absurd (omega arith)
   marked-last (a ∷ b ∷ c ∷ d ∷ []) long small en eh v ev = absurd (omega arith)
 
-pub header-short : (T : List ℕ) → length T < 12 → faultAt 0 31 ≡ headerRules T
-unfolding headerRules headerTests firstOf typesAt
-header-short T h = rw (lt-ltb _ _ h) (go (not (sameBytes (take 5 T) (70 ∷ 71 ∷ 84 ∷ 1 ∷ 0 ∷ []))))
-  where
-    go : (b : Bool) → faultAt 0 31 ≡ faultAt 0 (pick b 31 31)
-    go true = refl
-    go false = refl
-
-module _ (T : List ℕ) (long : 12 ≤ length T) (s : Bool) (es : s ≡ sameBytes (take 5 T) (70 ∷ 71 ∷ 84 ∷ 1 ∷ 0 ∷ [])) where
-  pub header-mark : not s ≡ true → faultAt 0 31 ≡ headerRules T
+module _ (T : List ℕ) (f : ℕ) (ef : f ≡ typesAt T) where
+  pub header-short : length T < f → faultAt 0 31 ≡ headerRules T
   unfolding headerRules headerTests firstOf
-  header-mark q = rw (← es, q)
+  header-short h = rw (lt-ltb (length T) (typesAt T) (omega arith)) (go (not (sameBytes (take 5 T) (70 ∷ 71 ∷ 84 ∷ 1 ∷ 0 ∷ []))))
+    where
+      go : (b : Bool) → faultAt 0 31 ≡ faultAt 0 (pick b 31 31)
+      go true = refl
+      go false = refl
 
-  module _ (marked : not s ≡ false) (t : ℕ) (et : t ≡ types T) where
-    pub header-none : t ≡ 0 → faultAt 0 31 ≡ headerRules T
-    unfolding headerRules headerTests firstOf typesAt
-    header-none z = rw (← es, marked, le-ltb _ _ long, ← et, eq-eqb t 0 z)
+  module _ (long : f ≤ length T) (s : Bool) (es : s ≡ sameBytes (take 5 T) (70 ∷ 71 ∷ 84 ∷ 1 ∷ 0 ∷ [])) where
+    all-there : ltb (length T) (typesAt T) ≡ false
+    all-there = le-ltb (length T) (typesAt T) (omega arith)
 
-    module _ (some : t ≡ 0 → ⊥) where
-      pub header-types : 256 < t → faultAt 0 31 ≡ headerRules T
-      unfolding headerRules headerTests firstOf typesAt
-      header-types h = rw (← es, marked, le-ltb _ _ long, ← et, ne-eqb t 0 some, lt-ltb _ _ h)
+    pub header-mark : not s ≡ true → faultAt 0 31 ≡ headerRules T
+    unfolding headerRules headerTests firstOf
+    header-mark q = rw (← es, q)
 
-      module _ (few : t ≤ 256) (m : ℕ) (em : m ≡ members T) where
-        pub header-members : 1024 < m → faultAt 0 31 ≡ headerRules T
-        unfolding headerRules headerTests firstOf typesAt
-        header-members h = rw (← es, marked, le-ltb _ _ long, ← et, ne-eqb t 0 some, le-ltb _ _ few, ← em, lt-ltb _ _ h)
+    module _ (marked : not s ≡ false) (t : ℕ) (et : t ≡ types T) where
+      pub header-none : t ≡ 0 → faultAt 0 31 ≡ headerRules T
+      unfolding headerRules headerTests firstOf
+      header-none z = rw (← es, marked, all-there, ← et, eq-eqb t 0 z)
 
-        module _ (small : m ≤ 1024) (n : ℕ) (en : n ≡ names T) where
-          pub header-names : 8192 < n → faultAt 0 31 ≡ headerRules T
-          unfolding headerRules headerTests firstOf typesAt
-          header-names h = rw (← es, marked, le-ltb _ _ long, ← et, ne-eqb t 0 some, le-ltb _ _ few, ← em, le-ltb _ _ small, ← en, lt-ltb _ _ h)
+      module _ (some : t ≡ 0 → ⊥) where
+        pub header-types : 256 < t → faultAt 0 31 ≡ headerRules T
+        unfolding headerRules headerTests firstOf
+        header-types h = rw (← es, marked, all-there, ← et, ne-eqb t 0 some, lt-ltb _ _ h)
 
-          module _ (short : n ≤ 8192) (b : ℕ) (eb : b ≡ at T 1 11) where
-            pub header-spare : (b ≡ 0 → ⊥) → faultAt 0 31 ≡ headerRules T
-            unfolding headerRules headerTests firstOf typesAt
-            header-spare h = rw (← es, marked, le-ltb _ _ long, ← et, ne-eqb t 0 some, le-ltb _ _ few, ← em, le-ltb _ _ small, ← en, le-ltb _ _ short, ← eb, ne-eqb b 0 h)
+        module _ (few : t ≤ 256) (m : ℕ) (em : m ≡ members T) where
+          pub header-members : 1024 < m → faultAt 0 31 ≡ headerRules T
+          unfolding headerRules headerTests firstOf
+          header-members h = rw (← es, marked, all-there, ← et, ne-eqb t 0 some, le-ltb _ _ few, ← em, lt-ltb _ _ h)
 
-            module _ (spare : b ≡ 0) where
-              pub header-length : (length T ≡ 12 + 12 * t + 8 * m + n → ⊥) → faultAt 0 31 ≡ headerRules T
-              unfolding headerRules headerTests firstOf typesAt namesAt memberAt membersAt rowAt
-              header-length h = rw (← es, marked, le-ltb _ _ long, ← et, ne-eqb t 0 some, le-ltb _ _ few, ← em, le-ltb _ _ small, ← en, le-ltb _ _ short, ← eb, eq-eqb b 0 spare, ne-eqb _ _ h)
+          module _ (small : m ≤ 1024) (n : ℕ) (en : n ≡ names T) where
+            pub header-names : 8192 < n → faultAt 0 31 ≡ headerRules T
+            unfolding headerRules headerTests firstOf
+            header-names h = rw (← es, marked, all-there, ← et, ne-eqb t 0 some, le-ltb _ _ few, ← em, le-ltb _ _ small, ← en, lt-ltb _ _ h)
 
-              pub header-fine : length T ≡ 12 + 12 * t + 8 * m + n → faultAt 0 0 ≡ headerRules T
-              unfolding headerRules headerTests firstOf typesAt namesAt memberAt membersAt rowAt
-              header-fine h = rw (← es, marked, le-ltb _ _ long, ← et, ne-eqb t 0 some, le-ltb _ _ few, ← em, le-ltb _ _ small, ← en, le-ltb _ _ short, ← eb, eq-eqb b 0 spare, eq-eqb _ _ h)
+            module _ (short : n ≤ 8192) (b : ℕ) (eb : b ≡ at T 1 11) where
+              pub header-spare : (b ≡ 0 → ⊥) → faultAt 0 31 ≡ headerRules T
+              unfolding headerRules headerTests firstOf
+              header-spare h = rw (← es, marked, all-there, ← et, ne-eqb t 0 some, le-ltb _ _ few, ← em, le-ltb _ _ small, ← en, le-ltb _ _ short, ← eb, ne-eqb b 0 h)
+
+              module _ (spare : b ≡ 0) (p : ℕ) (ep : p ≡ namesAt T) where
+                all-but-length : headerRules T ≡ faultAt 0 (pick (not (eqb (length T) (namesAt T + names T))) 31 0)
+                unfolding headerRules headerTests firstOf
+                all-but-length =
+                    rw (← es, marked, all-there, ne-eqb (types T) 0 (λ z. some (et ∙ z)), le-ltb 256 (types T) (omega arith), le-ltb 1024 (members T) (omega arith), le-ltb 8192 (names T) (omega arith), ← eb, eq-eqb b 0 spare)
+
+                pub header-length : (length T ≡ p + n → ⊥) → faultAt 0 31 ≡ headerRules T
+                header-length h = sym (all-but-length ∙ rw (ne-eqb (length T) (namesAt T + names T) (λ q. h (omega arith))))
+
+                pub header-fine : length T ≡ p + n → faultAt 0 0 ≡ headerRules T
+                header-fine h = sym (all-but-length ∙ rw (eq-eqb (length T) (namesAt T + names T) (omega arith)))
 
 -- ---- fields that a kind does not use
 
@@ -186,52 +193,55 @@ module _ (r : TypeRow) where
         go false = refl
 
 -- by the kind
-used-low : (k : ℕ) → k < 8 → 0 ≡ used k
+used-low : (T : List ℕ) (k : ℕ) → k < 8 → 0 ≡ used T k
 unfolding used
-used-low = by-kind (λ n. n < 8 → 0 ≡ used n)
+used-low T = by-kind (λ n. n < 8 → 0 ≡ used T n)
     (λ h. refl) (λ h. refl) (λ h. refl) (λ h. refl) (λ h. refl) (λ h. refl) (λ h. refl) (λ h. refl)
     (λ h. absurd (omega arith)) (λ h. absurd (omega arith)) (λ h. absurd (omega arith)) (λ h. absurd (omega arith)) (λ h. absurd (omega arith))
     (λ n l h. absurd (omega arith))
 
-used-two : (k : ℕ) → 8 ≤ k → (k ≡ 10 → ⊥) → (k ≡ 12 → ⊥) → (k ≡ 13 → ⊥) → (k ≡ 14 → ⊥) → k < 16 → 2 ≡ used k
+used-two : (T : List ℕ) (k : ℕ) → 8 ≤ k → (k ≡ 10 → ⊥) → (k ≡ 12 → ⊥) → (k ≡ 13 → ⊥) → (k ≡ 14 → ⊥) → k < 16 → 2 ≡ used T k
 unfolding used
-used-two = by-kind (λ n. 8 ≤ n → (n ≡ 10 → ⊥) → (n ≡ 12 → ⊥) → (n ≡ 13 → ⊥) → (n ≡ 14 → ⊥) → n < 16 → 2 ≡ used n)
+used-two T = by-kind (λ n. 8 ≤ n → (n ≡ 10 → ⊥) → (n ≡ 12 → ⊥) → (n ≡ 13 → ⊥) → (n ≡ 14 → ⊥) → n < 16 → 2 ≡ used T n)
     (λ h a b c d l. absurd (omega arith)) (λ h a b c d l. absurd (omega arith)) (λ h a b c d l. absurd (omega arith)) (λ h a b c d l. absurd (omega arith))
     (λ h a b c d l. absurd (omega arith)) (λ h a b c d l. absurd (omega arith)) (λ h a b c d l. absurd (omega arith)) (λ h a b c d l. absurd (omega arith))
     (λ h a b c d l. refl) (λ h a b c d l. refl) (λ h a b c d l. absurd (a refl)) (λ h a b c d l. refl) (λ h a b c d l. absurd (b refl))
     (λ n g h a b c d l. let z : n ≡ 15 = omega arith in rw z)
 
-module _ (r : TypeRow) (k : ℕ) (b : Bool) where
-  pub unused-low : k < 8 → b ≡ isSetFrom r 0 → b ≡ isSetFrom r (used k)
-  unused-low h e = e ∙ ap (isSetFrom r) (used-low k h)
+used-unknown : (T : List ℕ) (k : ℕ) → 16 ≤ k → 5 ≡ used T k
+unfolding used
+used-unknown T k h = sym (List·getD-eq-default {A = ℕ} (0 ∷ 0 ∷ 0 ∷ 0 ∷ 0 ∷ 0 ∷ 0 ∷ 0 ∷ 2 ∷ 2 ∷ 1 ∷ 2 ∷ 0 ∷ 5 ∷ 5 ∷ 2 ∷ []) 5 {n = k} h)
 
-  pub unused-seq : k ≡ 10 → b ≡ isSetFrom r 1 → b ≡ isSetFrom r (used k)
+module _ (T : List ℕ) (r : TypeRow) (k : ℕ) (b : Bool) where
+  pub unused-low : k < 8 → b ≡ isSetFrom r 0 → b ≡ isSetFrom r (used T k)
+  unused-low h e = e ∙ ap (isSetFrom r) (used-low T k h)
+
+  pub unused-seq : k ≡ 10 → b ≡ isSetFrom r 1 → b ≡ isSetFrom r (used T k)
   unfolding used
   unused-seq h e = rw h e
 
-  pub unused-proxy : k ≡ 12 → b ≡ isSetFrom r 0 → b ≡ isSetFrom r (used k)
+  pub unused-proxy : k ≡ 12 → b ≡ isSetFrom r 0 → b ≡ isSetFrom r (used T k)
   unfolding used
   unused-proxy h e = rw h e
 
-  pub unused-two : 8 ≤ k → (k ≡ 10 → ⊥) → (k ≡ 12 → ⊥) → (k ≡ 13 → ⊥) → (k ≡ 14 → ⊥) → k < 16 → b ≡ isSetFrom r 2 → b ≡ isSetFrom r (used k)
-  unused-two h x y z w l e = e ∙ ap (isSetFrom r) (used-two k h x y z w l)
+  pub unused-two : 8 ≤ k → (k ≡ 10 → ⊥) → (k ≡ 12 → ⊥) → (k ≡ 13 → ⊥) → (k ≡ 14 → ⊥) → k < 16 → b ≡ isSetFrom r 2 → b ≡ isSetFrom r (used T k)
+  unused-two h x y z w l e = e ∙ ap (isSetFrom r) (used-two T k h x y z w l)
 
-module _ (r : TypeRow) (k : ℕ) where
+module _ (T : List ℕ) (r : TypeRow) (k : ℕ) where
   none-set : false ≡ isSetFrom r 5
   unfolding isSetFrom any range
   none-set = refl
 
-  pub unused-exception : k ≡ 13 → false ≡ isSetFrom r (used k)
+  pub unused-exception : k ≡ 13 → false ≡ isSetFrom r (used T k)
   unfolding used
   unused-exception h = rw h none-set
 
-  pub unused-class : k ≡ 14 → false ≡ isSetFrom r (used k)
+  pub unused-class : k ≡ 14 → false ≡ isSetFrom r (used T k)
   unfolding used
   unused-class h = rw h none-set
 
-  pub unused-unknown : 16 ≤ k → false ≡ isSetFrom r (used k)
-  unfolding used
-  unused-unknown h = rw (List·getD-eq-default {A = ℕ} (0 ∷ 0 ∷ 0 ∷ 0 ∷ 0 ∷ 0 ∷ 0 ∷ 0 ∷ 2 ∷ 2 ∷ 1 ∷ 2 ∷ 0 ∷ 5 ∷ 5 ∷ 2 ∷ []) 5 {n = k} h) none-set
+  pub unused-unknown : 16 ≤ k → false ≡ isSetFrom r (used T k)
+  unused-unknown h = none-set ∙ ap (isSetFrom r) (used-unknown T k h)
 
 -- ---- references
 
@@ -372,14 +382,14 @@ module _ (T : List ℕ) (t from : ℕ) (inv : Plain T t from) where
 
 -- ---- the rules of each kind
 
-module _ (r : TypeRow) where
-  pub enum-great : 2147483648 ≤ r .a + 65536 * r .b → 38 ≡ firstOf (enumRules r)
+module _ (r : TypeRow) (g : ℕ) (e : g ≡ greatestOf r) where
+  pub enum-great : 2147483648 ≤ g → 38 ≡ firstOf (enumRules r)
   unfolding firstOf enumRules negative
-  enum-great h = rw (le-leb (2 ^ 31) (r .a + 65536 * r .b) h)
+  enum-great h = rw (← e, le-leb (2 ^ 31) g h)
 
-  pub enum-fine : r .a + 65536 * r .b < 2147483648 → 0 ≡ firstOf (enumRules r)
+  pub enum-fine : g < 2147483648 → 0 ≡ firstOf (enumRules r)
   unfolding firstOf enumRules negative
-  enum-fine h = rw (lt-leb (2 ^ 31) (r .a + 65536 * r .b) h)
+  enum-fine h = rw (← e, lt-leb (2 ^ 31) g h)
 
 module _ (r : TypeRow) (n : ℕ) where
   pub struct-first : (r .a ≡ n → ⊥) → 35 ≡ firstOf (structRules r n)
@@ -494,7 +504,7 @@ module _ (T : List ℕ) (t : ℕ) (r : TypeRow) (n : ℕ) (s : Bool) where
   unfolding firstOf rowRules
   row-spare h = rw (ne-eqb (r .spare) 0 h)
 
-  module _ (spare : r .spare ≡ 0) (u : Bool) (eu : u ≡ isSetFrom r (used (r .kind))) where
+  module _ (spare : r .spare ≡ 0) (u : Bool) (eu : u ≡ isSetFrom r (used T (r .kind))) where
     pub row-unused : u ≡ true → 32 ≡ firstOf (rowRules T t r n s)
     unfolding firstOf rowRules
     row-unused q = rw (eq-eqb (r .spare) 0 spare, ← eu, q)
@@ -533,17 +543,17 @@ sum-next T t sum s inv e h = record { so-far = rw (add-one, inv .so-far, e); bou
 
 -- ---- basic rows
 
-module _ (T : List ℕ) (t n : ℕ) (en : n ≡ at (take (12 + 12 * t + 12 - (12 + 12 * t)) (drop (12 + 12 * t) T)) 4 0) where
+module _ (T : List ℕ) (t a e : ℕ) (ea : a ≡ rowAt T t) (ee : e ≡ rowAt T (t + 1)) (n : ℕ) (en : n ≡ at (take (e - a) (drop a T)) 4 0) where
   first-is : n ≡ at T 4 (rowAt T t)
-  first-is = en ∙ row-shows T t 12 (omega arith) .same 4 0 (omega arith) ∙ rw add-zero
+  first-is = en ∙ row-shows T t a e ea ee .same 4 0 (omega arith) ∙ rw add-zero
 
   pub basic-other : 8 ≤ n → false ≡ isBasic T t
   unfolding isBasic
   basic-other h = rw (← first-is, le-ltb n 8 h)
 
-  pub basic-rest : n < 8 → (v : ℕ) → v ≡ at (take (12 + 12 * t + 12 - (12 + 12 * t)) (drop (12 + 12 * t) T)) 8 4 → eqb v 0 ≡ isBasic T t
+  pub basic-rest : n < 8 → (v : ℕ) → v ≡ at (take (e - a) (drop a T)) 8 4 → eqb v 0 ≡ isBasic T t
   unfolding isBasic
-  basic-rest h v ev = rw (← first-is, lt-ltb n 8 h) (ap (λ (z : ℕ). eqb z 0) (ev ∙ row-shows T t 12 (omega arith) .same 8 4 (omega arith)))
+  basic-rest h v ev = rw (← first-is, lt-ltb n 8 h) (ap (λ (z : ℕ). eqb z 0) (ev ∙ row-shows T t a e ea ee .same 8 4 (omega arith)))
 
 -- a number that is 0 begins with a short that is 0, and so does what is behind it
 zero-parts : (T : List ℕ) (k p : ℕ) → at T (2 + k) p ≡ 0 → (at T 2 p ≡ 0) × (at T k (p + 2) ≡ 0)
@@ -562,10 +572,11 @@ module _ (T : List ℕ) (t : ℕ) (basic : isBasic T t ≡ true) where
   unfolding kind
   basic-kind = omega (arith, at-split T 2 2 (rowAt T t), at-split T 1 1 (rowAt T t), basic-tests .0)
 
-  basic-spare : at T 1 (rowAt T t + 1) ≡ 0
+  basic-spare : spare T t ≡ 0
+  unfolding spare
   basic-spare = omega (arith, at-split T 2 2 (rowAt T t), at-split T 1 1 (rowAt T t), basic-tests .0)
 
-  basic-field : (i p : ℕ) → rowAt T t + 2 + 2 * i ≡ p → at T 2 p ≡ 0 → field T t i ≡ 0
+  basic-field : (i p : ℕ) → rowAt T t + fieldAt i ≡ p → at T 2 p ≡ 0 → field T t i ≡ 0
   unfolding field
   basic-field i p e h = ap (at T 2) e ∙ h
 
@@ -588,7 +599,7 @@ module _ (T : List ℕ) (t : ℕ) (basic : isBasic T t ≡ true) where
   basic-rules =
       let l = basic-kind in
       let r = typeRowOf T t in
-      row-known T t r (taken T t) (alike T t) basic-spare false (unused-low r (kind T t) false l basic-clear) refl (omega arith) 0
+      row-known T t r (taken T t) (alike T t) basic-spare false (unused-low T r (kind T t) false l basic-clear) refl (omega arith) 0
       (kind-plain T t r (taken T t) 0 (alike T t) (λ e. omega arith) (λ e. omega arith) (λ e. omega arith) (λ e. omega arith) (isRecord (kind T t)) refl basic-plain (λ e. omega arith))
       ∙ row-rules T t
 
@@ -671,9 +682,8 @@ module _ (T : List ℕ) (n t prior from : ℕ) (inv : Types T n t prior from) wh
         e ∙ ap₂ (λ (z : TypeRow) (y : ℕ). firstOf (rowRules T t z y (alikeFrom T from t))) (whole-type T t r er) (inv .sum .so-far)
         ∙ ap (λ (b : Bool). firstOf (rowRules T t (typeRowOf T t) (taken T t) b)) (alike-from T t from (inv .plain)) ∙ row-rules T t
 
-    pub types-fault : (c ≡ 0 → ⊥) → Broken c (12 + 12 * t) ≡ verdictOf (orElse (typePass T) (sumRules T))
-    unfolding rowAt typesAt
-    types-fault z = sym (or-broken (typePass T) (sumRules T) c (12 + 12 * t) (inv .rest ∙ rw (range-more t n h) (pass-fault (rowAt T) (typeRules T) t c (range (t + 1) (n - (t + 1))) types-row z)))
+    pub types-fault : (c ≡ 0 → ⊥) → (p : ℕ) → p ≡ rowAt T t → Broken c p ≡ verdictOf (orElse (typePass T) (sumRules T))
+    types-fault z p ep = ap (Broken c) ep ∙ sym (or-broken (typePass T) (sumRules T) c (rowAt T t) (inv .rest ∙ rw (range-more t n h) (pass-fault (rowAt T) (typeRules T) t c (range (t + 1) (n - (t + 1))) types-row z)))
 
     pub types-next : c ≡ 0 → (s : ℕ) → s ≡ share r → s ≤ r .b → (b : Bool) → b ≡ isRecord (r .kind) → (f : ℕ) → f ≡ past from t (not b) → Types T n (t + 1) (prior + s) f
     types-next z s es hs b eb f ef = record {
@@ -779,9 +789,8 @@ module _ (T : List ℕ) (o : ℕ) (own : TypeRow) (r : MemberRow) (s : Bool) whe
     member-optional h e = e ∙ sym (rw (eq-eqb (r .spare) 0 spare, ne-eqb (r .mark) 0 h))
 
 -- over the members of one owner; the tags before m are below `above`
-pub record Owner (T : List ℕ) (o start : ℕ) (own : TypeRow) (left m above : ℕ) : Type 0 where
+pub record Owner (T : List ℕ) (o : ℕ) (own : TypeRow) (left m above : ℕ) : Type 0 where
   pub bytes : (i : ℕ) → getD T i 0 < 256
-  pub starts : start ≡ membersAt T
   pub own-is : IsTypeRow T o own
   pub below : (i : ℕ) → field T o 0 ≤ i → i < m → tag T i < above
   pub rest : verdictOf (ownerPass T o) ≡ verdictOf (pass (memberAt T) (memberRulesOf T o) (range m left))
@@ -798,11 +807,10 @@ module _ (T : List ℕ) (o left : ℕ) (own : TypeRow) (eo : IsTypeRow T o own) 
   pub owner-short : (left ≡ 0 → ⊥) → (k : ℕ) → k ≡ members T → k < own .a + left → MembersThere T o → Broken 35 0 ≡ verdictOf (ownerPass T o)
   owner-short z k ek h all = absurd (omega (arith, all .there (omega (arith, left-is)), left-is, eo .a-is))
 
-  pub owner-begin : ((i : ℕ) → getD T i 0 < 256) → (n : ℕ) → n ≡ types T → Owner T o (12 + 12 * n) own left (own .a) 0
+  pub owner-begin : ((i : ℕ) → getD T i 0 < 256) → Owner T o own left (own .a) 0
   unfolding ownerPass
-  owner-begin small n en = record {
+  owner-begin small = record {
     bytes = small;
-    starts = members-begin-at T n en;
     own-is = eo;
     below = λ i l h. absurd (omega (arith, eo .a-is));
     rest = rw (eo .a-is, left-is);
@@ -841,7 +849,7 @@ record Fields (r : MemberRow) (x : ℕ) : Type 0 where
   spare-small : r .spare < 256
 
 fields : (T : List ℕ) → ((i : ℕ) → getD T i 0 < 256) → (m x : ℕ) → x ≡ at T 8 (memberAt T m) → Fields (memberRowOf T m) x
-unfolding memberType mark tag
+unfolding memberType mark memberSpare tag
 fields T small m x e =
     let p = memberAt T m in
     let z : at T 1 (p + 2 + 1) ≡ at T 1 (p + 3) = ap (at T 1) (omega arith) in
@@ -886,7 +894,7 @@ module _ (T : List ℕ) (o : ℕ) (own : TypeRow) (r : MemberRow) (x above : ℕ
           let f = both-true (leb above (x / 4294967296)) _ (d .1) in
           usual-optional (eqb-false _ _ (not-true _ (sym eu ∙ a .0))) (eqb-true _ _ (d .0)) (leb-true _ _ (f .0)) (ltb-true _ _ (f .1))
 
-module _ (T : List ℕ) (o start : ℕ) (own : TypeRow) (left m above : ℕ) (inv : Owner T o start own left m above) where
+module _ (T : List ℕ) (o : ℕ) (own : TypeRow) (left m above : ℕ) (inv : Owner T o own left m above) where
   pub owner-end : left ≤ 0 → Fine ≡ verdictOf (ownerPass T o)
   unfolding verdictOf pass
   owner-end h = sym (inv .rest ∙ rw (range-empty m left h))
@@ -916,41 +924,35 @@ module _ (T : List ℕ) (o start : ℕ) (own : TypeRow) (left m above : ℕ) (in
   module _ (h : 0 < left) where
     -- a row of class c
     module _ (c : ℕ) (e : c ≡ firstOf (memberRulesOf T o m)) where
-      class-fault : (c ≡ 0 → ⊥) → Broken c (start + 8 * m) ≡ verdictOf (ownerPass T o)
-      unfolding memberAt
-      class-fault z = rw (inv .starts) (sym (inv .rest ∙ rw (range-left m left h) (pass-fault (memberAt T) (memberRulesOf T o) m c (range (m + 1) (left - 1)) e z)))
+      class-fault : (c ≡ 0 → ⊥) → (p : ℕ) → p ≡ memberAt T m → Broken c p ≡ verdictOf (ownerPass T o)
+      class-fault z p ep = ap (Broken c) ep ∙ sym (inv .rest ∙ rw (range-left m left h) (pass-fault (memberAt T) (memberRulesOf T o) m c (range (m + 1) (left - 1)) e z))
 
-      class-next : c ≡ 0 → (a : ℕ) → a ≡ max above (tag T m + 1) → Owner T o start own (left - 1) (m + 1) a
+      class-next : c ≡ 0 → (a : ℕ) → a ≡ max above (tag T m + 1) → Owner T o own (left - 1) (m + 1) a
       class-next z a ea = record {
         bytes = inv .bytes;
-        starts = inv .starts;
         own-is = inv .own-is;
         below = λ i l k. ⊎-elim (λ q. omega (arith, ap (tag T) q)) (λ q. omega (arith, inv .below i l q)) (eq-or-lt-of-le {n = i} {m = m} (omega arith));
         rest = inv .rest ∙ rw (range-left m left h) (ap verdictOf (pass-next (memberAt T) (memberRulesOf T o) m c (range (m + 1) (left - 1)) e z));
       }
 
     -- a row read whole
-    module _ (r : MemberRow) (at : IsMemberAt T (start + 8 * m) r) (c : ℕ) (e : c ≡ firstOf (memberRulesBy T o own r (isTagAlike T (own .a) m above (r .tag)))) where
-      er : IsMemberRow T m r
-      er = member-placed T m start r (inv .starts) at
-
+    module _ (r : MemberRow) (er : IsMemberRow T m r) (c : ℕ) (e : c ≡ firstOf (memberRulesBy T o own r (isTagAlike T (own .a) m above (r .tag)))) where
       owner-row : c ≡ firstOf (memberRulesOf T o m)
       unfolding memberRulesOf
       owner-row =
           e ∙ ap₂ (λ (y : TypeRow) (z : MemberRow). firstOf (memberRulesBy T o y z (isTagAlike T (y .a) m above (z .tag)))) (whole-type T o own (inv .own-is)) (whole-member T m r er)
           ∙ ap (λ (b : Bool). firstOf (memberRulesBy T o (typeRowOf T o) (memberRowOf T m) b)) (tag-alike (tag T m))
 
-      pub owner-fault : (c ≡ 0 → ⊥) → Broken c (start + 8 * m) ≡ verdictOf (ownerPass T o)
+      pub owner-fault : (c ≡ 0 → ⊥) → (p : ℕ) → p ≡ memberAt T m → Broken c p ≡ verdictOf (ownerPass T o)
       owner-fault z = class-fault c owner-row z
 
-      pub owner-next : c ≡ 0 → (a : ℕ) → a ≡ max above (r .tag + 1) → Owner T o start own (left - 1) (m + 1) a
+      pub owner-next : c ≡ 0 → (a : ℕ) → a ≡ max above (r .tag + 1) → Owner T o own (left - 1) (m + 1) a
       owner-next z a ea = class-next c owner-row z a (ea ∙ ap (λ (g : ℕ). max above (g + 1)) (er .tag-is))
 
     -- a row as one number, which is usual
-    module _ (x : ℕ) (ex : x ≡ at T 8 (start + 8 * m)) (u : Bool) (eu : u ≡ isUsual x (not (eqb (own .kind) 9)) above) (usual : not u ≡ false) (b : Bool) (eb : b ≡ noPart T o (x % 65536)) where
+    module _ (p x : ℕ) (ep : p ≡ memberAt T m) (ex : x ≡ at T 8 p) (u : Bool) (eu : u ≡ isUsual x (not (eqb (own .kind) 9)) above) (usual : not u ≡ false) (b : Bool) (eb : b ≡ noPart T o (x % 65536)) where
       parts : Fields (memberRowOf T m) x
-      unfolding memberAt
-      parts = fields T (inv .bytes) m x (ex ∙ ap (λ (p : ℕ). at T 8 (p + 8 * m)) (inv .starts))
+      parts = fields T (inv .bytes) m x (ex ∙ ap (at T 8) ep)
 
       usual-class : (s : Bool) → b ≡ s → pick s 34 0 ≡ firstOf (memberRulesOf T o m)
       unfolding memberRulesOf
@@ -959,10 +961,10 @@ module _ (T : List ℕ) (o start : ℕ) (own : TypeRow) (left m above : ℕ) (in
           usual-rules T o (typeRowOf T o) (memberRowOf T m) x above parts (isTagBefore T (field T o 0) m (tag T m)) (tag-new (tag T m)) s (sym q ∙ eb ∙ ap (noPart T o) z)
           (not (eqb (own .kind) 9)) (ap (λ (k : ℕ). not (eqb k 9)) (inv .own-is .kind-is)) (sym eu ∙ not-false u usual)
 
-      pub usual-fault : b ≡ true → Broken 34 (start + 8 * m) ≡ verdictOf (ownerPass T o)
-      usual-fault q = class-fault 34 (usual-class true q) (λ z. omega arith)
+      pub usual-fault : b ≡ true → Broken 34 p ≡ verdictOf (ownerPass T o)
+      usual-fault q = class-fault 34 (usual-class true q) (λ z. omega arith) p ep
 
-      pub usual-next : b ≡ false → (a : ℕ) → a ≡ max above (x / 4294967296 + 1) → Owner T o start own (left - 1) (m + 1) a
+      pub usual-next : b ≡ false → (a : ℕ) → a ≡ max above (x / 4294967296 + 1) → Owner T o own (left - 1) (m + 1) a
       usual-next q a ea = class-next 0 (usual-class false q) refl a (ea ∙ ap (λ (g : ℕ). max above (g + 1)) (tag-of (memberRowOf T m) x parts))
 
 -- over the owners
@@ -1005,13 +1007,13 @@ module _ (T : List ℕ) (h : ℕ) (eh : faultAt 0 h ≡ headerRules T) where
       go zero z = absurd (z refl)
       go (suc c) z = refl
 
-  module _ (head : h ≡ 0) (n : ℕ) (en : n ≡ types T) where
-    pub check-all-rows : (k : ℕ) → k ≡ members T → 12 + 12 * n + 8 * k ≤ length T
+  module _ (head : h ≡ 0) where
+    pub check-all-rows : (k : ℕ) → k ≡ members T → memberAt T k ≤ length T
     unfolding faultAt
     check-all-rows k ek = omega (arith, table-length T (sym eh ∙ rw head))
 
-    pub check-rows : 12 + 12 * n ≤ length T
-    check-rows = omega (arith, check-all-rows (members T) refl)
+    pub check-rows : (n : ℕ) → n ≡ types T → rowAt T n ≤ length T
+    check-rows n en = omega (arith, check-all-rows (members T) refl)
 
   module _ (head : h ≡ 0) (v : Verdict) (ev : v ≡ verdictOf (orElse (typePass T) (sumRules T))) where
     past-header : verdictOf (faults T) ≡ verdictOf (orElse (orElse (typePass T) (sumRules T)) (orElse (memberPass T) fine))

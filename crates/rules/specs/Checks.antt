@@ -3,22 +3,22 @@
 --   verdictOf                 fine, or the class and the place of the first rule that is broken
 --   isSetFrom                 a field of a row, from field i on, is not 0
 --   noBaseOf                  row b - 1 is no base of row t of kind k
---   alikeFrom                 the name of row t is that of a record from a row on and before it
+--   alikeFrom                 a record among rows `from` to t - 1 has the name of row t
 --   enumRules .. listRules    the rules that a kind has, of row t by its fields r; n is the number of member rows taken before; b: its name is alike
 --   kindRules, rowRules       those of its kind; all of a type row
 --   share                     how many member rows a row takes
 --   isBasic                   a type row's kind is below 8 and every other byte is 0
---   past                      the row before which none is a record, once row t is passed: where it stands at t and t is plain, that is no record, it moves on
+--   past                      the first row that may be a record, advanced past row t if it is t and t is no record
 --   typePass, memberPass      the passes over type rows and over member rows
 --   isOptionalOf              a member row is optional and has a tag
---   isTagBefore               a member row from a first one on, before m, is one
---   isTagAlike                the same, of a tag below `above`
+--   isTagBefore               one of the member rows `first` to m - 1 is optional and has a tag
+--   isTagAlike                the same, but false for a tag that is not below `above`
 --   requiredRules, optionalRules   the rules of a member row with mark 0, or with another mark, by its owner's fields and its own; b: its tag is alike
 --   memberRulesBy             the rules of a member row by these; memberRulesOf of member row m of owner o
---   isUsual                   the eight bytes of a member row as a number: all but its type is fine, where the tags before it are below `above`
+--   isUsual                   a member row as one number of eight bytes: it breaks no rule but perhaps that of its type; the tags before it are below `above`
 --   ownerPass, ownersPass     the member rows of one owner; of several in turn
 --   MembersThere, OwnersThere      the member rows that a row takes are all there; those of each row are
-use Prim.Native.Nat.{ℕ, zero, suc, _+_, _-_, _*_, _/_, _%_, _≤_, _<_}
+use Prim.Native.Nat.{ℕ, zero, suc, _+_, _-_, _/_, _%_, _≤_, _<_}
 use mathlib.Core.Bool.{Bool, false, _&&_, _||_, not}
 use mathlib.Core.List.{List, [], _∷_}
 use lib.ListN.{drop}
@@ -26,7 +26,7 @@ use lib.Dec.{eqb, leb, ltb}
 use Rattle.encoding.specs.Result.{pick}
 use Rattle.encoding.specs.Table.{at, types, members, names, rowAt, memberAt, kind, field, mark, tag, isRecord, owns, nameOf, range, any, great, used, noPart, typeRules, memberRules, Fault, fine, fault, orElse, pass}
 use Rattle.table.specs.Names.{isNamed}
-use Rattle.table.specs.Rows.{typeRowOf, memberRowOf}
+use Rattle.table.specs.Rows.{typeRowOf, memberRowOf, greatestOf}
 use Rattle.table.specs.declared.TypeRow.{TypeRow}
 use Rattle.table.specs.declared.MemberRow.{MemberRow}
 use Rattle.rules.specs.declared.Verdict.{Verdict}
@@ -49,7 +49,7 @@ unfoldable pub alikeFrom : List ℕ → ℕ → ℕ → Bool
 alikeFrom T from t = any (isNamed T (nameOf T t)) (range from (t - from))
 
 unfoldable pub enumRules : TypeRow → List (ℕ × Bool)
-enumRules r = (38, great (r .a + 65536 * r .b)) ∷ []
+enumRules r = (38, great (greatestOf r)) ∷ []
 
 unfoldable pub structRules : TypeRow → ℕ → List (ℕ × Bool)
 structRules r n = (35, not (eqb (r .a) n)) ∷ (36, eqb (r .b) 0) ∷ []
@@ -84,7 +84,7 @@ kindRules T t r n b =
 unfoldable pub rowRules : List ℕ → ℕ → TypeRow → ℕ → Bool → List (ℕ × Bool)
 rowRules T t r n b =
     (32, not (eqb (r .spare) 0))
-    ∷ (32, isSetFrom r (used (r .kind)))
+    ∷ (32, isSetFrom r (used T (r .kind)))
     ∷ (33, ltb 15 (r .kind))
     ∷ kindRules T t r n b
 

@@ -5,7 +5,7 @@
 --   or-assoc       the first fault of three passes
 --   table-length   where the header is fine, the table is as long as it says
 --   owners-there   where the type rows and the sum are fine, the member rows of each owner are all there
-use Prim.Native.Nat.{ℕ, zero, suc, _+_, _-_, _*_, _≤_, _<_}
+use Prim.Native.Nat.{ℕ, zero, suc, _+_, _-_, _≤_, _<_}
 use mathlib.Core.Path.{_≡_, refl, sym, ap, ap₂, _∙_}
 use mathlib.Core.Bool.{Bool, true, false, _&&_, not}
 use mathlib.Core.Logic.{⊎-elim}
@@ -17,7 +17,7 @@ use lib.Dec.{eqb}
 use borrow.Author.Tests.{eqb-true, eqb-false, not-false, lt-leb, le-leb, lt-ltb}
 use Rattle.encoding.specs.Result.{pick, firstOf}
 use Rattle.encoding.specs.Number.{negative}
-use Rattle.encoding.specs.Table.{types, members, names, typesAt, rowAt, membersAt, memberAt, namesAt, kind, field, mark, tag, owns, range, any, used, noBase, alike, taken, takes, ownerOf, tagAlike, typeRules, memberRules, headerTests, headerRules, sumRules, faultAt, Fault, fine, fault, orElse, pass}
+use Rattle.encoding.specs.Table.{types, members, names, rowAt, memberAt, namesAt, greatest, kind, field, mark, tag, owns, range, any, used, noBase, alike, taken, takes, ownerOf, tagAlike, typeRules, memberRules, headerTests, headerRules, sumRules, faultAt, Fault, fine, fault, orElse, pass}
 use Rattle.table.specs.Rows.{typeRowOf}
 use Rattle.rules.specs.Checks.{isSetFrom, noBaseOf, enumRules, structRules, seqRules, dictRules, recordRules, listRules, kindRules, rowRules, share, typePass, memberPass, isTagBefore, requiredRules, optionalRules, memberRulesBy, memberRulesOf, ownerPass, ownersPass, OwnersThere}
 
@@ -49,7 +49,7 @@ module _ (T : List ℕ) (t : ℕ) where
   set-from (suc (suc (suc (suc (suc i))))) = let z : 5 - suc (suc (suc (suc (suc i)))) ≡ 0 = omega arith in rw (z, drop-of-length-le {A = ℕ} [] {i = i} (omega arith))
 
   kind-rules : firstOf (kindRules T t (typeRowOf T t) (taken T t) (alike T t)) ≡ firstOf (drop 3 (typeRules T t))
-  unfolding firstOf typeRules kindRules enumRules structRules seqRules dictRules recordRules listRules
+  unfolding firstOf typeRules greatest kindRules enumRules structRules seqRules dictRules recordRules listRules
   kind-rules =
       rw (no-base (field T t 2)) (
       either (kind T t) 8 (λ e. rw e) (λ e8.
@@ -62,7 +62,7 @@ module _ (T : List ℕ) (t : ℕ) where
 
   pub row-rules : firstOf (rowRules T t (typeRowOf T t) (taken T t) (alike T t)) ≡ firstOf (typeRules T t)
   unfolding firstOf rowRules typeRules
-  row-rules = rw (set-from (used (kind T t)), kind-rules)
+  row-rules = rw (set-from (used T (kind T t)), kind-rules)
 
 -- ---- a member row by its mark
 
@@ -226,8 +226,8 @@ sum-fine T e = go (eqb (taken T (types T)) (members T)) refl (at-fine 0 _ e)
     go true q z = eqb-true _ _ q
     go false q z = absurd (omega arith)
 
-pub table-length : (T : List ℕ) → headerRules T ≡ fine → length T ≡ 12 + 12 * types T + 8 * members T + names T
-unfolding headerRules headerTests namesAt memberAt membersAt rowAt typesAt
+pub table-length : (T : List ℕ) → headerRules T ≡ fine → length T ≡ namesAt T + names T
+unfolding headerRules headerTests
 table-length T e =
     let a = first-none 31 _ _ (omega arith) (at-fine 0 _ e) in
     let b = first-none 31 _ _ (omega arith) (a .1) in
@@ -235,7 +235,7 @@ table-length T e =
     let d = first-none 31 _ _ (omega arith) (c .1) in
     let f = first-none 31 _ _ (omega arith) (d .1) in
     let g = first-none 31 _ _ (omega arith) (f .1) in
-    let h = first-none 31 (not (eqb (length T) (12 + 12 * types T + 8 * members T + names T))) _ (omega arith) (g .1) in
+    let h = first-none 31 (not (eqb (length T) (namesAt T + names T))) _ (omega arith) (g .1) in
     eqb-true _ _ (not-false _ (h .0))
 
 pub owners-pass : (T : List ℕ) → orElse (typePass T) (sumRules T) ≡ fine → ownersPass T (range 0 (types T)) ≡ memberPass T

@@ -1,22 +1,22 @@
-// The rules of a table: header, type rows, member sum, member rows; the first rule that is broken, as its class and its place.
+// The check of a table: header, type rows, member sum, member rows. It answers the first broken rule as its class (31 to 38) and its place.
 use table::MemberRow;
 use table::TypeRow;
 ghost use mathlib.Core.Path.{_≡_};
 ghost use mathlib.Core.List.{[], _∷_};
-ghost use Prim.Native.Nat.{_+_, _-_, _*_, _≤_, _<_, max};
+ghost use Prim.Native.Nat.{_+_, _-_, _≤_, _<_, max};
 ghost use lib.ListN.{length, take};
 ghost use Rattle.encoding.specs.Result.{firstOf, sameBytes};
-ghost use Rattle.encoding.specs.Table.{any, range, types, members, headerRules, sumRules, orElse, used, noPart, faultAt, faults};
+ghost use Rattle.encoding.specs.Table.{any, range, types, members, rowAt, membersAt, memberAt, headerRules, sumRules, orElse, used, noPart, faultAt, faults};
 ghost use Rattle.table.specs.Names.{isNamed};
 ghost use Rattle.rules.specs.Checks.{verdictOf, isSetFrom, noBaseOf, alikeFrom, enumRules, structRules, seqRules, dictRules, recordRules, listRules, kindRules, rowRules, share, isBasic, past, typePass, isOptionalOf, isTagBefore, isTagAlike, requiredRules, optionalRules, memberRulesBy, isUsual, ownerPass, ownersPass, MembersThere, OwnersThere};
 
-// No rule is broken; or the first that is, as its class and its place.
+// No rule is broken; or the class and the place of the first broken one.
 pub enum Verdict {
     Fine,
     Broken(usize, usize),
 }
 
-// The mark FGT and version 1 stand in front: four bytes as an int, then a 0.
+// The table begins with the mark FGT and version 1: four bytes, compared as one int, then a 0.
 fn is_marked(table: &[u8]) -> bool
     requires { ⌜ 5 ≤ length (now table) ⌝ }
     ensures { λ r. ⌜ r ≡ sameBytes (take 5 (now (table .entry))) (70 ∷ 71 ∷ 84 ∷ 1 ∷ 0 ∷ []) ⌝ }
@@ -27,11 +27,11 @@ fn is_marked(table: &[u8]) -> bool
     wire::byte_at(table, 4) == 0
 }
 
-// The class of the header, or 0.
+// The class of the first rule that the header breaks, or 0.
 fn header(table: &[u8]) -> usize
     ensures { λ r. ⌜ faultAt 0 r ≡ headerRules (now (table .entry)) ⌝ }
 {
-    if table.len() < 12 {
+    if table.len() < table::types_at(table) {
         return 31;
     }
     if !is_marked(table) {
@@ -55,7 +55,7 @@ fn header(table: &[u8]) -> usize
     if wire::byte_at(table, 11) != 0 {
         return 31;
     }
-    if table.len() != 12 + 12 * t + 8 * m + n {
+    if table.len() != table::names_at(table) + n {
         return 31;
     }
     0
@@ -94,9 +94,9 @@ fn is_set_from_a(row: TypeRow) -> bool
     is_set_from_b(row)
 }
 
-// A field that the row's kind does not use is not 0.
-fn is_unused_set(row: TypeRow) -> bool
-    ensures { λ r. ⌜ r ≡ isSetFrom row (used (row .kind)) ⌝ }
+// A field that the row's kind does not use in this table is not 0.
+fn is_unused_set(table: &[u8], row: TypeRow) -> bool
+    ensures { λ r. ⌜ r ≡ isSetFrom row (used (now (table .entry)) (row .kind)) ⌝ }
 {
     let k = row.kind;
     if k < 8 {
@@ -120,9 +120,9 @@ fn is_unused_set(row: TypeRow) -> bool
     false
 }
 
-// Row r is no row below t of kinds 0..12; the rows below t lie inside.
+// Row r cannot be a part of row t: it is not below t, or not of kinds 0 to 12. The rows below t lie inside the table.
 fn no_part(table: &[u8], t: usize, r: usize) -> bool
-    requires { ⌜ 12 + 12 * t ≤ length (now table) ⌝ }
+    requires { ⌜ rowAt (now table) t ≤ length (now table) ⌝ }
     ensures { λ b. ⌜ b ≡ noPart (now (table .entry)) t r ⌝ }
 {
     if t <= r {
@@ -131,9 +131,9 @@ fn no_part(table: &[u8], t: usize, r: usize) -> bool
     12 < table::kind_in(table, r)
 }
 
-// Row b - 1 is no base of row t of kind k: not smaller, or of another kind.
+// Row b - 1 cannot be the base of row t of kind k: it is not below t, or of another kind. With b = 0 there is no base to judge.
 fn no_base(table: &[u8], t: usize, k: usize, b: usize) -> bool
-    requires { ⌜ 12 + 12 * t ≤ length (now table) ⌝ }
+    requires { ⌜ rowAt (now table) t ≤ length (now table) ⌝ }
     ensures { λ r. ⌜ r ≡ noBaseOf (now (table .entry)) t k b ⌝ }
 {
     if b == 0 {
@@ -145,9 +145,9 @@ fn no_base(table: &[u8], t: usize, k: usize, b: usize) -> bool
     table::kind_in(table, b - 1) != k
 }
 
-// A record from row `from` on and before row t has this name. A name longer than a row says is another, whatever its bytes.
+// A record among rows `from` to t - 1 has this name. Names of different lengths differ, so a row with a shorter name is passed without a look at its bytes.
 fn is_name_before(table: &[u8], name: &[u8], from: usize, t: usize) -> bool
-    requires { ⌜ 12 + 12 * t ≤ length (now table) ⌝ }
+    requires { ⌜ rowAt (now table) t ≤ length (now table) ⌝ }
     ensures { λ r. ⌜ r ≡ any (isNamed (now (table .entry)) (now (name .entry))) (range from (t - from)) ⌝ }
 {
     let mut r = from;
@@ -165,9 +165,9 @@ fn is_name_before(table: &[u8], name: &[u8], from: usize, t: usize) -> bool
     false
 }
 
-// The name of row t is that of a record from row `from` on and before it.
+// A record among rows `from` to t - 1 has the name of row t.
 fn alike(table: &[u8], from: usize, t: usize) -> bool
-    requires { ⌜ 12 + 12 * t ≤ length (now table) ⌝ }
+    requires { ⌜ rowAt (now table) t ≤ length (now table) ⌝ }
     ensures { λ r. ⌜ r ≡ alikeFrom (now (table .entry)) from t ⌝ }
 {
     let a = table::naming::name_start(table, t);
@@ -175,18 +175,18 @@ fn alike(table: &[u8], from: usize, t: usize) -> bool
     is_name_before(table, &table[a..e], from, t)
 }
 
-// An enum's own rule.
+// The rule of an enum.
 fn enum_row(row: TypeRow) -> usize
     requires { ⌜ (row .a < 65536) × (row .b < 65536) ⌝ }
     ensures { λ r. ⌜ r ≡ firstOf (enumRules row) ⌝ }
 {
-    if 2147483648 <= row.a + 65536 * row.b {
+    if 2147483648 <= table::greatest(row) {
         return 38;
     }
     0
 }
 
-// A struct's own rules, where the rows before it take `prior` member rows.
+// The rules of a struct; the rows before it take `prior` member rows.
 fn struct_row(row: TypeRow, prior: usize) -> usize
     ensures { λ r. ⌜ r ≡ firstOf (structRules row prior) ⌝ }
 {
@@ -199,9 +199,9 @@ fn struct_row(row: TypeRow, prior: usize) -> usize
     0
 }
 
-// The own rule of a sequence, row t.
+// The rule of a sequence, row t.
 fn seq_row(table: &[u8], t: usize, row: TypeRow) -> usize
-    requires { ⌜ 12 + 12 * t ≤ length (now table) ⌝ }
+    requires { ⌜ rowAt (now table) t ≤ length (now table) ⌝ }
     ensures { λ r. ⌜ r ≡ firstOf (seqRules (now (table .entry)) t row) ⌝ }
 {
     if no_part(table, t, row.a) {
@@ -210,9 +210,9 @@ fn seq_row(table: &[u8], t: usize, row: TypeRow) -> usize
     0
 }
 
-// The own rules of a dictionary, row t.
+// The rules of a dictionary, row t.
 fn dict_row(table: &[u8], t: usize, row: TypeRow) -> usize
-    requires { ⌜ 12 + 12 * t ≤ length (now table) ⌝ }
+    requires { ⌜ rowAt (now table) t ≤ length (now table) ⌝ }
     ensures { λ r. ⌜ r ≡ firstOf (dictRules (now (table .entry)) t row) ⌝ }
 {
     if no_part(table, t, row.a) {
@@ -224,9 +224,9 @@ fn dict_row(table: &[u8], t: usize, row: TypeRow) -> usize
     0
 }
 
-// The own rules of an exception or a class, row t; its name is looked for from row `from` on.
+// The rules of an exception or a class, row t; its name is compared with those of records from row `from` on.
 fn record_row(table: &[u8], t: usize, row: TypeRow, prior: usize, from: usize) -> usize
-    requires { ⌜ 12 + 12 * t ≤ length (now table) ⌝ }
+    requires { ⌜ rowAt (now table) t ≤ length (now table) ⌝ }
     requires { ⌜ row .d < 65536 ⌝ }
     ensures { λ r. ⌜ r ≡ firstOf (recordRules (now (table .entry)) t row prior (alikeFrom (now (table .entry)) from t)) ⌝ }
 {
@@ -251,7 +251,7 @@ fn record_row(table: &[u8], t: usize, row: TypeRow, prior: usize, from: usize) -
     0
 }
 
-// A parameter list's own rule.
+// The rule of a parameter list.
 fn list_row(row: TypeRow, prior: usize) -> usize
     ensures { λ r. ⌜ r ≡ firstOf (listRules row prior) ⌝ }
 {
@@ -261,9 +261,9 @@ fn list_row(row: TypeRow, prior: usize) -> usize
     0
 }
 
-// The rules of row t that its kind has.
+// The rules that the kind of row t has.
 fn kind_row(table: &[u8], t: usize, row: TypeRow, prior: usize, from: usize) -> usize
-    requires { ⌜ 12 + 12 * t ≤ length (now table) ⌝ }
+    requires { ⌜ rowAt (now table) t ≤ length (now table) ⌝ }
     requires { ⌜ (row .a < 65536) × (row .b < 65536) × (row .d < 65536) ⌝ }
     ensures { λ r. ⌜ r ≡ firstOf (kindRules (now (table .entry)) t row prior (alikeFrom (now (table .entry)) from t)) ⌝ }
 {
@@ -289,16 +289,16 @@ fn kind_row(table: &[u8], t: usize, row: TypeRow, prior: usize, from: usize) -> 
     0
 }
 
-// The class of type row t, or 0.
+// The class of the first rule that type row t breaks, or 0.
 fn type_class(table: &[u8], t: usize, row: TypeRow, prior: usize, from: usize) -> usize
-    requires { ⌜ 12 + 12 * t ≤ length (now table) ⌝ }
+    requires { ⌜ rowAt (now table) t ≤ length (now table) ⌝ }
     requires { ⌜ (row .a < 65536) × (row .b < 65536) × (row .d < 65536) ⌝ }
     ensures { λ r. ⌜ r ≡ firstOf (rowRules (now (table .entry)) t row prior (alikeFrom (now (table .entry)) from t)) ⌝ }
 {
     if row.spare != 0 {
         return 32;
     }
-    if is_unused_set(row) {
+    if is_unused_set(table, row) {
         return 32;
     }
     if 15 < row.kind {
@@ -319,11 +319,11 @@ fn share(row: TypeRow) -> usize
 
 // Type row t is basic: its kind is below 8 and every other byte is 0.
 fn is_basic(table: &[u8], t: usize) -> bool
-    requires { ⌜ 24 + 12 * t ≤ length (now table) ⌝ }
+    requires { ⌜ rowAt (now table) (t + 1) ≤ length (now table) ⌝ }
     ensures { λ r. ⌜ r ≡ isBasic (now (table .entry)) t ⌝ }
 {
-    let start = 12 + 12 * t;
-    let end = start + 12;
+    let start = table::row_at(table, t);
+    let end = table::row_at(table, t + 1);
     let row = &table[start..end];
     if wire::int_at(row, 0) < 8 {
         return wire::long_at(row, 4) == 0;
@@ -331,7 +331,7 @@ fn is_basic(table: &[u8], t: usize) -> bool
     false
 }
 
-// `from`, before which no row is a record, once row t is passed: where it stands at t and t is plain, that is no record, it moves on.
+// Advances `from`, the first row that may be a record, past row t if it is t and t is plain, that is, no record.
 fn past(from: usize, t: usize, plain: bool) -> usize
     requires { ⌜ t < 65536 ⌝ }
     ensures { λ r. ⌜ r ≡ past from t plain ⌝ }
@@ -347,7 +347,7 @@ fn past(from: usize, t: usize, plain: bool) -> usize
 // The pass over the n type rows, then the member sum. A basic row breaks no rule and takes no member rows. No row before `from` is a record.
 fn type_rows(table: &[u8], n: usize) -> Verdict
     requires { ⌜ n ≡ types (now table) ⌝ }
-    requires { ⌜ 12 + 12 * n ≤ length (now table) ⌝ }
+    requires { ⌜ rowAt (now table) n ≤ length (now table) ⌝ }
     ensures { λ r. ⌜ r ≡ verdictOf (orElse (typePass (now (table .entry))) (sumRules (now (table .entry)))) ⌝ }
 {
     let mut prior = 0;
@@ -362,7 +362,7 @@ fn type_rows(table: &[u8], n: usize) -> Verdict
         let row = table::type_row_in(table, t);
         let c = type_class(table, t, row, prior, from);
         if c != 0 {
-            return Verdict::Broken(c, 12 + 12 * t);
+            return Verdict::Broken(c, table::row_at(table, t));
         }
         prior += share(row);
         from = past(from, t, !table::is_record(row.kind));
@@ -385,7 +385,7 @@ fn is_optional_of(table: &[u8], i: usize, tag: usize) -> bool
     false
 }
 
-// A member row from `first` on and before m is optional and has this tag.
+// A member row among `first` to m - 1 is optional and has this tag.
 fn is_tag_before(table: &[u8], first: usize, m: usize, tag: usize) -> bool
     ensures { λ r. ⌜ r ≡ isTagBefore (now (table .entry)) first m tag ⌝ }
 {
@@ -399,7 +399,7 @@ fn is_tag_before(table: &[u8], first: usize, m: usize, tag: usize) -> bool
     false
 }
 
-// The same, of a tag below `above`. Where every tag before is below it, no other can be alike: rising tags are not looked for.
+// The same, if every tag of these rows is below `above`: a tag that is not below it is new, so rising tags are not searched for.
 fn is_tag_alike(table: &[u8], first: usize, m: usize, above: usize, tag: usize) -> bool
     ensures { λ r. ⌜ r ≡ isTagAlike (now (table .entry)) first m above tag ⌝ }
 {
@@ -411,7 +411,7 @@ fn is_tag_alike(table: &[u8], first: usize, m: usize, above: usize, tag: usize) 
 
 // The rules of a required member of owner o.
 fn required_row(table: &[u8], o: usize, row: MemberRow) -> usize
-    requires { ⌜ 12 + 12 * o ≤ length (now table) ⌝ }
+    requires { ⌜ rowAt (now table) o ≤ length (now table) ⌝ }
     ensures { λ r. ⌜ r ≡ firstOf (requiredRules (now (table .entry)) o row) ⌝ }
 {
     if row.tag != 0 {
@@ -423,7 +423,7 @@ fn required_row(table: &[u8], o: usize, row: MemberRow) -> usize
     0
 }
 
-// The rules of member row m of owner o with another mark.
+// The rules of member row m of owner o if its mark is not 0.
 fn optional_row(
     table: &[u8],
     o: usize,
@@ -432,7 +432,7 @@ fn optional_row(
     row: MemberRow,
     above: usize,
 ) -> usize
-    requires { ⌜ 12 + 12 * o ≤ length (now table) ⌝ }
+    requires { ⌜ rowAt (now table) o ≤ length (now table) ⌝ }
     ensures { λ r. ⌜ r ≡ firstOf (optionalRules (now (table .entry)) o owner row (isTagAlike (now (table .entry)) (owner .a) m above (row .tag))) ⌝ }
 {
     if no_part(table, o, row.of) {
@@ -453,7 +453,7 @@ fn optional_row(
     0
 }
 
-// The class of member row m of owner o, or 0.
+// The class of the first rule that member row m of owner o breaks, or 0.
 fn member_class(
     table: &[u8],
     o: usize,
@@ -462,7 +462,7 @@ fn member_class(
     row: MemberRow,
     above: usize,
 ) -> usize
-    requires { ⌜ 12 + 12 * o ≤ length (now table) ⌝ }
+    requires { ⌜ rowAt (now table) o ≤ length (now table) ⌝ }
     ensures { λ r. ⌜ r ≡ firstOf (memberRulesBy (now (table .entry)) o owner row (isTagAlike (now (table .entry)) (owner .a) m above (row .tag))) ⌝ }
 {
     if row.spare != 0 {
@@ -474,7 +474,7 @@ fn member_class(
     optional_row(table, o, owner, m, row, above)
 }
 
-// Above the tags so far and this one.
+// The bound above the tags so far, raised above this tag too.
 fn raised(above: usize, tag: usize) -> usize
     requires { ⌜ tag < 4294967296 ⌝ }
     ensures { λ r. ⌜ r ≡ max above (tag + 1) ⌝ }
@@ -482,7 +482,7 @@ fn raised(above: usize, tag: usize) -> usize
     if above <= tag { tag + 1 } else { above }
 }
 
-// A member row, as one number, breaks no rule but perhaps that of its type: a required one with tag 0, or an optional one of no struct with a tag not below `above`.
+// A member row, given as one number, is usual: required with tag 0, or optional, in no struct, with a tag not below `above`. Of such a row only the type is left to judge.
 fn is_usual(x: usize, optional: bool, above: usize) -> bool
     ensures { λ r. ⌜ r ≡ isUsual x optional above ⌝ }
 {
@@ -502,15 +502,14 @@ fn is_usual(x: usize, optional: bool, above: usize) -> bool
     tag < 2147483648
 }
 
-// The member rows of owner o in a table of n type rows and k member rows, where they are all there: behind the member sum they are. The tags before m are below `above`.
-// Usual rows are passed as one number each; from the first other row on, each is read whole.
-fn owner(table: &[u8], o: usize, n: usize, k: usize) -> Verdict
-    requires { ⌜ 24 + 12 * o ≤ length (now table) ⌝ }
-    requires { ⌜ (n ≡ types (now table)) × (k ≡ members (now table)) ⌝ }
-    requires { ⌜ 12 + 12 * n + 8 * k ≤ length (now table) ⌝ }
+// The rules of the member rows of owner o, if they are all there, as they are once the member sum is right. The table has k member rows, from `first` on.
+// The first loop judges usual rows, each as one number; from the first other row on, the second loop judges each row rule by rule. The tags before row m are below `above`.
+fn owner(table: &[u8], o: usize, first: usize, k: usize) -> Verdict
+    requires { ⌜ rowAt (now table) (o + 1) ≤ length (now table) ⌝ }
+    requires { ⌜ (first ≡ membersAt (now table)) × (k ≡ members (now table)) ⌝ }
+    requires { ⌜ memberAt (now table) k ≤ length (now table) ⌝ }
     ensures { λ r. ⌜ (MembersThere (now (table .entry)) o → r ≡ verdictOf (ownerPass (now (table .entry)) o)) ⌝ }
 {
-    let start = 12 + 12 * n;
     let own = table::type_row_in(table, o);
     let mut left = share(own);
     if left == 0 {
@@ -523,22 +522,23 @@ fn owner(table: &[u8], o: usize, n: usize, k: usize) -> Verdict
     let mut above = 0;
     let optional = own.kind != 9;
     while left > 0 {
-        let x = wire::long_in(table, start + 8 * m);
+        let p = table::member_at(table, first, m);
+        let x = wire::long_in(table, p);
         if !is_usual(x, optional, above) {
             break;
         }
         if no_part(table, o, x % 65536) {
-            return Verdict::Broken(34, start + 8 * m);
+            return Verdict::Broken(34, p);
         }
         above = raised(above, x / 4294967296);
         m += 1;
         left -= 1;
     }
     while left > 0 {
-        let row = table::member_row_in(table, start + 8 * m);
+        let row = table::member_row_in(table, first, m);
         let c = member_class(table, o, own, m, row, above);
         if c != 0 {
-            return Verdict::Broken(c, start + 8 * m);
+            return Verdict::Broken(c, table::member_at(table, first, m));
         }
         above = raised(above, row.tag);
         m += 1;
@@ -547,15 +547,16 @@ fn owner(table: &[u8], o: usize, n: usize, k: usize) -> Verdict
     Verdict::Fine
 }
 
-// The pass over the k member rows, by each of the n type rows as owner, where those of each are all there.
+// The pass over the k member rows, owner by owner of the n type rows, if the member rows of each owner are all there.
 fn member_rows(table: &[u8], n: usize, k: usize) -> Verdict
     requires { ⌜ (n ≡ types (now table)) × (k ≡ members (now table)) ⌝ }
-    requires { ⌜ 12 + 12 * n + 8 * k ≤ length (now table) ⌝ }
+    requires { ⌜ memberAt (now table) k ≤ length (now table) ⌝ }
     ensures { λ r. ⌜ (OwnersThere (now (table .entry)) → r ≡ verdictOf (ownersPass (now (table .entry)) (range 0 (types (now (table .entry)))))) ⌝ }
 {
+    let first = table::row_at(table, n);
     let mut o = 0;
     while o < n {
-        let v = owner(table, o, n, k);
+        let v = owner(table, o, first, k);
         match v {
             Verdict::Fine => {}
             Verdict::Broken(c, p) => {

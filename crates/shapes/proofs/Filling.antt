@@ -22,9 +22,9 @@ use lib.Dec.{eqb, leb, ltb}
 use borrow.Author.Tests.{leb-true, leb-false, le-leb, lt-leb, lt-ltb, le-ltb, eq-eqb, ne-eqb, eqb-false}
 use Rattle.encoding.specs.Result.{pick}
 use Rattle.encoding.specs.Types.{Tys, struct, seq, dict, fixed, fixeds, single}
-use Rattle.encoding.specs.Table.{kind, field, members, memberType, range, memberTys, ownRows, tys, typeRows, tyOf}
+use Rattle.encoding.specs.Table.{kind, field, members, memberType, range, memberTys, ownRows, tys, partTy, typeRows, tyOf}
 use Rattle.encoding.specs.TableLaws.{rows-below, ty-past, below-ty, below-none, member-in, member-past, members-more, members-none, row-bool, row-byte, row-short, row-int, row-long, row-float, row-double, row-string, row-enum, row-struct, row-seq, row-dict, row-proxy, row-other}
-use Rattle.shapes.specs.Shapes.{narrow, widthOf, widthsFrom, structShape, shapeOf, plainShape, shapeAt, shapesOf, Shaped, partTy, formCode, widthCode, shapeIn, widthIn}
+use Rattle.shapes.specs.Shapes.{narrow, widthOf, widthsFrom, structShape, shapeOf, plainShape, shapeAt, shapesOf, Shaped, formCode, widthCode, shapeIn, widthIn}
 use Rattle.shapes.specs.ShapesLaws.{width-fixed, range-at, shape-width}
 use Rattle.table.proofs.ByKind.{by-kind}
 
@@ -117,7 +117,7 @@ module _ (T : List ℕ) (t : ℕ) (h : t < typeRows T) where
       (kind T t) refl
 
   fixed-shape : fixed (tyOf T t) ≡ fixedBy (shapeAt T t) (kind T t)
-  unfolding fixed shapeAt shapeOf
+  unfolding fixed shapeAt shapeOf partTy
   fixed-shape = by-kind (λ k. kind T t ≡ k → fixed (tyOf T t) ≡ fixedBy (shapeAt T t) k)
       (λ e. rw (row-bool T t h e)) (λ e. rw (row-byte T t h e)) (λ e. rw (row-short T t h e)) (λ e. rw (row-int T t h e))
       (λ e. rw (row-long T t h e)) (λ e. rw (row-float T t h e)) (λ e. rw (row-double T t h e)) (λ e. rw (row-string T t h e))
@@ -140,11 +140,12 @@ module _ (T : List ℕ) (t : ℕ) (h : t < typeRows T) where
 
 -- the test of row i as a part of row t
 pub fixed-none : (T : List ℕ) (t i : ℕ) → t ≤ i → false ≡ fixed (partTy T t i)
-unfolding fixed
+unfolding fixed partTy
 fixed-none T t i h = rw (below-none T t i h)
 
 module _ (T shapes : List ℕ) (t i : ℕ) (l : t ≤ typeRows T) (below : Shaped T shapes t) (h : i < t) where
   fixed-part : fixed (partTy T t i) ≡ fixedBy (getD shapes i 0) (kind T i)
+  unfolding partTy
   fixed-part = rw (below-ty T t i l h, below .below i h) (fixed-shape T i (omega arith))
 
   pub fixed-wide : 10 < getD shapes i 0 → true ≡ fixed (partTy T t i)
@@ -184,7 +185,7 @@ module _ (T : List ℕ) (t m left : ℕ) (inv : Members T t m left) where
 
     module _ (l : m < n) (i : ℕ) (ei : i ≡ memberType T m) (r : Bool) (er : r ≡ fixed (partTy T t i)) where
       member-fixed : (b : Bool) → r ≡ b → fixeds (memberTys T (tys T t) (ownRows T t)) ≡ b && fixeds (memberTys T (tys T t) (range (m + 1) (left - 1)))
-      unfolding fixeds
+      unfolding fixeds partTy
       member-fixed b q = inv .1 ∙ rw (members-more T (tys T t) m left h, member-in T m (tys T t) (rw e at l), ← ei, ← er, q)
 
       pub members-not : r ≡ false → false ≡ fixeds (memberTys T (tys T t) (ownRows T t))
@@ -197,7 +198,7 @@ module _ (T : List ℕ) (t m left : ℕ) (inv : Members T t m left) where
 
 -- the width of row i as a part of row t
 width-part : (T shapes : List ℕ) (t i r : ℕ) → t ≤ typeRows T → Shaped T shapes t → r ≡ pick (leb t i) 0 (widthIn shapes i) → r ≡ widthOf (partTy T t i)
-unfolding widthOf shapeAt
+unfolding widthOf shapeAt partTy
 width-part T shapes t i r l below e = e ∙ go (leb t i) refl
   where
     go : (b : Bool) → leb t i ≡ b → pick b 0 (widthIn shapes i) ≡ widthOf (partTy T t i)
@@ -239,7 +240,7 @@ module _ (T : List ℕ) (t m left sum : ℕ) (inv : Widths T t m left sum) where
     module _ (l : m < n) (shapes : List ℕ) (below : Shaped T shapes t) (few : t ≤ typeRows T) (i : ℕ) (ei : i ≡ memberType T m)
         (r : ℕ) (er : r ≡ pick (leb t i) 0 (widthIn shapes i)) where
       member-width : widthsFrom sum (memberTys T (tys T t) (range m left)) ≡ pick (eqb r 0) 0 (widthsFrom (sum + r) (memberTys T (tys T t) (range (m + 1) (left - 1))))
-      unfolding widthsFrom
+      unfolding widthsFrom partTy
       member-width = rw (members-more T (tys T t) m left h, member-in T m (tys T t) (rw e at l), ← ei, ← width-part T shapes t i r few below er)
 
       pub widths-not : r ≡ 0 → 0 ≡ widthOf (struct (memberTys T (tys T t) (ownRows T t)))
@@ -261,11 +262,12 @@ module _ (ts : Tys) (w : ℕ) (e : w ≡ widthOf (struct ts)) where
 
 module _ (T : List ℕ) (t i : ℕ) (l : t ≤ typeRows T) (ei : i ≡ field T t 0) where
   pub seq-broken : t ≤ i → 10 ≡ shapeOf (seq (partTy T t (field T t 0)))
-  unfolding shapeOf single fixed
+  unfolding shapeOf single fixed partTy
   seq-broken h = rw (← ei, below-none T t i h)
 
   module _ (h : i < t) (k : ℕ) (ek : k ≡ kind T i) where
     single-part : single (partTy T t (field T t 0)) ≡ leb k 1
+    unfolding partTy
     single-part = rw (← ei, below-ty T t i l h, ek) (single-kind T i (omega arith))
 
     pub seq-single : k ≤ 1 → 7 ≡ shapeOf (seq (partTy T t (field T t 0)))
@@ -296,11 +298,11 @@ module _ (T : List ℕ) (t : ℕ) (h : t < typeRows T) (k : ℕ) (ek : k ≡ kin
   row-of-struct e r er = er ∙ sym (rw (row-struct T t h (sym ek ∙ e)))
 
   pub row-of-seq : k ≡ 10 → (r : ℕ) → r ≡ shapeOf (seq (partTy T t (field T t 0))) → r ≡ shapeAt T t
-  unfolding shapeAt
+  unfolding shapeAt partTy
   row-of-seq e r er = er ∙ sym (rw (row-seq T t h (sym ek ∙ e)))
 
   pub row-of-dict : k ≡ 11 → (r : ℕ) → r ≡ shapeOf (dict (partTy T t (field T t 0)) (partTy T t (field T t 1))) → r ≡ shapeAt T t
-  unfolding shapeAt
+  unfolding shapeAt partTy
   row-of-dict e r er = er ∙ sym (rw (row-dict T t h (sym ek ∙ e)))
 
   pub row-of-none : (k ≡ 9 → ⊥) → (k ≡ 10 → ⊥) → (k ≡ 11 → ⊥) → (r : ℕ) → r ≡ plainShape k → r ≡ shapeAt T t

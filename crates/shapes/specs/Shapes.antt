@@ -2,7 +2,7 @@
 --
 --   formNumber f         a form's number: of a bare one its type's bits, 8 own, 9 counted, 10 sized
 --   narrow n             n where it is at most 237, else 0
---   widthOf ty           how many bytes a value of the type has, where any so many bytes are one and they are at most 237; else 0
+--   widthOf ty           a type's width: every string of so many bytes is a value of it; 0 if it has none of at most 237
 --   widthsFrom n ts      the widths of a struct's members, added to n; 0 where one of them has none
 --   structShape w b      the shape of a struct of width w: 18 + w; without a width that of a container, by whether it is fixed-size
 --   shapeOf ty           the shape of a type: 0 bool, 4 enum, 7 sequence of bool or byte, 8 string, 9 other containers and structs of fixed-size parts,
@@ -10,12 +10,11 @@
 --   plainShape k         the shape of a row without parts, by its kind
 --   shapeAt t, shapesOf  the shape of row t; those of the rows 0 to 255
 --   Shaped l t           the array l has the shapes of the rows below t
---   formCode, widthCode  the number of the form, and the width, that a shape stands for
+--   formCode, widthCode  the number of the form, and the width, that a shape says
 --   shapeIn l t          the shape that the array l has for row t; that of a broken type past its end
 --   formIn, widthIn      its form's number, its width
---   widthBelow l t i     the width of row i as row t may refer to it: 0 where i is not below
+--   widthBelow l t i     the width of row i as a part of row t: 0 unless i is below t
 --   isTextIn, isBoolIn, isEnumIn   whether it is a string's, a bool's, an enum's
---   partTy t i           the tree of row i as row t may refer to it: broken where i is not below
 use Prim.Native.Nat.{ℕ, _+_, _-_, _/_, _<_}
 use mathlib.Core.Path.{_≡_}
 use mathlib.Core.Bool.{Bool, _&&_}
@@ -24,7 +23,7 @@ use lib.ListN.{getD}
 use lib.Dec.{eqb, leb, ltb}
 use Rattle.encoding.specs.Result.{pick}
 use Rattle.encoding.specs.Types.{width, Ty, Tys, nil, cons, broken, bool, byte, string, proxy, num, enum, struct, seq, dict, fixed, fixeds, single, Form, bare, own, counted, sized, bits}
-use Rattle.encoding.specs.Table.{range, tys, tyOf}
+use Rattle.encoding.specs.Table.{range, tyOf}
 
 unfoldable pub formNumber : Form → ℕ
 formNumber (bare k) = bits k
@@ -82,9 +81,6 @@ shapesOf T = map (shapeAt T) (range 0 256)
 
 pub record Shaped (T shapes : List ℕ) (t : ℕ) : Type 0 where
   pub below : (i : ℕ) → i < t → getD shapes i 0 ≡ shapeAt T i
-
-abbrev pub partTy : List ℕ → ℕ → ℕ → Ty
-partTy T t i = getD (tys T t) i broken
 
 -- ---- what a shape says
 

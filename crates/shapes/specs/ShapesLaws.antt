@@ -6,7 +6,7 @@
 --   shape-text, shape-bool, shape-enum   only a string has shape 8, only a bool 0, of all rows only an enum 4
 --   range-at        an element of a list made over a range
 --   form-row, width-row, text-row, bool-row, enum-row   the same of row t, from the array of all shapes
-use Prim.Native.Nat.{ℕ, zero, suc, _+_, _-_, _*_, _≤_, _<_}
+use Prim.Native.Nat.{ℕ, zero, suc, _+_, _-_, _≤_, _<_}
 use mathlib.Core.Path.{_≡_, refl, sym, ap, _∙_}
 use mathlib.Core.Bool.{Bool, true, false, _&&_, false≢true}
 use mathlib.Core.List.{List, [], _∷_, map}
@@ -14,12 +14,12 @@ use native.Mathlib.Nat.{add-zero}
 use native.Mathlib.Omega.{arith}
 use lib.ListN.{length, drop, getD, length-drop}
 use lib.Dec.{eqb, leb, ltb}
-use borrow.Author.Tests.{ne-eqb, leb-true, eqb-true, eqb-false, ltb-true, ltb-false, le-ltb}
+use borrow.Author.Tests.{ne-eqb, eqb-true, eqb-false, ltb-true, ltb-false, le-ltb}
 use Rattle.encoding.specs.Result.{ok, pick, skip, pure}
 use Rattle.encoding.specs.ResultLaws.{bind-step, chunk-step}
-use Rattle.encoding.specs.Types.{upto, short, int, long, float, double, Ty, Tys, nil, cons, broken, bool, byte, string, proxy, num, enum, struct, seq, dict, fixed, fixeds, single, Form, counted, sized, formOf}
+use Rattle.encoding.specs.Types.{short, int, long, float, double, Ty, Tys, nil, cons, broken, bool, byte, string, proxy, num, enum, struct, seq, dict, fixed, fixeds, single, Form, counted, sized, formOf}
 use Rattle.encoding.specs.Value.{value, values}
-use Rattle.encoding.specs.Table.{types, kind, field, range, memberTys, ownRows, rowTy, tys, typeRows, tyOf}
+use Rattle.encoding.specs.Table.{kind, field, allowed, range, memberTys, ownRows, rowTy, tys, typeRows, tyOf}
 use Rattle.encoding.specs.TableLaws.{rows-below, ty-row, ty-past}
 use Rattle.shapes.specs.Shapes.{formNumber, narrow, widthOf, widthsFrom, shapeOf, shapeAt, shapesOf, formCode, widthCode, shapeIn, formIn, widthIn, isTextIn, isBoolIn, isEnumIn}
 
@@ -230,7 +230,7 @@ plain-shape (suc (suc (suc (suc (suc (suc zero)))))) h = omega arith
 plain-shape (suc (suc (suc (suc (suc (suc (suc zero))))))) h = omega arith
 plain-shape (suc (suc (suc (suc (suc (suc (suc (suc k)))))))) h = omega arith
 
-pub shape-enum : (T : List ℕ) (l : List Ty) (t : ℕ) → shapeOf (rowTy T l t) ≡ 4 → rowTy T l t ≡ enum (upto (field T t 0 + 65536 * field T t 1))
+pub shape-enum : (T : List ℕ) (l : List Ty) (t : ℕ) → shapeOf (rowTy T l t) ≡ 4 → rowTy T l t ≡ enum (allowed T t)
 unfolding shapeOf rowTy
 shape-enum T l t = go (eqb (kind T t) 8) (eqb (kind T t) 9) (eqb (kind T t) 10) (eqb (kind T t) 11) (eqb (kind T t) 12)
   where
@@ -246,8 +246,8 @@ shape-enum T l t = go (eqb (kind T t) 8) (eqb (kind T t) 9) (eqb (kind T t) 10) 
     rest : Bool → Bool → Bool → Bool → Ty
     rest s q d p = pick s (struct (memberTys T l (ownRows T t))) (pick q (seq a) (pick d (dict a b) (pick p proxy plain)))
 
-    go : (e s q d p : Bool) → shapeOf (pick e (enum (upto (field T t 0 + 65536 * field T t 1))) (rest s q d p)) ≡ 4
-        → pick e (enum (upto (field T t 0 + 65536 * field T t 1))) (rest s q d p) ≡ enum (upto (field T t 0 + 65536 * field T t 1))
+    go : (e s q d p : Bool) → shapeOf (pick e (enum (allowed T t)) (rest s q d p)) ≡ 4
+        → pick e (enum (allowed T t)) (rest s q d p) ≡ enum (allowed T t)
     go true s q d p h = refl
     go false true q d p h = absurd (omega (arith, struct-shape (memberTys T l (ownRows T t))))
     go false false true d p h = absurd (omega (arith, seq-shape a .0))
@@ -289,10 +289,10 @@ module _ (T : List ℕ) (t : ℕ) where
     pub bool-row : isBoolIn shapes t ≡ true → tyOf T t ≡ bool
     bool-row h = shape-bool (tyOf T t) (shape-found 0 h)
 
-    pub enum-row : isEnumIn shapes t ≡ true → tyOf T t ≡ enum (upto (field T t 0 + 65536 * field T t 1))
+    pub enum-row : isEnumIn shapes t ≡ true → tyOf T t ≡ enum (allowed T t)
     unfolding shapeOf
     enum-row h = go (ltb t (typeRows T)) refl
       where
-        go : (b : Bool) → ltb t (typeRows T) ≡ b → tyOf T t ≡ enum (upto (field T t 0 + 65536 * field T t 1))
+        go : (b : Bool) → ltb t (typeRows T) ≡ b → tyOf T t ≡ enum (allowed T t)
         go true q = let r = ty-row T t (ltb-true _ _ q) in r ∙ shape-enum T (tys T t) t (sym (ap shapeOf r) ∙ shape-found 4 h)
         go false q = absurd (let z = sym (shape-found 4 h) ∙ ap shapeOf (ty-past T t (ltb-false _ _ q)) in omega arith)

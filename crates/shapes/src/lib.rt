@@ -1,13 +1,13 @@
-// The shape of each row, computed row by row: each row's from the shapes of the rows below it, so that no tree is walked.
-// A shape is a number that says the form of an optional of the row's type and, where any so many bytes are a value of it, how many.
+// The shape of each row, computed from the shapes of the rows below it, so that no type tree is walked.
+// A shape is a number that says two things of the row's type: the form of an optional and, if every string of n bytes is a value, that n, the width.
 ghost use mathlib.Core.Path.{_≡_};
 ghost use Prim.Native.Nat.{_≤_, _<_};
 ghost use Rattle.encoding.specs.Result.{pick};
 ghost use Rattle.encoding.specs.Types.{fixed, fixeds, struct, seq, dict};
-ghost use Rattle.encoding.specs.Table.{field, memberTys, ownRows, tys, typeRows};
-ghost use Rattle.shapes.specs.Shapes.{widthOf, plainShape, shapeOf, shapeAt, shapesOf, Shaped, partTy, formCode, widthCode, shapeIn, formIn, widthIn, widthBelow, isTextIn, isBoolIn, isEnumIn};
+ghost use Rattle.encoding.specs.Table.{field, memberTys, ownRows, tys, partTy, typeRows};
+ghost use Rattle.shapes.specs.Shapes.{widthOf, plainShape, shapeOf, shapeAt, shapesOf, Shaped, formCode, widthCode, shapeIn, formIn, widthIn, widthBelow, isTextIn, isBoolIn, isEnumIn};
 
-// The number of the form that a shape stands for.
+// The number of the optional's form that a shape says.
 fn form_code(x: usize) -> usize
     ensures { λ r. ⌜ r ≡ formCode x ⌝ }
 {
@@ -20,7 +20,7 @@ fn form_code(x: usize) -> usize
     if x == 18 { 3 } else { 9 }
 }
 
-// The width that a shape stands for, or 0.
+// The width that a shape says, or 0 if it has none.
 fn width_code(x: usize) -> usize
     ensures { λ r. ⌜ (r ≡ widthCode x) × (r ≤ x) ⌝ }
 {
@@ -30,7 +30,7 @@ fn width_code(x: usize) -> usize
     if x < 19 { x - 10 } else { x - 18 }
 }
 
-// The shape of row t; past the array that of a broken type.
+// The shape of row t; a row past the array is broken.
 fn shape(shapes: &[u8; 256], t: usize) -> usize
     ensures { λ r. ⌜ (r ≡ shapeIn (now (shapes .entry)) t) × (r < 256) ⌝ }
 {
@@ -47,7 +47,7 @@ pub fn form(shapes: &[u8; 256], t: usize) -> usize
     form_code(shape(shapes, t))
 }
 
-// How many bytes a value of row t has, where any so many bytes are one; else 0.
+// The width of row t: every string of so many bytes is a value of it; or 0.
 pub fn width(shapes: &[u8; 256], t: usize) -> usize
     ensures { λ r. ⌜ (r ≡ widthIn (now (shapes .entry)) t) × (r < 256) ⌝ }
 {
@@ -75,7 +75,7 @@ pub fn is_enum(shapes: &[u8; 256], t: usize) -> bool
     shape(shapes, t) == 4
 }
 
-// Row i lies below t and is fixed-size.
+// Row i is below t and fixed-size.
 fn is_fixed(table: &[u8], shapes: &[u8; 256], t: usize, i: usize) -> bool
     requires { ⌜ t ≤ typeRows (now table) ⌝ }
     requires { ⌜ Shaped (now table) (now shapes) t ⌝ }
@@ -110,7 +110,7 @@ fn are_fixed(table: &[u8], shapes: &[u8; 256], t: usize) -> bool
         if count <= m {
             return false;
         }
-        if !is_fixed(table, shapes, t, table::member_type(table, m)) {
+        if !is_fixed(table, shapes, t, table::member_row(table, m).of) {
             return false;
         }
         m += 1;
@@ -119,7 +119,7 @@ fn are_fixed(table: &[u8], shapes: &[u8; 256], t: usize) -> bool
     true
 }
 
-// The width of row i, if it lies below t; else 0.
+// The width of row i if it is below t, else 0.
 pub fn width_below(shapes: &[u8; 256], t: usize, i: usize) -> usize
     ensures { λ r. ⌜ (r ≡ widthBelow (now (shapes .entry)) t i) × (r < 256) ⌝ }
 {
@@ -129,7 +129,7 @@ pub fn width_below(shapes: &[u8; 256], t: usize, i: usize) -> usize
     0
 }
 
-// How many bytes a value of struct row t has, where any so many bytes are one and they are at most 237; else 0.
+// The width of struct row t if it has one of at most 237, else 0: shapes fit a byte.
 fn struct_width(table: &[u8], shapes: &[u8; 256], t: usize) -> usize
     requires { ⌜ t ≤ typeRows (now table) ⌝ }
     requires { ⌜ Shaped (now table) (now shapes) t ⌝ }
@@ -189,7 +189,7 @@ fn plain(k: usize) -> u8
     }
 }
 
-// A container, or a struct without a width: behind a VSize if its parts are fixed-size, else behind an FSize.
+// The shape of a container, or of a struct without a width: 9 (an optional after a VSize) if its parts are fixed-size, else 10 (after an FSize).
 fn counted(fixed: bool) -> u8
     ensures { λ r. ⌜ r ≡ pick fixed 9 10 ⌝ }
 {
@@ -224,7 +224,7 @@ fn dict_shape(table: &[u8], shapes: &[u8; 256], t: usize) -> u8
     counted(is_fixed(table, shapes, t, table::field(table, t, 1)))
 }
 
-// The shape of row t, where the rows below it have theirs.
+// The shape of row t; the array has those of the rows below it.
 fn row_shape(table: &[u8], shapes: &[u8; 256], t: usize) -> u8
     requires { ⌜ t < typeRows (now table) ⌝ }
     requires { ⌜ Shaped (now table) (now shapes) t ⌝ }
@@ -243,7 +243,7 @@ fn row_shape(table: &[u8], shapes: &[u8; 256], t: usize) -> u8
     plain(k)
 }
 
-// Sets the shape of each row; rows that the table has not stand as broken ones.
+// Sets the shape of each row; rows that the table does not have are broken.
 pub fn fill(table: &[u8], shapes: &mut [u8; 256])
     ensures { λ _. ⌜ now (shapes .exit) ≡ shapesOf (now (table .entry)) ⌝ }
 {

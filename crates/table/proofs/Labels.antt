@@ -5,7 +5,7 @@
 --   named-part                 the part of the table that is compared is the name
 --   record-named ..            a row is a record of a name
 --   Naming, naming-..          the loop that looks for the record of a name
-use Prim.Native.Nat.{ℕ, zero, suc, _+_, _-_, _*_, _≤_, _<_, min}
+use Prim.Native.Nat.{ℕ, zero, suc, _+_, _-_, _≤_, _<_, min}
 use mathlib.Core.Path.{_≡_, refl, sym, ap, _∙_}
 use mathlib.Core.Bool.{Bool, true, false, _&&_}
 use mathlib.Core.List.{List}
@@ -18,7 +18,7 @@ use lib.Dec.{eqb, leb}
 use borrow.Author.Tests.{leb-true, leb-false, eqb-true, eqb-false, eq-eqb}
 use Rattle.encoding.specs.Result.{pick, sameBytes}
 use Rattle.encoding.specs.ResultLaws.{sameBytes-ok}
-use Rattle.encoding.specs.Table.{at, types, members, typesAt, rowAt, membersAt, memberAt, namesAt, kind, field, isRecord, nameOf, range, search as find, named}
+use Rattle.encoding.specs.Table.{at, types, namesAt, kind, field, isRecord, nameOf, range, search as find, named}
 use Rattle.wire.specs.At.{at-more}
 use Rattle.table.specs.Names.{nameStart, isNamed}
 use Rattle.table.specs.NamesLaws.{name-part, length-name}
@@ -105,22 +105,22 @@ module _ (T : List ℕ) (t : ℕ) where
     pub name-cut : length T - a < n → length T - a ≡ length (nameOf T t)
     name-cut h = omega (arith, length-name T t)
 
-  module _ (n m f : ℕ) (en : n ≡ types T) (em : m ≡ members T) (ef : f ≡ field T t 3) where
-    name-least : (a : ℕ) → a ≡ min (12 + 12 * n + 8 * m + f) (length T) → a ≡ nameStart T t
-    unfolding nameStart namesAt memberAt membersAt rowAt typesAt
-    name-least a h = go (leb (12 + 12 * types T + 8 * members T + field T t 3) (length T)) refl
+  module _ (p f : ℕ) (ep : p ≡ namesAt T) (ef : f ≡ field T t 3) where
+    name-least : (a : ℕ) → a ≡ min (p + f) (length T) → a ≡ nameStart T t
+    unfolding nameStart
+    name-least a h = go (leb (namesAt T + field T t 3) (length T)) refl
       where
-        go : (b : Bool) → leb (12 + 12 * types T + 8 * members T + field T t 3) (length T) ≡ b → a ≡ pick b (12 + 12 * types T + 8 * members T + field T t 3) (length T)
+        go : (b : Bool) → leb (namesAt T + field T t 3) (length T) ≡ b → a ≡ pick b (namesAt T + field T t 3) (length T)
         go true e = omega (arith, leb-true)
         go false e = omega (arith, leb-false)
 
-    pub name-here : 12 + 12 * n + 8 * m + f ≤ length T → 12 + 12 * n + 8 * m + f ≡ nameStart T t
+    pub name-here : p + f ≤ length T → p + f ≡ nameStart T t
     name-here h = name-least _ (omega arith)
 
-    pub name-past : length T < 12 + 12 * n + 8 * m + f → length T ≡ nameStart T t
+    pub name-past : length T < p + f → length T ≡ nameStart T t
     name-past h = name-least _ (omega arith)
 
-    pub named-part : (nm : List ℕ) (a k l : ℕ) (r : Bool) → a ≡ min (12 + 12 * n + 8 * m + f) (length T) → k ≡ field T t 4 → l ≡ min k (length T - a)
+    pub named-part : (nm : List ℕ) (a k l : ℕ) (r : Bool) → a ≡ min (p + f) (length T) → k ≡ field T t 4 → l ≡ min k (length T - a)
         → r ≡ sameBytes nm (take (a + l - a) (drop a T)) → r ≡ sameBytes nm (nameOf T t)
     named-part nm a k l r s ek e h =
         let b : a ≡ nameStart T t = name-least a s in

@@ -1,57 +1,61 @@
--- What stands at a place of the table, read from the part that begins at a row. Assumes nothing.
+-- Where rows begin, and what the bytes of a row say, read at their place or from a part that shows the row. Assumes nothing.
 --
---   row-here, row-past                              where a type row begins, or the table's end for a row past it
---   member-here, member-short, member-far           the same of a member row
---   Shows                                           the first bytes of a part are those of the table from a place on
---   rest-shows, row-shows                           the part from a place to the end; a type row's own bytes
---   place-first, place-next                         a number of the 8 bytes at a place, the first or a later one
---   kind-direct, kind-byte, field-direct            a kind, a field read at its place
---   kind-is .. tag-is                               a field of a row, read from a part that shows the row
---   field-past                                      a field past the table's end
---   members-begin-at                                where the member rows begin
---   member-placed                                   what is read at a member row's place is the member row
---   rows-few, rows-many                             how many rows have a tree
---   member-row, no-member                           the row of a member's type
+--   types-begin                            the header's length
+--   row-fits, row-near                     the place of a row below 65,536 is a small number
+--   row-past, member-past                  a row that begins past the table's end
+--   begins-here                            two names of one place
+--   Shows, rest-shows                      the first bytes of a part are those of the table from a place on
+--   row-shows, member-shows                the part that is one row; row-rest-shows, member-rest-shows the part from a row on
+--   kind-direct, kind-byte, field-direct   a kind, a field read at its place
+--   kind-is .. field-within                a field of a type row, read from a part that shows the row; field-past past the table's end
+--   member-type-is .. tag-is               the same of a member row
+--   allows-is                              whether an enum row allows a number
+--   rows-few, rows-many                    how many rows have a tree
+--   member-row, no-member                  the row of a member's type
 use Prim.Native.Nat.{ℕ, _+_, _-_, _*_, _/_, _≤_, _<_}
-use mathlib.Core.Path.{_≡_, refl, sym, ap, _∙_}
+use mathlib.Core.Path.{_≡_, refl, sym, ap, ap₂, _∙_}
 use mathlib.Core.List.{List}
 use native.Mathlib.Nat.{add-zero}
 use native.Mathlib.Omega.{arith}
 use lib.ListN.{length, take, drop, getD, drop-of-length-le}
 use lib.Seq.{drop-drop}
+use lib.Dec.{leb}
 use borrow.Author.Tests.{le-leb, lt-leb}
-use Rattle.encoding.specs.Table.{at, types, members, typesAt, rowAt, membersAt, memberAt, kind, field, memberType, mark, tag, typeRows, trees, tyOf, memberTy}
-use Rattle.encoding.specs.TableLaws.{rows-below, ty-past, member-past, member-whole}
+use Rattle.encoding.specs.Types.{allows}
+use Rattle.encoding.specs.Table.{at, types, members, typesAt, rowAt, memberAt, fieldAt, kind, spare, field, memberType, mark, memberSpare, tag, greatest, allowed, typeRows, trees, tyOf, memberTy}
+use Rattle.encoding.specs.TableLaws.{header-most, rows-below, ty-past, member-past as member-none, member-whole}
 use Rattle.wire.specs.StepLaws.{rest-is}
 use Rattle.wire.specs.At.{at-byte, at-past, at-within}
-use Rattle.table.specs.Rows.{IsMemberAt, IsMemberRow}
-use Rattle.table.specs.declared.MemberRow.{MemberRow}
+use Rattle.table.specs.Rows.{IsTypeRow, greatestOf}
+use Rattle.table.specs.declared.TypeRow.{TypeRow}
 
--- both begin at the end
+-- ---- where rows begin
+
+pub types-begin : (T : List ℕ) → 12 ≡ typesAt T
+unfolding typesAt
+types-begin T = refl
+
+-- the place of a row below 65,536 is no greater than the code's numbers
+pub row-fits : (T : List ℕ) (t : ℕ) → t ≤ 65536 → rowAt T t < 18446744073709551616
+row-fits T t h = omega (arith, header-most T)
+
+pub row-near : (T : List ℕ) (t p : ℕ) → t < 65536 → p ≡ rowAt T t → p < 1048576
+row-near T t p h e = omega (arith, header-most T)
+
+-- nothing comes after the end
 past : (T : List ℕ) (p : ℕ) → length T ≤ p → drop (length T) T ≡ drop p T
 past T p h = drop-of-length-le T {i = length T} (omega arith) ∙ sym (drop-of-length-le T h)
 
-module _ (T : List ℕ) (t : ℕ) where
-  pub row-here : drop (12 + 12 * t) T ≡ drop (rowAt T t) T
-  unfolding rowAt typesAt
-  row-here = refl
+pub row-past : (T : List ℕ) (t : ℕ) → length T ≤ rowAt T t → drop (length T) T ≡ drop (rowAt T t) T
+row-past T t h = past T (rowAt T t) h
 
-  pub row-past : length T / 12 ≤ t → drop (length T) T ≡ drop (rowAt T t) T
-  unfolding rowAt typesAt
-  row-past h = past T (12 + 12 * t) (omega arith)
+pub member-past : (T : List ℕ) (m : ℕ) → length T ≤ memberAt T m → drop (length T) T ≡ drop (memberAt T m) T
+member-past T m h = past T (memberAt T m) h
 
-module _ (T : List ℕ) (m n : ℕ) (e : n ≡ types T) where
-  pub member-here : drop (12 + 12 * n + 8 * m) T ≡ drop (memberAt T m) T
-  unfolding memberAt membersAt rowAt typesAt
-  member-here = rw e
+pub begins-here : (T : List ℕ) (p q : ℕ) → p ≡ q → drop p T ≡ drop q T
+begins-here T p q e = ap (λ (i : ℕ). drop i T) e
 
-  pub member-short : length T ≤ 12 + 12 * n → drop (length T) T ≡ drop (memberAt T m) T
-  unfolding memberAt membersAt rowAt typesAt
-  member-short h = past T (12 + 12 * types T + 8 * m) (omega arith)
-
-  pub member-far : 12 + 12 * n < length T → (length T - (12 + 12 * n)) / 8 < m → drop (length T) T ≡ drop (memberAt T m) T
-  unfolding memberAt membersAt rowAt typesAt
-  member-far l h = past T (12 + 12 * types T + 8 * m) (omega arith)
+-- ---- parts of the table
 
 -- the first w bytes of a part are those of the table from p on
 pub record Shows (T s : List ℕ) (p w : ℕ) : Type 0 where
@@ -61,51 +65,59 @@ pub rest-shows : (T : List ℕ) (a p w : ℕ) → drop a T ≡ drop p T → Show
 unfolding at
 rest-shows T a p w e = record { same = λ k i h. rw (rest-is T a, e, drop-drop) }
 
-part-shows : (T : List ℕ) (a e w : ℕ) → w ≤ e - a → Shows T (take (e - a) (drop a T)) a w
-part-shows T a e w l = record { same = λ k i h. at-within T a (e - a) k i (omega arith) }
+part-shows : (T : List ℕ) (a e p w : ℕ) → a ≡ p → a + w ≤ e → Shows T (take (e - a) (drop a T)) p w
+part-shows T a e p w q l = record { same = λ k i h. at-within T a (e - a) k i (omega arith) ∙ ap (λ (z : ℕ). at T k (z + i)) q }
 
-pub row-shows : (T : List ℕ) (t w : ℕ) → w ≤ 12 → Shows T (take (12 + 12 * t + 12 - (12 + 12 * t)) (drop (12 + 12 * t) T)) (rowAt T t) w
-unfolding rowAt typesAt
-row-shows T t w h = part-shows T (12 + 12 * t) (12 + 12 * t + 12) w (omega arith)
+pub row-rest-shows : (T : List ℕ) (t a : ℕ) → (a ≤ length T) × (drop a T ≡ drop (rowAt T t) T) → Shows T (take (length T - a) (drop a T)) (rowAt T t) 12
+row-rest-shows T t a h = rest-shows T a (rowAt T t) 12 (h .1)
 
--- a number of the 8 bytes at a place
-module _ (T : List ℕ) (p r : ℕ) where
-  pub place-first : (k : ℕ) → k ≤ 8 → r ≡ at (take (p + 8 - p) (drop p T)) k 0 → r ≡ at T k p
-  place-first k l h = h ∙ part-shows T p (p + 8) 8 (omega arith) .same k 0 (omega arith) ∙ rw add-zero
+pub member-rest-shows : (T : List ℕ) (m a : ℕ) → (a ≤ length T) × (drop a T ≡ drop (memberAt T m) T) → Shows T (take (length T - a) (drop a T)) (memberAt T m) 8
+member-rest-shows T m a h = rest-shows T a (memberAt T m) 8 (h .1)
 
-  pub place-next : (k i : ℕ) → i + k ≤ 8 → r ≡ at (take (p + 8 - p) (drop p T)) k i → r ≡ at T k (p + i)
-  place-next k i l h = h ∙ part-shows T p (p + 8) 8 (omega arith) .same k i l
+pub row-shows : (T : List ℕ) (t a e : ℕ) → a ≡ rowAt T t → e ≡ rowAt T (t + 1) → Shows T (take (e - a) (drop a T)) (rowAt T t) 12
+row-shows T t a e p q = part-shows T a e (rowAt T t) 12 p (omega arith)
 
--- fields of a type row
-pub kind-direct : (T : List ℕ) (t r : ℕ) → r ≡ at T 1 (12 + 12 * t) → r ≡ kind T t
-unfolding kind rowAt typesAt
-kind-direct T t r h = h
+pub member-shows : (T : List ℕ) (m a e : ℕ) → a ≡ memberAt T m → e ≡ memberAt T (m + 1) → Shows T (take (e - a) (drop a T)) (memberAt T m) 8
+member-shows T m a e p q = part-shows T a e (memberAt T m) 8 p (omega arith)
 
-pub kind-byte : (T : List ℕ) (t r : ℕ) → r ≡ getD T (12 + 12 * t) 0 → r ≡ kind T t
-unfolding kind rowAt typesAt
-kind-byte T t r h = h ∙ sym (at-byte T (12 + 12 * t))
+-- ---- the fields of a row
 
-pub field-direct : (T : List ℕ) (t i p r : ℕ) → p ≡ 14 + 2 * i + 12 * t → r ≡ at T 2 p → r ≡ field T t i
-unfolding field rowAt typesAt
-field-direct T t i p r e h = h ∙ ap (at T 2) (omega arith)
+-- a kind, a field at its place in the table
+pub kind-direct : (T : List ℕ) (t p r : ℕ) → p ≡ rowAt T t → r ≡ at T 1 p → r ≡ kind T t
+unfolding kind
+kind-direct T t p r e h = h ∙ ap (at T 1) e
 
-module _ (T s : List ℕ) (t r : ℕ) where
-  pub kind-is : Shows T s (rowAt T t) 1 → r ≡ at s 1 0 → r ≡ kind T t
-  unfolding kind
-  kind-is shows h = h ∙ shows .same 1 0 (omega arith) ∙ rw add-zero
+pub kind-byte : (T : List ℕ) (t p r : ℕ) → p ≡ rowAt T t → r ≡ getD T p 0 → r ≡ kind T t
+kind-byte T t p r e h = kind-direct T t p r e (h ∙ sym (at-byte T p))
 
-  pub spare-is : Shows T s (rowAt T t) 2 → r ≡ at s 1 1 → r ≡ at T 1 (rowAt T t + 1)
-  spare-is shows h = h ∙ shows .same 1 1 (omega arith)
-
-  pub field-is : (i : ℕ) → Shows T s (rowAt T t) (4 + 2 * i) → r ≡ at s 2 (2 + 2 * i) → r ≡ field T t i
-  unfolding field
-  field-is i shows h = h ∙ shows .same 2 (2 + 2 * i) (omega arith) ∙ ap (at T 2) (omega arith)
+pub field-direct : (T : List ℕ) (t i p f r : ℕ) → p ≡ rowAt T t → f ≡ fieldAt i → r ≡ at T 2 (p + f) → r ≡ field T t i
+unfolding field
+field-direct T t i p f r e q h = h ∙ ap (at T 2) (omega arith)
 
 pub field-past : (T : List ℕ) (t i : ℕ) → length T / 2 ≤ i → 0 ≡ field T t i
-unfolding field rowAt typesAt
+unfolding field
 field-past T t i h = sym (at-past T 2 _ (omega arith))
 
--- fields of a member row
+-- in a part that shows the type row
+module _ (T s : List ℕ) (t : ℕ) (shows : Shows T s (rowAt T t) 12) (r : ℕ) where
+  pub kind-is : r ≡ at s 1 0 → r ≡ kind T t
+  unfolding kind
+  kind-is h = h ∙ shows .same 1 0 (omega arith) ∙ rw add-zero
+
+  pub spare-is : r ≡ at s 1 1 → r ≡ spare T t
+  unfolding spare
+  spare-is h = h ∙ shows .same 1 1 (omega arith)
+
+  pub field-is : (i : ℕ) → i ≤ 4 → (f : ℕ) → f ≡ fieldAt i → r ≡ at s 2 f → r ≡ field T t i
+  unfolding field
+  field-is i l f q h = h ∙ shows .same 2 f (omega arith) ∙ ap (at T 2) (omega arith)
+
+-- any field, in the part from the row on
+pub field-within : (T s : List ℕ) (t i f r : ℕ) → Shows T s (rowAt T t) (f + 2) → f ≡ fieldAt i → r ≡ at s 2 f → r ≡ field T t i
+unfolding field
+field-within T s t i f r shows q h = h ∙ shows .same 2 f (omega arith) ∙ ap (at T 2) (omega arith)
+
+-- in a part that shows the member row
 module _ (T s : List ℕ) (m : ℕ) (shows : Shows T s (memberAt T m) 8) (r : ℕ) where
   pub member-type-is : r ≡ at s 2 0 → r ≡ memberType T m
   unfolding memberType
@@ -115,29 +127,20 @@ module _ (T s : List ℕ) (m : ℕ) (shows : Shows T s (memberAt T m) 8) (r : �
   unfolding mark
   mark-is h = h ∙ shows .same 1 2 (omega arith)
 
-  pub member-spare-is : r ≡ at s 1 3 → r ≡ at T 1 (memberAt T m + 3)
+  pub member-spare-is : r ≡ at s 1 3 → r ≡ memberSpare T m
+  unfolding memberSpare
   member-spare-is h = h ∙ shows .same 1 3 (omega arith)
 
   pub tag-is : r ≡ at s 4 4 → r ≡ tag T m
   unfolding tag
   tag-is h = h ∙ shows .same 4 4 (omega arith)
 
-pub members-begin-at : (T : List ℕ) (n : ℕ) → n ≡ types T → 12 + 12 * n ≡ membersAt T
-unfolding membersAt rowAt typesAt
-members-begin-at T n e = ap (λ (i : ℕ). 12 + 12 * i) e
+-- an enumerator up to the greatest is allowed
+pub allows-is : (T : List ℕ) (t n g : ℕ) (row : TypeRow) → IsTypeRow T t row → g ≡ greatestOf row → leb n g ≡ allows (allowed T t) n
+unfolding allows allowed greatest
+allows-is T t n g row i e = ap (leb n) (e ∙ ap₂ (λ (a b : ℕ). a + 65536 * b) (i .a-is) (i .b-is))
 
-pub member-placed : (T : List ℕ) (m first : ℕ) (r : MemberRow) → first ≡ membersAt T → IsMemberAt T (first + 8 * m) r → IsMemberRow T m r
-unfolding memberType mark tag memberAt
-member-placed T m first r e i = record {
-  of-is = i .of-is ∙ rw e;
-  mark-is = i .mark-is ∙ rw e;
-  spare-is = i .spare-is ∙ rw e;
-  tag-is = i .tag-is ∙ rw e;
-  of-small = i .of-small;
-  mark-small = i .mark-small;
-  spare-small = i .spare-small;
-  tag-small = i .tag-small;
-}
+-- ---- rows that have a tree
 
 module _ (T : List ℕ) (n : ℕ) (e : n ≡ types T) where
   pub rows-few : n ≤ 256 → n ≡ typeRows T
@@ -152,4 +155,4 @@ pub member-row : (T : List ℕ) (m n r : ℕ) → n ≡ members T → m < n → 
 member-row T m n r e h q = ap (tyOf T) q ∙ sym (member-whole T m (omega arith))
 
 pub no-member : (T : List ℕ) (m n : ℕ) → n ≡ members T → n ≤ m → tyOf T 256 ≡ memberTy T (trees T) m
-no-member T m n e h = ty-past T 256 (rows-below T) ∙ sym (member-past T m (trees T) (omega arith))
+no-member T m n e h = ty-past T 256 (rows-below T) ∙ sym (member-none T m (trees T) (omega arith))

@@ -2,18 +2,18 @@
 --
 --   typeRowOf, memberRowOf     type row t; member row m
 --   IsTypeRow, IsMemberRow     what the code answers for them: each field is the table's, and small
---   IsMemberAt                 the same of the member row that begins at place p
-use Prim.Native.Nat.{ℕ, _+_, _<_}
+--   greatestOf                 the greatest enumerator of an enum row
+use Prim.Native.Nat.{ℕ, _+_, _*_, _<_}
 use mathlib.Core.Path.{_≡_}
 use mathlib.Core.List.{List}
-use Rattle.encoding.specs.Table.{at, rowAt, memberAt, kind, field, memberType, mark, tag}
+use Rattle.encoding.specs.Table.{kind, spare, field, memberType, mark, memberSpare, tag}
 use Rattle.table.specs.declared.TypeRow.{TypeRow}
 use Rattle.table.specs.declared.MemberRow.{MemberRow}
 
 abbrev pub typeRowOf : List ℕ → ℕ → TypeRow
 typeRowOf T t = record {
   kind = kind T t;
-  spare = at T 1 (rowAt T t + 1);
+  spare = spare T t;
   a = field T t 0;
   b = field T t 1;
   c = field T t 2;
@@ -21,12 +21,15 @@ typeRowOf T t = record {
   e = field T t 4;
 }
 
+abbrev pub greatestOf : TypeRow → ℕ
+greatestOf r = r .a + 65536 * r .b
+
 abbrev pub memberRowOf : List ℕ → ℕ → MemberRow
-memberRowOf T m = record { of = memberType T m; mark = mark T m; spare = at T 1 (memberAt T m + 3); tag = tag T m }
+memberRowOf T m = record { of = memberType T m; mark = mark T m; spare = memberSpare T m; tag = tag T m }
 
 pub record IsTypeRow (T : List ℕ) (t : ℕ) (r : TypeRow) : Type 0 where
   pub kind-is : r .kind ≡ kind T t
-  pub spare-is : r .spare ≡ at T 1 (rowAt T t + 1)
+  pub spare-is : r .spare ≡ spare T t
   pub a-is : r .a ≡ field T t 0
   pub b-is : r .b ≡ field T t 1
   pub c-is : r .c ≡ field T t 2
@@ -40,20 +43,10 @@ pub record IsTypeRow (T : List ℕ) (t : ℕ) (r : TypeRow) : Type 0 where
   pub d-small : r .d < 65536
   pub e-small : r .e < 65536
 
-pub record IsMemberAt (T : List ℕ) (p : ℕ) (r : MemberRow) : Type 0 where
-  pub of-is : r .of ≡ at T 2 p
-  pub mark-is : r .mark ≡ at T 1 (p + 2)
-  pub spare-is : r .spare ≡ at T 1 (p + 3)
-  pub tag-is : r .tag ≡ at T 4 (p + 4)
-  pub of-small : r .of < 65536
-  pub mark-small : r .mark < 256
-  pub spare-small : r .spare < 256
-  pub tag-small : r .tag < 4294967296
-
 pub record IsMemberRow (T : List ℕ) (m : ℕ) (r : MemberRow) : Type 0 where
   pub of-is : r .of ≡ memberType T m
   pub mark-is : r .mark ≡ mark T m
-  pub spare-is : r .spare ≡ at T 1 (memberAt T m + 3)
+  pub spare-is : r .spare ≡ memberSpare T m
   pub tag-is : r .tag ≡ tag T m
   pub of-small : r .of < 65536
   pub mark-small : r .mark < 256

@@ -1,11 +1,11 @@
--- The search for a tag behind the members that were passed: tags rise in a message, and are mostly declared rising.
+-- The look-up of a tag after the members that were passed: tags rise in a message, and are mostly declared rising.
 --
---   optionalFrom end from    the optional members among the rows from a row on and before `end`, as declared
+--   optionalFrom end from    the optional members among member rows `from` to `end` - 1, as declared
 --   firstOptional end m n    the first optional row of n from row m on, or `end`
---   optionalStart t          where the optional members of row t begin: its first optional row, or behind its rows
+--   optionalStart t          row t's first optional member row, or the row after its member rows
 --   isAbove k m              member row m is optional and its tag is above k
 --   firstAbove k end m n     the first such row of n from row m on, or `end`
---   behind from m k          where the look-up of a tag above k begins, k found at member row m by a look-up from a row on
+--   behind from m k          where the look-up of a tag above k begins, once k was found at member row m by a look-up from row `from`
 --   Passed t end from least  row t's member rows end before `end`, and each optional one before row `from`, which is none before its first, has a tag below `least`
 use mathlib.Core.Path.{_≡_}
 use mathlib.Core.Bool.{Bool, _&&_, not}

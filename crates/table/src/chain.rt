@@ -1,14 +1,14 @@
-// A record's bases and the members of a row.
+// A record's bases, and the member rows that a row takes.
 use crate::FoundMember;
 ghost use mathlib.Core.Path.{_≡_};
-ghost use Prim.Native.Nat.{_+_, _*_, _≤_, _<_};
+ghost use Prim.Native.Nat.{_+_, _≤_, _<_};
 ghost use lib.ListN.{length};
 ghost use lib.Dec.{eqb};
-ghost use Rattle.encoding.specs.Table.{any, field, membersAt, takes, lookup, base, chain};
+ghost use Rattle.encoding.specs.Table.{any, field, membersAt, memberAt, takes, lookup, base, chain};
 ghost use Rattle.table.specs.Found.{memberFound};
 ghost use Rattle.table.specs.Tags.{optionalFrom, behind};
 
-// The base row + 1, or 0; a base that is not smaller is none.
+// The base row + 1, or 0 if row t has no base; a base that is not a smaller row is none.
 pub fn base(table: &[u8], t: usize) -> usize
     ensures { λ r. ⌜ (r ≡ base (now (table .entry)) t) × (r ≤ t) ⌝ }
 {
@@ -38,7 +38,7 @@ pub fn in_chain(table: &[u8], t: usize, top: usize) -> bool
     }
 }
 
-// Member row m is one of the rows that row t names.
+// Member row m is one of the rows that row t takes by its fields a and b.
 fn takes(table: &[u8], t: usize, m: usize) -> bool
     ensures { λ r. ⌜ r ≡ takes (now (table .entry)) t m ⌝ }
 {
@@ -66,7 +66,7 @@ pub fn of_chain(table: &[u8], t: usize, m: usize) -> bool
     }
 }
 
-// The row behind the member rows that row t names.
+// The row after the member rows that row t takes.
 pub fn member_end(table: &[u8], t: usize) -> usize
     ensures { λ r. ⌜ (r ≡ field (now (table .entry)) t 0 + field (now (table .entry)) t 1) × (r ≤ 131072) ⌝ }
 {
@@ -74,15 +74,15 @@ pub fn member_end(table: &[u8], t: usize) -> usize
     row.a + row.b
 }
 
-// The optional member that has a tag, looked up among the member rows from a row on and before `end`, and the row of its type; these rows lie inside the table, whose member rows begin at `first`.
+// The optional member with this tag, and the row of its type. Looks at the member rows `from` to `end` - 1, which lie inside the table; `first` is where the member rows begin.
 fn tag_member_in(table: &[u8], first: usize, end: usize, from: usize, tag: usize) -> FoundMember
     requires { ⌜ first ≡ membersAt (now table) ⌝ }
-    requires { ⌜ first + 8 * end ≤ length (now table) ⌝ }
+    requires { ⌜ memberAt (now table) end ≤ length (now table) ⌝ }
     ensures { λ r. ⌜ r ≡ memberFound (now (table .entry)) (lookup tag (optionalFrom (now (table .entry)) end from)) ⌝ }
 {
     let mut m = from;
     while m < end {
-        let member = crate::member_row_in(table, first + 8 * m);
+        let member = crate::member_row_in(table, first, m);
         if member.mark != 0 {
             if tag == member.tag {
                 return FoundMember::At(m, member.of);
@@ -93,13 +93,13 @@ fn tag_member_in(table: &[u8], first: usize, end: usize, from: usize, tag: usize
     FoundMember::Nothing
 }
 
-// The same of any table: rows outside have no bytes but 0.
+// The same for any table: the missing bytes of a row outside are 0.
 pub fn tag_member(table: &[u8], end: usize, from: usize, tag: usize) -> FoundMember
     requires { ⌜ end ≤ 131072 ⌝ }
     ensures { λ r. ⌜ r ≡ memberFound (now (table .entry)) (lookup tag (optionalFrom (now (table .entry)) end from)) ⌝ }
 {
-    let first = crate::member_start(table);
-    if first + 8 * end <= table.len() {
+    let first = crate::members_at(table);
+    if crate::member_at(table, first, end) <= table.len() {
         return tag_member_in(table, first, end, from, tag);
     }
     let mut m = from;
@@ -115,12 +115,12 @@ pub fn tag_member(table: &[u8], end: usize, from: usize, tag: usize) -> FoundMem
     FoundMember::Nothing
 }
 
-// Where the look-up of a greater tag begins, behind member row m that was found for a tag from a row on: at the first row passed that is optional and has a tag above it; else behind m.
+// Where to look up the next tag, after `tag` was found at member row m by a look-up from row `from`: at the first optional row before m with a greater tag, else after m.
 pub fn behind(table: &[u8], from: usize, m: usize, tag: usize) -> usize
     requires { ⌜ m < 131072 ⌝ }
     ensures { λ r. ⌜ r ≡ behind (now (table .entry)) from m tag ⌝ }
 {
-    let first = crate::member_start(table);
+    let first = crate::members_at(table);
     let mut i = from;
     while i < m {
         let row = crate::member_row_from(table, first, i);

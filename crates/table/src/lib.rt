@@ -1,13 +1,15 @@
-// The type table: what its bytes say. Each look-up equals its definition on any bytes: past the end is 0.
-// naming.rt has the records' names, chain.rt bases and members.
+// Look-ups in a type table: rows, kinds, members. Each equals its definition on any bytes: past the end is 0.
+// naming.rt has the records' names, chain.rt the bases and the member rows of a row.
+// Every place in a table is computed here, by `types_at` to `field_at` and the two that stop at the table's end.
 pub mod chain;
 pub mod naming;
 
 ghost use mathlib.Core.Path.{_≡_};
 ghost use Prim.Native.Nat.{_+_, _*_, _≤_, _<_};
 ghost use lib.ListN.{length, drop};
-ghost use Rattle.encoding.specs.Table.{at, types, members, names, rowAt, membersAt, memberAt, isRecord, owns, kind, field, memberType, mark, tag, typeRows, trees, tyOf, memberTy};
-ghost use Rattle.table.specs.Rows.{IsTypeRow, IsMemberAt, IsMemberRow};
+ghost use Rattle.encoding.specs.Types.{allows};
+ghost use Rattle.encoding.specs.Table.{types, members, names, typesAt, rowAt, membersAt, memberAt, namesAt, fieldAt, isRecord, owns, kind, field, allowed, typeRows, trees, tyOf, memberTy};
+ghost use Rattle.table.specs.Rows.{IsTypeRow, IsMemberRow, greatestOf};
 
 // A row number, if there is one.
 pub enum Found {
@@ -61,7 +63,7 @@ pub fn names(table: &[u8]) -> usize
     wire::short_at(table, 9)
 }
 
-// How many rows have a tree.
+// How many rows have a type tree.
 pub fn rows(table: &[u8]) -> usize
     ensures { λ r. ⌜ (r ≡ typeRows (now (table .entry))) × (r ≤ 256) ⌝ }
 {
@@ -72,28 +74,77 @@ pub fn rows(table: &[u8]) -> usize
     256
 }
 
-// Where type row t begins, or the table's end.
-fn row(table: &[u8], t: usize) -> usize
-    ensures { λ r. ⌜ (r ≤ length (now (table .entry))) × (drop r (now (table .entry)) ≡ drop (rowAt (now (table .entry)) t) (now (table .entry))) ⌝ }
+// Where the type rows begin: after the header.
+pub fn types_at(table: &[u8]) -> usize
+    ensures { λ r. ⌜ (r ≡ typesAt (now (table .entry))) × ((12 ≤ r) × (r ≤ 64)) ⌝ }
 {
-    if table.len() / 12 <= t {
-        return table.len();
-    }
-    12 + 12 * t
+    12
 }
 
-// Where member row m begins, or the table's end.
-fn member(table: &[u8], m: usize) -> usize
+// Where type row t begins.
+pub fn row_at(table: &[u8], t: usize) -> usize
+    requires { ⌜ rowAt (now table) t < 18446744073709551616 ⌝ }
+    ensures { λ r. ⌜ r ≡ rowAt (now (table .entry)) t ⌝ }
+{
+    types_at(table) + 12 * t
+}
+
+// Where the member rows begin: after the type rows.
+pub fn members_at(table: &[u8]) -> usize
+    ensures { λ r. ⌜ (r ≡ membersAt (now (table .entry))) × (r < 1048576) ⌝ }
+{
+    row_at(table, types(table))
+}
+
+// Where member row m begins. `first` is where the member rows begin, so that a loop looks that up once.
+pub fn member_at(table: &[u8], first: usize, m: usize) -> usize
+    requires { ⌜ first ≡ membersAt (now table) ⌝ }
+    requires { ⌜ memberAt (now table) m < 18446744073709551616 ⌝ }
+    ensures { λ r. ⌜ r ≡ memberAt (now (table .entry)) m ⌝ }
+{
+    first + 8 * m
+}
+
+// Where the names begin: after the member rows.
+pub fn names_at(table: &[u8]) -> usize
+    ensures { λ r. ⌜ (r ≡ namesAt (now (table .entry))) × (r < 2097152) ⌝ }
+{
+    member_at(table, members_at(table), members(table))
+}
+
+// Where field i is within a type row.
+fn field_at(i: usize) -> usize
+    requires { ⌜ fieldAt i < 18446744073709551616 ⌝ }
+    ensures { λ r. ⌜ r ≡ fieldAt i ⌝ }
+{
+    2 + 2 * i
+}
+
+// Where type row t begins, or the table's end if it begins past it.
+fn row_or_end(table: &[u8], t: usize) -> usize
+    ensures { λ r. ⌜ (r ≤ length (now (table .entry))) × (drop r (now (table .entry)) ≡ drop (rowAt (now (table .entry)) t) (now (table .entry))) ⌝ }
+{
+    if table.len() <= types_at(table) {
+        return table.len();
+    }
+    if (table.len() - types_at(table)) / 12 < t {
+        return table.len();
+    }
+    row_at(table, t)
+}
+
+// Where member row m begins, or the table's end if it begins past it.
+fn member_or_end(table: &[u8], m: usize) -> usize
     ensures { λ r. ⌜ (r ≤ length (now (table .entry))) × (drop r (now (table .entry)) ≡ drop (memberAt (now (table .entry)) m) (now (table .entry))) ⌝ }
 {
-    let start = 12 + 12 * types(table);
-    if table.len() <= start {
+    let first = members_at(table);
+    if table.len() <= first {
         return table.len();
     }
-    if (table.len() - start) / 8 < m {
+    if (table.len() - first) / 8 < m {
         return table.len();
     }
-    start + 8 * m
+    member_at(table, first, m)
 }
 
 // A type row's kind.
@@ -101,26 +152,18 @@ pub fn kind(table: &[u8], t: usize) -> usize
     ensures { λ r. ⌜ (r ≡ kind (now (table .entry)) t) × (r < 256) ⌝ }
 {
     if t < 65536 {
-        return wire::byte_at(table, 12 + 12 * t);
+        return wire::byte_at(table, row_at(table, t));
     }
-    let a = row(table, t);
+    let a = row_or_end(table, t);
     wire::byte_at(&table[a..], 0)
 }
 
 // The kind of a type row whose first byte lies inside the table.
 pub fn kind_in(table: &[u8], t: usize) -> usize
-    requires { ⌜ 12 + 12 * t < length (now table) ⌝ }
+    requires { ⌜ rowAt (now table) t < length (now table) ⌝ }
     ensures { λ r. ⌜ (r ≡ kind (now (table .entry)) t) × (r < 256) ⌝ }
 {
-    wire::wide(table[12 + 12 * t])
-}
-
-// A type row's zero byte.
-fn spare(table: &[u8], t: usize) -> usize
-    ensures { λ r. ⌜ (r ≡ at (now (table .entry)) 1 (rowAt (now (table .entry)) t + 1)) × (r < 256) ⌝ }
-{
-    let a = row(table, t);
-    wire::byte_at(&table[a..], 1)
+    wire::wide(table[row_at(table, t)])
 }
 
 // A type row's fields a, b, c, d, e as i = 0..4.
@@ -130,89 +173,67 @@ pub fn field(table: &[u8], t: usize, i: usize) -> usize
     if table.len() / 2 <= i {
         return 0;
     }
-    let a = row(table, t);
-    wire::short_at(&table[a..], 2 + 2 * i)
+    let a = row_or_end(table, t);
+    wire::short_at(&table[a..], field_at(i))
 }
 
-// A type row's field a, looked up at once where the row number is below 65,536.
+// A type row's field a; faster than `field` where the row number is below 65,536.
 pub fn field_a(table: &[u8], t: usize) -> usize
     ensures { λ r. ⌜ (r ≡ field (now (table .entry)) t 0) × (r < 65536) ⌝ }
 {
     if t < 65536 {
-        return wire::short_at(table, 14 + 12 * t);
+        return wire::short_at(table, row_at(table, t) + field_at(0));
     }
     field(table, t, 0)
 }
 
-// A type row's field b, looked up in the same way.
+// A type row's field b; faster in the same way.
 pub fn field_b(table: &[u8], t: usize) -> usize
     ensures { λ r. ⌜ (r ≡ field (now (table .entry)) t 1) × (r < 65536) ⌝ }
 {
     if t < 65536 {
-        return wire::short_at(table, 16 + 12 * t);
+        return wire::short_at(table, row_at(table, t) + field_at(1));
     }
     field(table, t, 1)
 }
 
-// A member row's type.
-pub fn member_type(table: &[u8], m: usize) -> usize
-    ensures { λ r. ⌜ (r ≡ memberType (now (table .entry)) m) × (r < 65536) ⌝ }
-{
-    let a = member(table, m);
-    wire::short_at(&table[a..], 0)
-}
-
-// A member row's mark: 0 required, 1 optional.
-pub fn mark(table: &[u8], m: usize) -> usize
-    ensures { λ r. ⌜ (r ≡ mark (now (table .entry)) m) × (r < 256) ⌝ }
-{
-    let a = member(table, m);
-    wire::byte_at(&table[a..], 2)
-}
-
-// A member row's tag.
-pub fn tag(table: &[u8], m: usize) -> usize
-    ensures { λ r. ⌜ (r ≡ tag (now (table .entry)) m) × (r < 4294967296) ⌝ }
-{
-    let a = member(table, m);
-    wire::int_at(&table[a..], 4)
-}
-
-// Type row t by the look-ups, for a row that is not wholly inside. Called at two places, so that it stays apart and `type_row` small.
+// Type row t where it is not wholly inside the table: what is missing is 0. Called at two places, so that the compiler does not inline it and `type_row` stays small.
 fn type_row_outside(table: &[u8], t: usize) -> TypeRow
     ensures { λ r. ⌜ IsTypeRow (now (table .entry)) t r ⌝ }
 {
+    let start = row_or_end(table, t);
+    let bytes = &table[start..];
     TypeRow {
-        kind: kind(table, t),
-        spare: spare(table, t),
-        a: field(table, t, 0),
-        b: field(table, t, 1),
-        c: field(table, t, 2),
-        d: field(table, t, 3),
-        e: field(table, t, 4),
+        kind: wire::byte_at(bytes, 0),
+        spare: wire::byte_at(bytes, 1),
+        a: wire::short_at(bytes, field_at(0)),
+        b: wire::short_at(bytes, field_at(1)),
+        c: wire::short_at(bytes, field_at(2)),
+        d: wire::short_at(bytes, field_at(3)),
+        e: wire::short_at(bytes, field_at(4)),
     }
 }
 
-// Type row t whole, which lies inside the table.
+// Type row t, which lies inside the table.
 pub fn type_row_in(table: &[u8], t: usize) -> TypeRow
-    requires { ⌜ 24 + 12 * t ≤ length (now table) ⌝ }
+    requires { ⌜ rowAt (now table) (t + 1) ≤ length (now table) ⌝ }
     ensures { λ r. ⌜ IsTypeRow (now (table .entry)) t r ⌝ }
 {
-    let start = 12 + 12 * t;
-    let end = start + 12;
+    let start = row_at(table, t);
+    let end = row_at(table, t + 1);
     let bytes = &table[start..end];
     TypeRow {
         kind: wire::byte_at(bytes, 0),
         spare: wire::byte_at(bytes, 1),
-        a: wire::short_at(bytes, 2),
-        b: wire::short_at(bytes, 4),
-        c: wire::short_at(bytes, 6),
-        d: wire::short_at(bytes, 8),
-        e: wire::short_at(bytes, 10),
+        a: wire::short_at(bytes, field_at(0)),
+        b: wire::short_at(bytes, field_at(1)),
+        c: wire::short_at(bytes, field_at(2)),
+        d: wire::short_at(bytes, field_at(3)),
+        e: wire::short_at(bytes, field_at(4)),
     }
 }
 
-// Type row t whole. The fields of a row outside are copied, so that the row that is returned is lent to no call.
+// Type row t. The fields of a row outside are copied, so that the returned row is lent to no call.
 pub fn type_row(table: &[u8], t: usize) -> TypeRow
     ensures { λ r. ⌜ IsTypeRow (now (table .entry)) t r ⌝ }
 {
@@ -228,7 +249,7 @@ pub fn type_row(table: &[u8], t: usize) -> TypeRow
             e: far.e,
         };
     }
-    if table.len() < 24 + 12 * t {
+    if table.len() < row_at(table, t + 1) {
         let cut = type_row_outside(table, t);
         return TypeRow {
             kind: cut.kind,
@@ -243,25 +264,28 @@ pub fn type_row(table: &[u8], t: usize) -> TypeRow
     type_row_in(table, t)
 }
 
-// Member row m by the look-ups, for a row that is not wholly inside. Called at two places, so that it stays apart and `member_row` small.
+// Member row m where it is not wholly inside the table: what is missing is 0. Called at two places, so that the compiler does not inline it and `member_row` stays small.
 fn member_row_outside(table: &[u8], m: usize) -> MemberRow
     ensures { λ r. ⌜ IsMemberRow (now (table .entry)) m r ⌝ }
 {
-    let start = member(table, m);
+    let start = member_or_end(table, m);
+    let bytes = &table[start..];
     MemberRow {
-        of: member_type(table, m),
-        mark: mark(table, m),
-        spare: wire::byte_at(&table[start..], 3),
-        tag: tag(table, m),
+        of: wire::short_at(bytes, 0),
+        mark: wire::byte_at(bytes, 2),
+        spare: wire::byte_at(bytes, 3),
+        tag: wire::int_at(bytes, 4),
     }
 }
 
-// The member row that begins at `start` whole, which lies inside the table.
-pub fn member_row_in(table: &[u8], start: usize) -> MemberRow
-    requires { ⌜ start + 8 ≤ length (now table) ⌝ }
-    ensures { λ r. ⌜ IsMemberAt (now (table .entry)) start r ⌝ }
+// Member row m, which lies inside the table; `first` is where the member rows begin.
+pub fn member_row_in(table: &[u8], first: usize, m: usize) -> MemberRow
+    requires { ⌜ first ≡ membersAt (now table) ⌝ }
+    requires { ⌜ memberAt (now table) (m + 1) ≤ length (now table) ⌝ }
+    ensures { λ r. ⌜ IsMemberRow (now (table .entry)) m r ⌝ }
 {
-    let end = start + 8;
+    let start = member_at(table, first, m);
+    let end = member_at(table, first, m + 1);
     let bytes = &table[start..end];
     MemberRow {
         of: wire::short_at(bytes, 0),
@@ -271,21 +295,13 @@ pub fn member_row_in(table: &[u8], start: usize) -> MemberRow
     }
 }
 
-// Where the member rows begin.
-pub fn member_start(table: &[u8]) -> usize
-    ensures { λ r. ⌜ (r ≡ membersAt (now (table .entry))) × (r < 1048576) ⌝ }
-{
-    12 + 12 * types(table)
-}
-
-// Member row m whole, where the member rows begin at `first`: for a loop, which looks that up once. The fields of a row outside are copied, so that the row that is returned is lent to no call.
+// Member row m; `first` is where the member rows begin. The fields of a row outside are copied, so that the returned row is lent to no call.
 pub fn member_row_from(table: &[u8], first: usize, m: usize) -> MemberRow
     requires { ⌜ first ≡ membersAt (now table) ⌝ }
     requires { ⌜ (first < 1048576) × (m < 131072) ⌝ }
     ensures { λ r. ⌜ IsMemberRow (now (table .entry)) m r ⌝ }
 {
-    let start = first + 8 * m;
-    if table.len() < start + 8 {
+    if table.len() < member_at(table, first, m + 1) {
         let cut = member_row_outside(table, m);
         return MemberRow {
             of: cut.of,
@@ -294,10 +310,10 @@ pub fn member_row_from(table: &[u8], first: usize, m: usize) -> MemberRow
             tag: cut.tag,
         };
     }
-    member_row_in(table, start)
+    member_row_in(table, first, m)
 }
 
-// Member row m whole.
+// Member row m.
 pub fn member_row(table: &[u8], m: usize) -> MemberRow
     ensures { λ r. ⌜ IsMemberRow (now (table .entry)) m r ⌝ }
 {
@@ -310,7 +326,22 @@ pub fn member_row(table: &[u8], m: usize) -> MemberRow
             tag: far.tag,
         };
     }
-    member_row_from(table, member_start(table), m)
+    member_row_from(table, members_at(table), m)
+}
+
+// The greatest enumerator of an enum row: field a is its low half, b its high half.
+pub fn greatest(row: TypeRow) -> usize
+    requires { ⌜ (row .a < 65536) × (row .b < 65536) ⌝ }
+    ensures { λ r. ⌜ r ≡ greatestOf row ⌝ }
+{
+    row.a + 65536 * row.b
+}
+
+// Enum row t allows enumerator n.
+pub fn allows(table: &[u8], t: usize, n: usize) -> bool
+    ensures { λ r. ⌜ r ≡ allows (allowed (now (table .entry)) t) n ⌝ }
+{
+    n <= greatest(type_row(table, t))
 }
 
 // Kind k is an exception or a class.
@@ -336,7 +367,7 @@ pub fn owns(k: usize) -> bool
     k == 15
 }
 
-// The row of a member's type; where there is no such member, a row without a tree.
+// The row of a member's type; if there is no such member, 256, a row without a type tree.
 pub fn type_of_member(table: &[u8], m: usize) -> usize
     ensures { λ r. ⌜ (tyOf (now (table .entry)) r ≡ memberTy (now (table .entry)) (trees (now (table .entry))) m) × (r < 65536) ⌝ }
 {

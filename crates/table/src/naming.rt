@@ -8,18 +8,18 @@ ghost use Rattle.encoding.specs.Table.{nameOf, named};
 ghost use Rattle.table.specs.Found.{foundOf};
 ghost use Rattle.table.specs.Names.{nameStart, isNamed};
 
-// Where the name of row t begins, or the table's end.
+// Where the name of row t begins, or the table's end if it begins past it.
 pub fn name_start(table: &[u8], t: usize) -> usize
     ensures { λ r. ⌜ (r ≡ nameStart (now (table .entry)) t) × (r ≤ length (now (table .entry))) ⌝ }
 {
-    let a = 12 + 12 * crate::types(table) + 8 * crate::members(table) + crate::field(table, t, 3);
+    let a = crate::names_at(table) + crate::field(table, t, 3);
     if a <= table.len() {
         return a;
     }
     table.len()
 }
 
-// How many bytes the name of row t has within the table.
+// How many bytes of row t's name lie within the table.
 pub fn name_length(table: &[u8], t: usize) -> usize
     ensures { λ r. ⌜ (r ≡ length (nameOf (now (table .entry)) t)) × (nameStart (now (table .entry)) t + r ≤ length (now (table .entry))) ⌝ }
 {
@@ -31,7 +31,7 @@ pub fn name_length(table: &[u8], t: usize) -> usize
     table.len() - a
 }
 
-// Two strings are the same bytes, compared eight at a time; the last eight are compared as they stand.
+// Two strings have the same bytes. Eight bytes are compared at a time, the last eight once more where the length is no multiple of eight.
 pub fn same(a: &[u8], b: &[u8]) -> bool
     ensures { λ r. ⌜ r ≡ sameBytes (now (a .entry)) (now (b .entry)) ⌝ }
 {
@@ -63,13 +63,13 @@ pub fn is_named(table: &[u8], t: usize, name: &[u8]) -> bool
     ensures { λ r. ⌜ r ≡ sameBytes (now (name .entry)) (nameOf (now (table .entry)) t) ⌝ }
 {
     let row = crate::type_row(table, t);
-    let start = 12 + 12 * crate::types(table) + 8 * crate::members(table) + row.d;
+    let start = crate::names_at(table) + row.d;
     let a = wire::least(start, table.len());
     let e = a + wire::least(row.e, table.len() - a);
     same(name, &table[a..e])
 }
 
-// Row t is a record of this name. A name longer than the row says is another, whatever its bytes.
+// Row t is a record of this name. Names of different lengths differ, so a row with a shorter name is passed without a look at its bytes.
 pub fn is_record_named(table: &[u8], t: usize, name: &[u8]) -> bool
     ensures { λ r. ⌜ r ≡ isNamed (now (table .entry)) (now (name .entry)) t ⌝ }
 {
@@ -82,7 +82,7 @@ pub fn is_record_named(table: &[u8], t: usize, name: &[u8]) -> bool
     false
 }
 
-// The record of a name.
+// The record with this name.
 pub fn named(table: &[u8], name: &[u8]) -> Found
     ensures { λ r. ⌜ r ≡ foundOf (named (now (table .entry)) (now (name .entry))) ⌝ }
 {

@@ -28,8 +28,8 @@ use Rattle.encoding.specs.ResultLaws.{bind-step, Held, held-bind, held-times}
 use Rattle.encoding.specs.Number.{size}
 use Rattle.encoding.specs.Number
 use Rattle.encoding.specs.Proxy
-use Rattle.encoding.specs.Types.{upto, short, int, long, float, double, Ty, broken, bool, byte, string, proxy, num, enum, struct, seq, dict}
-use Rattle.encoding.specs.Table.{kind, field, members, memberType, range, memberTy, memberTys, ownRows, rowTy, tys, typeRows, trees, tyOf}
+use Rattle.encoding.specs.Types.{short, int, long, float, double, Ty, broken, bool, byte, string, proxy, num, enum, struct, seq, dict}
+use Rattle.encoding.specs.Table.{kind, field, members, memberType, range, allowed, memberTy, memberTys, ownRows, rowTy, tys, partTy, typeRows, trees, tyOf}
 use Rattle.encoding.specs.TableLaws.{tys-at, ty-row, ty-past, below-none, row-broken, member-in, member-past, members-more, members-none}
 use Rattle.encoding.specs.Value.{value, values, whole, exact}
 use Rattle.encoding.specs.ValueLaws.{held-value}
@@ -41,7 +41,7 @@ use Rattle.wire.specs.declared.Sized.{Sized}
 use Rattle.wire.specs.declared.Sized.the-variants.{Is, Isnt}
 use Rattle.wire.specs.Steps.{stepOf, sizedOf}
 use Rattle.wire.specs.StepLaws.{rest-is, step-fault, took-held, then-none, then-took, then-bad, with-none, with-took, with-bad, Left, left-begin, left-next, left-fault, left-done, turns-begin, turns-next, turns-fault, turns-done}
-use Rattle.value.specs.Parts.{partTy, isTextBelow, entry}
+use Rattle.value.specs.Parts.{isTextBelow, entry}
 use Rattle.wire.proofs.Sums.{TookFits, took-fits, BadFits, bad-fits}
 
 -- ---- a value by its row's kind
@@ -93,9 +93,9 @@ module _ (T : List ℕ) (t e : ℕ) (s : List ℕ) where
     unfolding rowTy value
     as-string z g = by-row string (rw (sym q ∙ z)) g
 
-    pub as-enum : (a b : ℕ) → a ≡ field T e 0 → b ≡ field T e 1 → k ≡ 8 → r ≡ stepOf (value (enum (upto (a + 65536 * b))) s) → r ≡ stepOf (value (partTy T t e) s)
+    pub as-enum : k ≡ 8 → r ≡ stepOf (value (enum (allowed T e)) s) → r ≡ stepOf (value (partTy T t e) s)
     unfolding rowTy
-    as-enum a b f h z g = by-row (enum (upto (a + 65536 * b))) (rw (sym q ∙ z, f, h)) g
+    as-enum z g = by-row (enum (allowed T e)) (rw (sym q ∙ z)) g
 
     pub as-struct : k ≡ 9 → r ≡ stepOf (value (struct (memberTys T (tys T e) (ownRows T e))) s) → r ≡ stepOf (value (partTy T t e) s)
     unfolding rowTy
@@ -162,9 +162,8 @@ module _ (T shapes : List ℕ) (f : shapes ≡ shapesOf T) where
     unfolding value
     row-bool g h q = rw (bool-row T t shapes f (sym g ∙ h)) q
 
-    pub row-enum : (x y : ℕ) → x ≡ field T t 0 → y ≡ field T t 1 → b ≡ isEnumIn shapes t → b ≡ true
-        → r ≡ stepOf (value (enum (upto (x + 65536 * y))) s) → r ≡ stepOf (value (tyOf T t) s)
-    row-enum x y d e g h q = rw (enum-row T t shapes f (sym g ∙ h), ← d, ← e) q
+    pub row-enum : b ≡ isEnumIn shapes t → b ≡ true → r ≡ stepOf (value (enum (allowed T t)) s) → r ≡ stepOf (value (tyOf T t) s)
+    row-enum g h q = rw (enum-row T t shapes f (sym g ∙ h)) q
 
   module _ (t e : ℕ) (l : e < t) where
     part-takes : (s : List ℕ) (w : ℕ) → w ≡ widthIn shapes e → 0 < w → w ≤ length s → value (partTy T t e) s ≡ ok tt w

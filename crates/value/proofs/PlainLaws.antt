@@ -2,8 +2,9 @@
 --
 --   skip-cut, -whole           k bytes of any content
 --   bool-none, -high, -whole   a bool
---   enum-fits, -past, -none    an enum
+--   enum-allowed, -other, -none   an enum
 use mathlib.Core.Path.{_≡_, sym, _∙_}
+use mathlib.Core.Bool.{Bool, true, false}
 use mathlib.Core.List.{List}
 use Prim.Native.Nat.{ℕ, _≤_, _<_}
 use lib.ListN.{length}
@@ -11,7 +12,7 @@ use borrow.Author.Tests.{le-leb, lt-leb, lt-ltb, le-ltb}
 use Rattle.encoding.specs.Result.{chunk, skip, judged, must, made, mapc}
 use Rattle.encoding.specs.Number.{number, byte, boolForm, bool, size}
 use Rattle.encoding.specs.Table.{at}
-use Rattle.encoding.specs.Types.{allows, upto, enum}
+use Rattle.encoding.specs.Types.{Allowed, allows, enum}
 use Rattle.encoding.specs.Value.{enumForm, value}
 use Rattle.wire.specs.declared.Step.{Step}
 use Rattle.wire.specs.declared.Step.the-variants.{Took, Fault}
@@ -43,16 +44,16 @@ module _ (s : List ℕ) where
     unfolding bool mapc made must judged byte number chunk boolForm stepOf at
     bool-whole l = rw (le-leb 1 (length s) h, ← e, lt-ltb b 2 l)
 
-module _ (s : List ℕ) (greatest : ℕ) (r : Sized) (e : r ≡ sizedOf (size s)) where
-  pub enum-none : (f p : ℕ) → r ≡ Isnt f p → Fault f p ≡ stepOf (value (enum (upto greatest)) s)
+module _ (s : List ℕ) (a : Allowed) (r : Sized) (e : r ≡ sizedOf (size s)) where
+  pub enum-none : (f p : ℕ) → r ≡ Isnt f p → Fault f p ≡ stepOf (value (enum a) s)
   unfolding value mapc made must judged stepOf
   enum-none f p q = rw (sized-isnt (size s) f p (sym q ∙ e))
 
-  module _ (n k : ℕ) (q : r ≡ Is n k) where
-    pub enum-fits : n ≤ greatest → Took k ≡ stepOf (value (enum (upto greatest)) s)
-    unfolding value mapc made must judged enumForm allows stepOf
-    enum-fits l = rw (sized-is (size s) n k (sym q ∙ e), le-leb n greatest l)
+  module _ (n k : ℕ) (q : r ≡ Is n k) (b : Bool) (eb : b ≡ allows a n) where
+    pub enum-allowed : b ≡ true → Took k ≡ stepOf (value (enum a) s)
+    unfolding value mapc made must judged enumForm stepOf
+    enum-allowed h = rw (sized-is (size s) n k (sym q ∙ e), ← eb, h)
 
-    pub enum-past : greatest < n → Fault 9 0 ≡ stepOf (value (enum (upto greatest)) s)
-    unfolding value mapc made must judged enumForm allows stepOf
-    enum-past l = rw (sized-is (size s) n k (sym q ∙ e), lt-leb n greatest l)
+    pub enum-other : b ≡ false → Fault 9 0 ≡ stepOf (value (enum a) s)
+    unfolding value mapc made must judged enumForm stepOf
+    enum-other h = rw (sized-is (size s) n k (sym q ∙ e), ← eb, h)

@@ -8,11 +8,11 @@ mod plain;
 ghost use mathlib.Core.Path.{_≡_};
 ghost use Rattle.encoding.specs.Result.{times};
 ghost use Rattle.encoding.specs.Types.{struct, seq, dict};
-ghost use Rattle.encoding.specs.Table.{field, tys, tyOf, memberTys, ownRows};
+ghost use Rattle.encoding.specs.Table.{field, tys, partTy, tyOf, memberTys, ownRows};
 ghost use Rattle.encoding.specs.Value.{value, exact};
 ghost use Rattle.wire.specs.Steps.{stepOf};
 ghost use Rattle.shapes.specs.Shapes.{shapesOf, widthBelow};
-ghost use Rattle.value.specs.Parts.{partTy, entry, isTextBelow};
+ghost use Rattle.value.specs.Parts.{entry, isTextBelow};
 use wire::Sized;
 use wire::Step;
 
@@ -34,10 +34,7 @@ fn value(table: &[u8], shapes: &[u8; 256], t: usize, e: usize, s: &[u8]) -> Step
         5 => plain::skip(s, 4),
         6 => plain::skip(s, 8),
         7 => wire::read_text(s),
-        8 => plain::enumerator(
-            s,
-            table::field(table, e, 0) + 65536 * table::field(table, e, 1),
-        ),
+        8 => plain::enumerator(table, e, s),
         9 => struct_value(table, shapes, e, s),
         10 => sequence(table, shapes, e, s),
         11 => dictionary(table, shapes, e, s),
@@ -279,8 +276,7 @@ pub fn read_member(table: &[u8], shapes: &[u8; 256], t: usize, s: &[u8]) -> Step
         return plain::bool(s);
     }
     if shapes::is_enum(shapes, t) {
-        let row = table::type_row(table, t);
-        return plain::enumerator(s, row.a + 65536 * row.b);
+        return plain::enumerator(table, t, s);
     }
     read_value(table, shapes, t, s)
 }

@@ -3,7 +3,8 @@ ghost use mathlib.Core.Path.{_≡_};
 ghost use Rattle.encoding.specs.Result.{skip, times};
 ghost use Rattle.encoding.specs.Number.{bool};
 ghost use Rattle.encoding.specs.Proxy.{text};
-ghost use Rattle.encoding.specs.Types.{upto, enum};
+ghost use Rattle.encoding.specs.Types.{enum};
+ghost use Rattle.encoding.specs.Table.{allowed};
 ghost use Rattle.encoding.specs.Value.{value};
 ghost use Rattle.wire.specs.Steps.{stepOf};
 use wire::Sized;
@@ -53,14 +54,14 @@ pub fn texts(s: &[u8], n: usize) -> Step
     Step::Took(at)
 }
 
-// An enum: a size, at most the greatest enumerator.
-pub fn enumerator(s: &[u8], greatest: usize) -> Step
-    ensures { λ r. ⌜ r ≡ stepOf (value (enum (upto greatest)) (now (s .entry))) ⌝ }
+// An enum: a size that enum row t of the table allows.
+pub fn enumerator(table: &[u8], t: usize, s: &[u8]) -> Step
+    ensures { λ r. ⌜ r ≡ stepOf (value (enum (allowed (now (table .entry)) t)) (now (s .entry))) ⌝ }
 {
     let z = wire::read_size(s);
     match z {
         Sized::Is(n, k) => {
-            if n <= greatest {
+            if table::allows(table, t, n) {
                 Step::Took(k)
             } else {
                 Step::Fault(9, 0)

@@ -22,7 +22,7 @@ required-spec =
     Inv-loop
     μ-loop
     (λ c κs. search needs)  -- members-requires
-    (λ c κs. search needs)  -- member-start-requires
+    (λ c κs. search needs)  -- members-at-requires
     (λ c κs. search needs)  -- type-row-requires
     (λ c. search needs)  -- add-next
     (λ c. search (needs, due-begin))  -- loop-holds

@@ -8,7 +8,6 @@ pub enum-row-spec : {M : Type 1} → statement M
 enum-row-spec =
     tie.close
     (tie.spec
-    (λ c. search needs)  -- mul-if1
-    (λ c. search needs)  -- add-if1
+    (λ c κs. search needs)  -- greatest-requires
     (λ c. search enum-great)  -- returns
     (λ c. search enum-fine))  -- returns-2

@@ -8,6 +8,7 @@ pub header-spec : {M : Type 1} → statement M
 header-spec =
     tie.close
     (tie.spec
+    (λ c κs. search needs)  -- types-at-requires
     (λ c. search header-short)  -- returns
     (λ c κs. search needs)  -- is-marked-requires
     (λ c. search header-mark)  -- returns-2
@@ -20,10 +21,7 @@ header-spec =
     (λ c. search header-names)  -- returns-6
     (λ c κs. search needs)  -- byte-at-requires
     (λ c. search header-spare)  -- returns-7
-    (λ c. search needs)  -- mul-if8
+    (λ c κs. search needs)  -- names-at-requires
     (λ c. search needs)  -- add-if8
-    (λ c. search needs)  -- mul-if8-2
-    (λ c. search needs)  -- add-if8-2
-    (λ c. search needs)  -- add-if8-3
     (λ c. search header-length)  -- returns-8
     (λ c. search header-fine))  -- returns-9

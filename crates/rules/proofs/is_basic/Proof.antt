@@ -8,9 +8,9 @@ pub is-basic-spec : {M : Type 1} → statement M
 is-basic-spec =
     tie.close
     (tie.spec
-    (λ c. search needs)  -- mul-start
-    (λ c. search needs)  -- add-start
-    (λ c. search needs)  -- add-end
+    (λ c κs. search needs)  -- row-at-requires
+    (λ c. search needs)  -- add-row-at
+    (λ c κs. search needs)  -- row-at-requires-2
     (λ c. search needs)  -- sub-row
     (λ c. search needs)  -- part-row-start
     (λ c. search needs)  -- part-row-end

@@ -7,10 +7,10 @@ use Rattle.rules.proofs.owner.Statement.{statement}
 use Rattle.rules.proofs.owner.Tie as tie
 
 abbrev Inv-loop : tie.InvT-loop
-Inv-loop table o n k start own left₀ m₀ above₀ optional left m above = (m + left ≤ k) × Owner table o start own left m above
+Inv-loop table o first k own left₀ m₀ above₀ optional left m above = (m + left ≤ k) × Owner table o own left m above
 
 abbrev μ-loop : tie.MeasureT-loop
-μ-loop table o n k start own left₀ m₀ above₀ optional left m above = left
+μ-loop table o first k own left₀ m₀ above₀ optional left m above = left
 
 pub owner-spec : {M : Type 1} → statement M
 owner-spec =
@@ -20,21 +20,16 @@ owner-spec =
     μ-loop
     Inv-loop
     μ-loop
-    (λ c. omega arith)  -- mul-start
-    (λ c. omega arith)  -- add-start
     (λ c κs. search needs)  -- type-row-in-requires
     (λ c κs. search needs)  -- share-requires
     (λ c. search owner-none)  -- returns
     (λ c. search needs)  -- add-if2
     (λ c. search owner-short)  -- returns-2
-    (λ c. (search needs, owner-begin _ _ _ _ (c .before .before .before .before .before .type-row-in .ensures) (c .before .before .before .before .share .ensures .0) (λ i. omega (arith, c .before .before .before .before .before .before .shared-slice-known .given i)) _ (c .before .before .before .before .before .before .before .pre .1 .0 .0)))  -- loop-holds
-    (λ c. omega arith)  -- mul-long-in
-    (λ c. omega arith)  -- add-long-in
+    (λ c. (search needs, owner-begin _ _ _ _ (c .before .before .before .before .before .type-row-in .ensures) (c .before .before .before .before .share .ensures .0) (λ i. omega (arith, c .before .before .before .before .before .before .shared-slice-known .given i))))  -- loop-holds
+    (λ c κs. (search needs, omega arith))  -- member-at-requires
     (λ c κs. omega arith)  -- long-in-requires
     (λ c κs. search needs)  -- is-usual-requires
     (λ c κs. search needs)  -- no-part-requires
-    (λ c. omega arith)  -- mul-t21
-    (λ c. omega arith)  -- add-t22
     (λ c. search usual-fault)  -- returns-3
     (λ c κs. omega arith)  -- raised-requires
     (λ c. omega arith)  -- add-m
@@ -42,16 +37,13 @@ owner-spec =
     (λ c. omega arith)  -- loop-less
     (λ c. (search needs, search usual-next))  -- loop-again
     (λ c. c .before .loop .inv)  -- loop2-holds
-    (λ c. omega arith)  -- mul-member-row-in
-    (λ c. omega arith)  -- add-member-row-in
-    (λ c κs. omega arith)  -- member-row-in-requires
+    (λ c κs. (search needs, omega arith))  -- member-row-in-requires
     (λ c κs. search needs)  -- member-class-requires
-    (λ c. omega arith)  -- mul-t26
-    (λ c. omega arith)  -- add-t27
+    (λ c κs. (search needs, omega arith))  -- member-at-requires-2
     (λ c. search owner-fault)  -- returns-4
     (λ c κs. omega arith)  -- raised-requires-2
     (λ c. omega arith)  -- add-m-2
     (λ c. omega arith)  -- sub-left-2
     (λ c. omega arith)  -- loop2-less
-    (λ c. (search needs, owner-next _ _ _ _ _ _ _ (c .before .before .before .before .before .loop2 .inv .1) (c .before .before .before .before .loop2-test .taken) _ (c .before .before .before .member-row-in .ensures) _ (c .before .before .member-class .ensures) (c .before .if5 .left) _ (c .raised2 .ensures)))  -- loop2-again
+    (λ c. (search needs, owner-next _ _ _ _ _ _ (c .before .before .before .before .before .loop2 .inv .1) (c .before .before .before .before .loop2-test .taken) _ (c .before .before .before .member-row-in .ensures) _ (c .before .before .member-class .ensures) (c .before .if5 .left) _ (c .raised2 .ensures)))  -- loop2-again
     (λ c. search owner-end))  -- returns-5

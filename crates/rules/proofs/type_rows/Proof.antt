@@ -26,8 +26,7 @@ type-rows-spec =
     (λ c. search types-basic)  -- loop-again
     (λ c κs. search needs)  -- type-row-in-requires
     (λ c κs. search needs)  -- type-class-requires
-    (λ c. omega arith)  -- mul-t10
-    (λ c. omega arith)  -- add-t11
+    (λ c κs. omega arith)  -- row-at-requires
     (λ c. search types-fault)  -- returns
     (λ c κs. search needs)  -- share-requires
     (λ c. omega arith)  -- add-prior

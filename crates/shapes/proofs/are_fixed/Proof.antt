@@ -23,11 +23,11 @@ are-fixed-spec =
     (λ c κs. search needs)  -- field-requires-2
     (λ c. search members-begin)  -- loop-holds
     (λ c. search members-past)  -- returns
-    (λ c κs. search needs)  -- member-type-requires
+    (λ c κs. search needs)  -- member-row-requires
     (λ c κs. search needs)  -- is-fixed-requires
     (λ c. search (members-not, not-true))  -- returns-2
     (λ c. omega arith)  -- add-m
     (λ c. omega arith)  -- sub-left
     (λ c. omega arith)  -- loop-less
-    (λ c. members-next _ _ _ _ (c .before .before .before .before .before .loop .inv) (c .before .before .before .before .loop-test .taken) _ (c .before .before .before .before .before .before .before .before .members .ensures .0) (c .before .before .before .if1 .left) _ (c .before .before .member-type .ensures .0) _ (c .before .is-fixed .ensures) (not-false _ (c .if2 .left)))  -- loop-again
+    (λ c. members-next _ _ _ _ (c .before .before .before .before .before .loop .inv) (c .before .before .before .before .loop-test .taken) _ (c .before .before .before .before .before .before .before .before .members .ensures .0) (c .before .before .before .if1 .left) _ (c .before .before .member-row .ensures .of-is) _ (c .before .is-fixed .ensures) (not-false _ (c .if2 .left)))  -- loop-again
     (λ c. search members-end))  -- returns-3

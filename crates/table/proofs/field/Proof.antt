@@ -1,6 +1,6 @@
--- The part that begins at the row has field i at 2 + 2 i; a field past half the table's length lies past its end. Assumes nothing.
+-- In the part that begins at the row; a field past half the table's length is past its end. Assumes nothing.
 use borrow.Author.Needs.{needs}
-use Rattle.table.proofs.Places.{field-past, field-is, rest-shows}
+use Rattle.table.proofs.Places.{field-past, field-within, rest-shows}
 use Rattle.table.proofs.field.Statement.{statement}
 use Rattle.table.proofs.field.Tie as tie
 
@@ -9,11 +9,10 @@ field-spec =
     tie.close
     (tie.spec
     (λ c. search (needs, field-past))  -- returns
-    (λ c κs. search needs)  -- row-requires
+    (λ c κs. search needs)  -- row-or-end-requires
     (λ c. search needs)  -- sub-short-at
     (λ c. search needs)  -- part-short-at-start
     (λ c. search needs)  -- part-short-at-end
-    (λ c. search needs)  -- mul-short-at
-    (λ c. search needs)  -- add-short-at
+    (λ c κs. search needs)  -- field-at-requires
     (λ c κs. search needs)  -- short-at-requires
-    (λ c. search (needs, field-is, rest-shows)))  -- returns-2
+    (λ c. search (needs, field-within, rest-shows)))  -- returns-2

@@ -1,6 +1,7 @@
--- At its place; of a far row, the part that begins at the row has the kind first. Assumes nothing.
+-- At its place; for a far row, first in the part that begins at the row. Assumes nothing.
 use borrow.Author.Needs.{needs}
-use Rattle.table.proofs.Places.{rest-shows, kind-direct, kind-is}
+use native.Mathlib.Omega.{arith}
+use Rattle.table.proofs.Places.{row-fits, rest-shows, kind-direct, kind-is}
 use Rattle.table.proofs.kind.Statement.{statement}
 use Rattle.table.proofs.kind.Tie as tie
 
@@ -8,11 +9,10 @@ pub kind-spec : {M : Type 1} → statement M
 kind-spec =
     tie.close
     (tie.spec
-    (λ c. search needs)  -- mul-byte-at
-    (λ c. search needs)  -- add-byte-at
+    (λ c κs. row-fits _ _ (omega arith))  -- row-at-requires
     (λ c κs. search needs)  -- byte-at-requires
     (λ c. search (needs, kind-direct))  -- returns
-    (λ c κs. search needs)  -- row-requires
+    (λ c κs. search needs)  -- row-or-end-requires
     (λ c. search needs)  -- sub-byte-at
     (λ c. search needs)  -- part-byte-at-start
     (λ c. search needs)  -- part-byte-at-end

@@ -8,8 +8,7 @@ pub kind-in-spec : {M : Type 1} → statement M
 kind-in-spec =
     tie.close
     (tie.spec
-    (λ c. search needs)  -- mul-wide
-    (λ c. search needs)  -- add-wide
+    (λ c κs. search needs)  -- row-at-requires
     (λ c. search needs)  -- shared-slice-read-wide
     (λ c κs. search needs)  -- wide-requires
     (λ c. search (needs, kind-byte)))  -- returns

@@ -1,35 +1,21 @@
--- A row that lies inside is read from its own 12 bytes. Assumes nothing.
+-- Each field from the row's own 12 bytes. Assumes nothing.
 use borrow.Author.Needs.{needs}
 use native.Mathlib.Omega.{arith}
 use Rattle.table.proofs.Places.{row-shows, kind-is, spare-is, field-is}
 use Rattle.table.proofs.type_row_in.Statement.{statement}
 use Rattle.table.proofs.type_row_in.Tie as tie
 
-pub type-row-in-spec : {M : Type 1} → statement M
-type-row-in-spec =
-    tie.close
-    (tie.spec
-    (λ c. search needs)  -- mul-start
-    (λ c. search needs)  -- add-start
-    (λ c. search needs)  -- add-end
-    (λ c. search needs)  -- sub-bytes
-    (λ c. search needs)  -- part-bytes-start
-    (λ c. search needs)  -- part-bytes-end
-    (λ c κs. search needs)  -- byte-at-requires
-    (λ c κs. search needs)  -- byte-at-requires-2
-    (λ c κs. search needs)  -- short-at-requires
-    (λ c κs. search needs)  -- short-at-requires-2
-    (λ c κs. search needs)  -- short-at-requires-3
-    (λ c κs. search needs)  -- short-at-requires-4
-    (λ c κs. search needs)  -- short-at-requires-5
-    (λ c. record {
-      kind-is = kind-is _ _ _ _ (row-shows _ _ _ (omega arith)) (search);
-      spare-is = spare-is _ _ _ _ (row-shows _ _ _ (omega arith)) (search);
-      a-is = field-is _ _ _ _ 0 (row-shows _ _ _ (omega arith)) (search);
-      b-is = field-is _ _ _ _ 1 (row-shows _ _ _ (omega arith)) (search);
-      c-is = field-is _ _ _ _ 2 (row-shows _ _ _ (omega arith)) (search);
-      d-is = field-is _ _ _ _ 3 (row-shows _ _ _ (omega arith)) (search);
-      e-is = field-is _ _ _ _ 4 (row-shows _ _ _ (omega arith)) (search);
+returns : tie.Need-returns
+returns c =
+    let shows = row-shows _ _ _ _ (c .before .before .before .before .before .before .before .before .before .before .before .before .before .before .row-at .ensures) (c .before .before .before .before .before .before .before .before .before .before .before .before .before .row-at2 .ensures) in
+    record {
+      kind-is = kind-is _ _ _ shows _ (search);
+      spare-is = spare-is _ _ _ shows _ (search);
+      a-is = field-is _ _ _ shows _ 0 (omega arith) _ (c .before .before .before .before .before .before .before .before .before .field-at .ensures) (search);
+      b-is = field-is _ _ _ shows _ 1 (omega arith) _ (c .before .before .before .before .before .before .before .field-at2 .ensures) (search);
+      c-is = field-is _ _ _ shows _ 2 (omega arith) _ (c .before .before .before .before .before .field-at3 .ensures) (search);
+      d-is = field-is _ _ _ shows _ 3 (omega arith) _ (c .before .before .before .field-at4 .ensures) (search);
+      e-is = field-is _ _ _ shows _ 4 (omega arith) _ (c .before .field-at5 .ensures) (search);
       kind-small = search;
       spare-small = search;
       a-small = search;
@@ -37,4 +23,28 @@ type-row-in-spec =
       c-small = search;
       d-small = search;
       e-small = search;
-    }))  -- returns
+    }
+
+pub type-row-in-spec : {M : Type 1} → statement M
+type-row-in-spec =
+    tie.close
+    (tie.spec
+    (λ c κs. search needs)  -- row-at-requires
+    (λ c. search needs)  -- add-row-at
+    (λ c κs. search needs)  -- row-at-requires-2
+    (λ c. search needs)  -- sub-bytes
+    (λ c. search needs)  -- part-bytes-start
+    (λ c. search needs)  -- part-bytes-end
+    (λ c κs. search needs)  -- byte-at-requires
+    (λ c κs. search needs)  -- byte-at-requires-2
+    (λ c κs. search needs)  -- field-at-requires
+    (λ c κs. search needs)  -- short-at-requires
+    (λ c κs. search needs)  -- field-at-requires-2
+    (λ c κs. search needs)  -- short-at-requires-2
+    (λ c κs. search needs)  -- field-at-requires-3
+    (λ c κs. search needs)  -- short-at-requires-3
+    (λ c κs. search needs)  -- field-at-requires-4
+    (λ c κs. search needs)  -- short-at-requires-4
+    (λ c κs. search needs)  -- field-at-requires-5
+    (λ c κs. search needs)  -- short-at-requires-5
+    returns)

@@ -5,11 +5,11 @@ use native.Mathlib.Omega.{arith}
 use borrow.Author.Needs.{needs}
 use Rattle.encoding.specs.Result.{times}
 use Rattle.encoding.specs.Types.{struct}
-use Rattle.encoding.specs.Table.{field, range, memberTys, ownRows, tys}
+use Rattle.encoding.specs.Table.{field, range, memberTys, ownRows, tys, partTy}
 use Rattle.encoding.specs.Value.{value as value-of, values}
 use Rattle.wire.specs.Steps.{stepOf}
 use Rattle.wire.specs.StepLaws.{Left}
-use Rattle.value.specs.Parts.{partTy, entry}
+use Rattle.value.specs.Parts.{entry}
 use Rattle.wire.proofs.Laws.{size-within}
 use Rattle.wire.proofs.Sums.{part-fits}
 use Rattle.value.proofs.Room.{items-fits, sized-items-fits}
@@ -43,7 +43,6 @@ use Rattle.value.proofs.+dictionary+elements+entries+key+pair+part+sequ
 use Rattle.value.proofs.value.Reads as value
 use Rattle.value.proofs.value.Kinds as value-kinds
 use Rattle.value.proofs.+dictionary+elements+entries+key+pair+part+sequence+struct_value+value.Lts-value as value-lts
-use Rattle.table.proofs.field.Reads as field-reads
 use Rattle.table.proofs.field_a.Reads as field-a-reads
 use Rattle.table.proofs.field_b.Reads as field-b-reads
 use Rattle.table.proofs.kind.Reads as kind-reads
@@ -170,7 +169,7 @@ abbrev struct-value-calls : ℕ → struct-value-lts.Claims
 struct-value-calls t = (members-reads.Asked, members-reads.Learnt, type-row-reads.Asked, type-row-reads.Learnt, member-row-reads.Asked, member-row-reads.Learnt, part-below t, part.Post)
 
 abbrev value-calls : ℕ → value-lts.Claims
-value-calls t = (kind-reads.Asked, kind-reads.Learnt, bool-reads.Asked, bool-reads.Learnt, skip-reads.Asked, skip-reads.Learnt, read-text-reads.Asked, read-text-reads.Learnt, field-reads.Asked, field-reads.Learnt, enumerator-reads.Asked, enumerator-reads.Learnt, struct-value-below t, struct-value.Post, sequence-below t, sequence.Post, dictionary-below t, dictionary.Post, proxy-reads.Asked, proxy-reads.Learnt)
+value-calls t = (kind-reads.Asked, kind-reads.Learnt, bool-reads.Asked, bool-reads.Learnt, skip-reads.Asked, skip-reads.Learnt, read-text-reads.Asked, read-text-reads.Learnt, enumerator-reads.Asked, enumerator-reads.Learnt, struct-value-below t, struct-value.Post, sequence-below t, sequence.Post, dictionary-below t, dictionary.Post, proxy-reads.Asked, proxy-reads.Learnt)
 
 abbrev elements-Inv-loop : elements-lts.InvT-loop
 elements-Inv-loop table shapes t e n s left₀ at₀ left at = Left s (stepOf (times n (value-of (partTy table t e)) s)) (times left (value-of (partTy table t e))) at
@@ -329,10 +328,6 @@ pub +dictionary+elements+entries+key+pair+part+sequence+struct-value+value-spec 
     (λ c κs. search needs)  -- skip-requires-5
     (λ c κs. search needs)  -- skip-requires-6
     (λ c κs. search needs)  -- read-text-requires
-    (λ c κs. search needs)  -- field-requires
-    (λ c κs. search needs)  -- field-requires-2
-    (λ c. search needs)  -- mul-enumerator
-    (λ c. search needs)  -- add-enumerator
     (λ c κs. search needs)  -- enumerator-requires
     (λ c κs. search needs)  -- struct-value-requires
     (λ c κs. search needs)  -- sequence-requires

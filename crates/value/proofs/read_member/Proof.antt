@@ -17,9 +17,6 @@ read-member-spec =
     (λ c κs. search needs)  -- bool-requires
     (λ c. search row-bool)  -- returns-3
     (λ c κs. search needs)  -- is-enum-requires
-    (λ c κs. search needs)  -- type-row-requires
-    (λ c. search needs)  -- mul-enumerator
-    (λ c. search needs)  -- add-enumerator
     (λ c κs. search needs)  -- enumerator-requires
     (λ c. search row-enum)  -- returns-4
     (λ c κs. search needs)  -- read-value-requires

@@ -19,7 +19,7 @@ behind-spec =
     (tie.spec
     Inv-loop
     μ-loop
-    (λ c κs. search needs)  -- member-start-requires
+    (λ c κs. search needs)  -- members-at-requires
     (λ c. search passing-begin)  -- loop-holds
     (λ c κs. (search needs, (search needs, omega arith)))  -- member-row-from-requires
     (λ c. search passing-here)  -- returns

@@ -1,4 +1,4 @@
--- Rows inside are looked at without a test. The loop's invariant: the members left to look at decide. The measure is their number. Assumes nothing.
+-- Rows inside are read without a test. The loop's invariant: the members left to look at decide. The measure is their number. Assumes nothing.
 use borrow.Author.Needs.{needs}
 use Prim.Native.Nat.{_-_}
 use mathlib.Core.Logic.{⊎-elim}
@@ -19,9 +19,8 @@ tag-member-spec =
     (tie.spec
     Inv-loop
     μ-loop
-    (λ c κs. search needs)  -- member-start-requires
-    (λ c. omega arith)  -- mul-if
-    (λ c. omega arith)  -- add-if
+    (λ c κs. search needs)  -- members-at-requires
+    (λ c κs. search needs)  -- member-at-requires
     (λ c κs. (search needs, omega arith))  -- tag-member-in-requires
     (λ c. search needs)  -- returns
     (λ c. search optionals-begin)  -- loop-holds

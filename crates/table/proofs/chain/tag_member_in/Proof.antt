@@ -1,8 +1,8 @@
 -- The loop's invariant: the members left to look at decide. The measure is their number. Assumes nothing.
+use borrow.Author.Needs.{needs}
 use Prim.Native.Nat.{_-_}
 use mathlib.Core.Logic.{⊎-elim}
 use native.Mathlib.Omega.{arith}
-use Rattle.table.proofs.Places.{member-placed}
 use Rattle.table.proofs.Chains.{Optionals, optionals-begin, optionals-here, optionals-required, optionals-other, optionals-end}
 use Rattle.table.proofs.chain.tag_member_in.Statement.{statement}
 use Rattle.table.proofs.chain.tag_member_in.Tie as tie
@@ -20,11 +20,9 @@ tag-member-in-spec =
     Inv-loop
     μ-loop
     (λ c. search optionals-begin)  -- loop-holds
-    (λ c. omega arith)  -- mul-member-row-in
-    (λ c. omega arith)  -- add-member-row-in
-    (λ c κs. omega arith)  -- member-row-in-requires
-    (λ c. search (optionals-here, member-placed))  -- returns
+    (λ c κs. (search needs, omega arith))  -- member-row-in-requires
+    (λ c. search optionals-here)  -- returns
     (λ c. omega arith)  -- add-m
     (λ c. omega arith)  -- loop-less
-    (λ c. ⊎-elim (λ w. search (optionals-other, member-placed _ _ _ _ (c .before .before .before .before .before .before .pre .0) (c .before .before .member-row-in .ensures))) (λ w. search (optionals-required, member-placed _ _ _ _ (c .before .before .before .before .before .before .pre .0) (c .before .before .member-row-in .ensures))) (c .if1 .came))  -- loop-again
+    (λ c. ⊎-elim (λ w. search optionals-other) (λ w. search optionals-required) (c .if1 .came))  -- loop-again
     (λ c. search optionals-end))  -- returns-2

@@ -9,13 +9,8 @@ is-named-spec =
     tie.close
     (tie.spec
     (λ c κs. search needs)  -- type-row-requires
-    (λ c κs. search needs)  -- types-requires
-    (λ c. search needs)  -- mul-start
+    (λ c κs. search needs)  -- names-at-requires
     (λ c. search needs)  -- add-start
-    (λ c κs. search needs)  -- members-requires
-    (λ c. search needs)  -- mul-start-2
-    (λ c. search needs)  -- add-start-2
-    (λ c. search needs)  -- add-start-3
     (λ c κs. search needs)  -- least-requires
     (λ c. search needs)  -- sub-least
     (λ c κs. search needs)  -- least-requires-2

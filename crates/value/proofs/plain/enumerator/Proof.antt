@@ -1,6 +1,6 @@
 -- An enum: its size, judged, or the size's refusal.
 use borrow.Author.Needs.{needs}
-use Rattle.value.proofs.PlainLaws.{enum-fits, enum-past, enum-none}
+use Rattle.value.proofs.PlainLaws.{enum-allowed, enum-other, enum-none}
 use Rattle.value.proofs.plain.enumerator.Statement.{statement}
 use Rattle.value.proofs.plain.enumerator.Tie as tie
 
@@ -10,7 +10,8 @@ enumerator-spec =
     (tie.spec
     (λ c κs. search needs)  -- read-size-requires
     (λ c. search needs)  -- enum-known-z
+    (λ c κs. search needs)  -- allows-requires
     (λ c. search needs)  -- enum-known-z-2
-    (λ c. search enum-fits)  -- returns
-    (λ c. search enum-past)  -- returns-2
+    (λ c. search enum-allowed)  -- returns
+    (λ c. search enum-other)  -- returns-2
     (λ c. search enum-none))  -- returns-3
