@@ -10,7 +10,7 @@
 --   known-place, opened-eats, -sized      where its data begin
 --   passed-end, passed-never              where a skipped slice ends; none is behind a known one
 use mathlib.Core.Path.{_≡_, refl, sym, ap, _∙_, subst}
-use mathlib.Core.Bool.{Bool, true, false, _&&_, _||_, not}
+use mathlib.Core.Bool.{Bool, true, false, _&&_, _||_, not, true≢false}
 use mathlib.Core.Option.{Option, none, some}
 use mathlib.Core.List.{List, [], _∷_}
 use Prim.Native.Nat.{ℕ, zero, suc, _+_, _-_, _≤_, _<_}
@@ -20,7 +20,7 @@ use lib.Seq.{drop-drop}
 use lib.Dec.{eqb}
 use borrow.Author.Tests.{eqb-true, eqb-false, eq-eqb, ne-eqb, not-false}
 use Rattle.encoding.specs.Result.{Res, ok, bad, Parser, pick, shift, pure, fail, made, mapc, recalled, recall, leave, enter, inside, sameBytes}
-use Rattle.encoding.specs.ResultLaws.{ok≢bad, some≢none, sameBytes-ok, bind-bad, bind-next, pure-ok, must-ok, mapc-ok, held-took, held-refused, held-must}
+use Rattle.encoding.specs.ResultLaws.{ofContents, ok≢bad, some≢none, sameBytes-ok, bind-bad, bind-next, pure-ok, must-ok, mapc-ok, held-took, held-refused, held-must}
 use Rattle.encoding.specs.Number.{declared, leBytes, string, stringBytes}
 use Rattle.encoding.specs.NumberLaws.{length-leBytes, held-declared, ends-declared}
 use Rattle.encoding.specs.Table.{types, any, nameOf, named, base, upward, chain}
@@ -60,7 +60,7 @@ module _ (T : List ℕ) (top : ℕ) (st : Slice.Stage) (xs : List ℕ) where
       go₂ : (h : Head) (n : ℕ) → headed T top st xs ≡ ok h n → (m : Meaning) → meaning T top st h ≡ m → Meant m → meaningForm m ≡ 0 → Headed (meaningAnswer h n m)
       go₂ h n e skip f q z = skips h n (must-ok (head (standOf st) (idForm T st)) xs (λ h. meaningForm (meaning T top st h)) e .0) f e
       go₂ h n e (row t) f q z = knows h n t (must-ok (head (standOf st) (idForm T st)) xs (λ h. meaningForm (meaning T top st h)) e .0) f e
-      go₂ h n e (wrong c) f q z = absurd (omega (arith, q .0))
+      go₂ h n e (wrong c) f q z = absurd (true≢false (sym q ∙ ap (λ (k : ℕ). ofContents k) z))
 
       go : (r : Res Head) → headed T top st xs ≡ r → Headed (headAnswer T top st r)
       go (ok h n) e = go₂ h n e (meaning T top st h) refl (meant-head T top st h) (must-ok (head (standOf st) (idForm T st)) xs (λ h. meaningForm (meaning T top st h)) e .1)
