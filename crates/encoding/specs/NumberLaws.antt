@@ -17,8 +17,7 @@ use borrow.Author.Tests.{leb-false, ltb-true, ltb-false, lt-leb, lt-ltb, le-ltb}
 use mathlib.Core.Option.{Option}
 use Rattle.encoding.specs.Result.{Parser, ok, pick, _>>=_, pure, chunk, item, must, firstOf}
 use Rattle.encoding.specs.ResultLaws.{Closed, by-pick, held, pick-judges, firstOf-judges, none-judges, Bound, bind-ok, bind-step, bind-take, bind-written, pure-ok, chunk-ok, chunk-written, item-ok, item-step, must-ok, must-step, firstOf-ok, Held, Ends, ends-chunk, ends-item, ends-bind, Eats, eats-chunk, eats-first, eats-item, eats-must, eats-mapc, Starved, starved-chunk}
-pub use Rattle.encoding.specs.Number.{Bytes}
-use Rattle.encoding.specs.Number.{val, leBytes, negative, number, byte, boolForm, bool, sizeForm, sizeTail, size, sizeBytes, lengthForm, declared, Content, string, stringBytes}
+use Rattle.encoding.specs.Number.{Bytes, val, leBytes, negative, number, byte, boolForm, bool, sizeForm, sizeTail, size, sizeBytes, lengthForm, declared, Content, string, stringBytes}
 
 -- ---- bytes
 
