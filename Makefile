@@ -5,7 +5,7 @@ PREFIX = /usr/local
 CALLS = 1000000
 SEED =
 # make stack: the recorded calls to make besides the generated ones
-RECORDED = crates/replay crates/replay_write
+RECORDED = crates/replay
 
 RT = rt
 CARGO = cargo

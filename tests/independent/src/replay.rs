@@ -1,4 +1,4 @@
-//! The recorded calls of the gate, as crates/replay and crates/replay_write read them from their file `stdin`.
+//! The recorded calls of the gate, as crates/replay reads them from its file `stdin`.
 
 use crate::calls::Call;
 
@@ -12,87 +12,69 @@ impl<'a> Records<'a> {
         Some(taken)
     }
 
-    fn short(&mut self) -> Option<u16> {
-        self.take(2)?.try_into().map(u16::from_le_bytes).ok()
-    }
-
     fn int(&mut self) -> Option<u32> {
         self.take(4)?.try_into().map(u32::from_le_bytes).ok()
     }
 
-    /// A record of crates/replay: a table to hold, or a call under the table held.
-    fn read_record(&mut self, table: &mut Vec<u8>) -> Option<Option<Call>> {
-        let (kind, fallback) = (self.short()?, self.short()?);
-        let (top, third, length) = (self.int()?, self.int()?, self.int()?);
-        let bytes = self.take(length as usize)?.to_vec();
-        let fallback = self.take(fallback.into())?.to_vec();
-        Some(match kind {
+    /// A record: a table to hold, or a call under the table held. A call with row records is one of the reader with room for eight rows.
+    fn record(&mut self, table: &mut Vec<u8>) -> Option<Option<Call>> {
+        let (kind, length) = (self.int()?, self.int()?);
+        let [a, b, c, d, e] = [self.int()?, self.int()?, self.int()?, self.int()?, self.int()?];
+        let bytes = self.take(length as usize)?;
+        let parts = |first: u32| bytes.split_at_checked(first as usize).map(|(x, y)| (x.to_vec(), y.to_vec()));
+        let held = table.clone();
+        Some(Some(match kind {
             0 => {
-                *table = bytes;
-                None
+                *table = bytes.to_vec();
+                return Some(None);
             }
-            1 => Some(Call::Read { table: table.clone(), top, message: bytes, room: third as usize }),
-            2 => Some(Call::View { table: table.clone(), top, message: bytes, member: third, fallback }),
+            1 => Call::Read { table: held, top: a, message: bytes.to_vec(), room: b as usize },
+            2 => {
+                let (message, fallback) = parts(c)?;
+                Call::View { table: held, top: a, message, member: b, fallback }
+            }
+            3 => {
+                let (rows, buffer) = parts(d)?;
+                Call::Write { table: held, of: a, format: b, count: c, rows, buffer, room: e as usize }
+            }
+            4 => Call::Read { table: held, top: a, message: bytes.to_vec(), room: 96 },
+            5 => Call::Check { table: held },
             _ => return None,
-        })
-    }
-
-    /// A record of crates/replay_write: a call, under its own table or the one before.
-    fn write_record(&mut self, table: &mut Vec<u8>) -> Option<Option<Call>> {
-        let (held, of, format, count) = (self.int()?, self.int()?, self.int()?, self.int()?);
-        let (rows, buffer, room) = (self.int()?, self.int()?, self.int()?);
-        if held > 0 {
-            *table = self.take(held as usize)?.to_vec();
-        }
-        let (rows, buffer) = (self.take(rows as usize)?.to_vec(), self.take(buffer as usize)?.to_vec());
-        Some(Some(Call::Write { table: table.clone(), of, format, count, rows, buffer, room: room as usize }))
-    }
-
-    fn calls(mut self, record: impl Fn(&mut Self, &mut Vec<u8>) -> Option<Option<Call>>) -> Option<Vec<Call>> {
-        let (mut calls, mut table) = (vec![], vec![]);
-        while !self.0.is_empty() {
-            calls.extend(record(&mut self, &mut table)?);
-        }
-        Some(calls)
+        }))
     }
 }
 
-/// The calls of crates/replay: of the reader and the member view.
-pub fn reader_calls(stdin: &[u8]) -> Option<Vec<Call>> {
-    Records(stdin).calls(Records::read_record)
-}
-
-/// The calls of crates/replay_write: of the writer.
-pub fn writer_calls(stdin: &[u8]) -> Option<Vec<Call>> {
-    Records(stdin).calls(Records::write_record)
+/// The calls of crates/replay; none if its file is cut off or has a record of another kind.
+pub fn calls(stdin: &[u8]) -> Option<Vec<Call>> {
+    let (mut records, mut calls, mut table) = (Records(stdin), vec![], vec![]);
+    while !records.0.is_empty() {
+        calls.extend(records.record(&mut table)?);
+    }
+    Some(calls)
 }
 
 #[cfg(test)]
 mod tests {
     use super::*;
 
-    const READ: &[u8] = include_bytes!("../../../crates/replay/stdin");
-    const WRITE: &[u8] = include_bytes!("../../../crates/replay_write/stdin");
+    const STDIN: &[u8] = include_bytes!("../../../crates/replay/stdin");
 
-    /// Each call has a line of what the program has to print, which begins with the refusal's number.
+    /// Each call has a line of what the program has to print. It begins with the refusal's number, except for the view
+    /// and for the last calls, of the reader with row records.
     #[test]
     fn as_replayed() {
-        for (calls, lines) in [
-            (reader_calls(READ).unwrap(), include_str!("../../../crates/replay/stdout")),
-            (writer_calls(WRITE).unwrap(), include_str!("../../../crates/replay_write/stdout")),
-        ] {
-            assert_eq!(calls.len(), lines.lines().count());
-            for (call, line) in calls.iter().zip(lines.lines()) {
-                if !matches!(call, Call::View { .. }) {
-                    assert_eq!(line.split(' ').next().unwrap(), call.answer().refusal().to_string());
-                }
+        let (calls, lines) = (calls(STDIN).unwrap(), include_str!("../../../crates/replay/stdout"));
+        assert_eq!(calls.len(), lines.lines().count());
+        let numbered = calls.iter().rposition(|call| matches!(call, Call::Write { .. })).unwrap() + 1;
+        for (call, line) in calls.iter().zip(lines.lines()).take(numbered) {
+            if !matches!(call, Call::View { .. }) {
+                assert_eq!(line.split(' ').next().unwrap(), call.answer().refusal().to_string());
             }
         }
     }
 
     #[test]
     fn cut_off() {
-        assert!(reader_calls(&READ[..READ.len() - 1]).is_none());
-        assert!(writer_calls(&WRITE[..WRITE.len() - 1]).is_none());
+        assert!(calls(&STDIN[..STDIN.len() - 1]).is_none());
     }
 }

@@ -1,4 +1,4 @@
--- `field` is safe: what is left behind the mask fits 32 bits. Assumes nothing.
+-- `field` is safe: what is left after the mask fits 32 bits. Assumes nothing.
 use borrow.Author.Needs.{needs}
 use lib.Bits.{mask-lt}
 use Rattle.replay.proofs.field.Statement.{statement}

@@ -7,10 +7,10 @@ use Rattle.replay.proofs.main.Statement.{statement}
 use Rattle.replay.proofs.main.Tie as tie
 
 abbrev Inv-loop : tie.InvT-loop
-Inv-loop tables₀ input₀ rows₀ held₀ turns₀ tables input rows held turns = (length tables ≡ 65536) × (length input ≡ 131072) × (length rows ≡ 12300)
+Inv-loop table₀ input₀ lent₀ held₀ turns₀ table input lent held turns = (length table ≡ 65536) × (length input ≡ 131072) × (length lent ≡ 65536)
 
 abbrev μ-loop : tie.MeasureT-loop
-μ-loop tables₀ input₀ rows₀ held₀ turns₀ tables input rows held turns = turns
+μ-loop table₀ input₀ lent₀ held₀ turns₀ table input lent held turns = turns
 
 pub main-spec : {M : Type 1} → statement M
 main-spec =
@@ -19,6 +19,7 @@ main-spec =
     Inv-loop
     μ-loop
     (λ c κs. search needs)  -- large-buffer-requires
+    (λ c κs. search needs)  -- large-buffer-requires-2
     (λ c. search needs)  -- loop-holds
     (λ c. search needs)  -- slice-aggregate-read-full
     (λ c κs. search needs)  -- read-full-requires

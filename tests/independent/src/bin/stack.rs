@@ -1,6 +1,6 @@
 //! stack [PATH...]: the deepest stack of each call of the library, in bytes with its return address and the arguments
 //! that lie on the stack. Made are recorded calls, generated calls, and calls under tables of 256 types, each type nested
-//! in the next. A PATH has recorded calls: crates/replay or crates/replay_write, another directory with *.jsonl in it, or
+//! in the next. A PATH has recorded calls: crates/replay, another directory with *.jsonl in it, or
 //! such a file. Each call runs on a painted stack of its own: where the paint ends is how deep it went. x86-64 only.
 
 use independent::calls::Call;
@@ -61,13 +61,8 @@ extern "C" fn run(call: &mut &mut dyn FnMut()) {
 fn recorded(path: &str) -> Result<Vec<Call>, String> {
     let read = |file: &Path| fs::read(file).map_err(|error| format!("{}: {error}", file.display()));
     let path = Path::new(path);
-    let replayed = match path.file_name().and_then(|name| name.to_str()) {
-        Some("replay") => Some(replay::reader_calls as fn(&[u8]) -> Option<Vec<Call>>),
-        Some("replay_write") => Some(replay::writer_calls as fn(&[u8]) -> Option<Vec<Call>>),
-        _ => None,
-    };
-    if let Some(calls) = replayed {
-        return calls(&read(&path.join("stdin"))?).ok_or(format!("{}: no recorded calls", path.display()));
+    if path.ends_with("replay") {
+        return replay::calls(&read(&path.join("stdin"))?).ok_or(format!("{}: no recorded calls", path.display()));
     }
     let mut files = vec![path.to_path_buf()];
     if path.is_dir() {

@@ -1,0 +1,121 @@
+-- What each check finds, in the shape in which the code has it. Assumes nothing.
+--
+--   bytes-known, bytes-none                           a list whose elements are below 256 is one of bytes
+--   top-beyond, top-kind                              2
+--   format-great, format-list, format-known           23
+--   early-top, early-format, early-long, early-none   2, 23 and 3 in turn
+--   broken-checks, early-checks, ready-checks         what `checks` gives; broken-, early-, ready-shapes: the lent array then
+use mathlib.Core.Path.{_≡_, refl, sym, ap, _∙_}
+use mathlib.Core.Bool.{Bool, true, false}
+use mathlib.Core.List.{List, [], _∷_}
+use Prim.Native.Nat.{ℕ, zero, suc, _≤_, _<_}
+use native.Mathlib.Omega.{arith}
+use lib.ListN.{length, getD}
+use lib.Dec.{eqb, ltb}
+use borrow.Author.Tests.{le-leb, lt-leb, le-ltb, lt-ltb, eq-eqb, ne-eqb}
+use Rattle.encoding.specs.Result.{firstOf}
+use Rattle.encoding.specs.Number.{Bytes}
+use Rattle.encoding.specs.Table.{types, kind, Fault, fine, fault, faults, ruleNumber}
+use Rattle.encoding.specs.Message.{noTop, limit}
+use Rattle.encoding.specs.Write.{noFormat}
+use Rattle.rules.specs.Checks.{verdictOf}
+use Rattle.shapes.specs.Shapes.{shapesOf}
+use Rattle.rules.specs.declared.Verdict.{Verdict}
+use Rattle.rules.specs.declared.Verdict.the-variants.{Fine, Broken}
+use Rattle.prepare.specs.declared.Prepared.{Prepared}
+use Rattle.prepare.specs.declared.Prepared.the-variants.{Ready, Refused}
+use Rattle.prepare.specs.Preparing.{before, checked, checks, ReadyShapes}
+
+pub bytes-known : (s : List ℕ) → ((i : ℕ) → getD s i 0 < 256) → Bytes s
+bytes-known [] h = tt
+bytes-known (x ∷ s) h = (h 0, bytes-known s (λ i. h (suc i)))
+
+pub bytes-none : (s : List ℕ) → length s ≤ 0 → Bytes s
+bytes-none [] h = tt
+bytes-none (x ∷ s) h = absurd (omega arith)
+
+-- ---- 2, 23, 3
+
+module _ (T : List ℕ) (top : ℕ) (n : ℕ) (en : n ≡ types T) where
+  pub top-beyond : n ≤ top → true ≡ noTop T top
+  unfolding noTop
+  top-beyond h = rw (le-leb (types T) top (omega arith))
+
+  pub top-kind : top < n → (k : ℕ) → k ≡ kind T top → ltb k 13 ≡ noTop T top
+  unfolding noTop
+  top-kind h k ek = rw (lt-leb (types T) top (omega arith), ek)
+
+module _ (kind format : ℕ) where
+  pub format-great : 1 < format → true ≡ noFormat kind format
+  unfolding noFormat
+  format-great h = rw (lt-ltb 1 format h)
+
+  module _ (h : format ≤ 1) where
+    pub format-list : format ≡ 0 → eqb kind 15 ≡ noFormat kind format
+    unfolding noFormat
+    format-list e = rw (le-ltb 1 format h, eq-eqb format 0 e)
+
+    pub format-known : (format ≡ 0 → ⊥) → false ≡ noFormat kind format
+    unfolding noFormat
+    format-known e = rw (le-ltb 1 format h, ne-eqb format 0 e)
+
+module _ (T : List ℕ) (top format len : ℕ) (a : Bool) (ea : a ≡ noTop T top) where
+  pub early-top : a ≡ true → 2 ≡ before T top format len
+  unfolding before firstOf
+  early-top q = rw (sym ea ∙ q)
+
+  module _ (qa : a ≡ false) (k : ℕ) (ek : k ≡ kind T top) (b : Bool) (eb : b ≡ noFormat k format) where
+    form : b ≡ noFormat (kind T top) format
+    form = eb ∙ ap (λ (x : ℕ). noFormat x format) ek
+
+    pub early-format : b ≡ true → 23 ≡ before T top format len
+    unfolding before firstOf
+    early-format q = rw (sym ea ∙ qa, sym form ∙ q)
+
+    module _ (qb : b ≡ false) where
+      pub early-long : limit < len → 3 ≡ before T top format len
+      unfolding before firstOf
+      early-long h = rw (sym ea ∙ qa, sym form ∙ qb, lt-ltb limit len h)
+
+      pub early-none : len ≤ limit → 0 ≡ before T top format len
+      unfolding before firstOf
+      early-none h = rw (sym ea ∙ qa, sym form ∙ qb, le-ltb limit len h)
+
+-- ---- all checks
+
+-- a refusal asks nothing of the lent array
+pub refused-shapes : (T : List ℕ) (c p : ℕ) (shapes : List ℕ) → ReadyShapes T (Refused c p) shapes
+refused-shapes T c p shapes = record { same = λ e. let z : _≡_ {A = ℕ} 0 1 = cc in absurd (omega arith) }
+
+pub ready-shapes : (T shapes : List ℕ) → shapes ≡ shapesOf T → ReadyShapes T Ready shapes
+ready-shapes T shapes e = record { same = λ _. e }
+
+module _ (T : List ℕ) (top format len : ℕ) (v : Verdict) (ev : v ≡ verdictOf (faults T)) where
+  pub broken-checks : (c p : ℕ) → v ≡ Broken c p → Refused 1 p ≡ checks T top format len
+  unfolding verdictOf checks checked ruleNumber
+  broken-checks c p q = go (faults T) (sym q ∙ ev)
+    where
+      go : (f : Fault) → Broken c p ≡ verdictOf f → Refused 1 p ≡ checked f (before T top format len)
+      go fine h = let z : _≡_ {A = ℕ} 0 1 = cc in absurd (omega arith)
+      go (fault d x) h = let ex : p ≡ x = cc in ap (Refused 1) ex
+
+  module _ (q : v ≡ Fine) (n : ℕ) (en : n ≡ before T top format len) where
+    passed : checks T top format len ≡ checked fine n
+    unfolding verdictOf checks
+    passed = go (faults T) (sym q ∙ ev)
+      where
+        go : (f : Fault) → Fine ≡ verdictOf f → checked f (before T top format len) ≡ checked fine n
+        go fine h = ap (checked fine) (sym en)
+        go (fault d x) h = let z : _≡_ {A = ℕ} 0 1 = cc in absurd (omega arith)
+
+    pub early-checks : (n ≡ 0 → ⊥) → Refused n 0 ≡ checks T top format len
+    unfolding checked
+    early-checks h = go n h ∙ sym passed
+      where
+        go : (k : ℕ) → (k ≡ 0 → ⊥) → Refused k 0 ≡ checked fine k
+        go zero h = absurd (h refl)
+        go (suc k) h = refl
+
+    pub ready-checks : n ≡ 0 → Ready ≡ checks T top format len
+    unfolding checked
+    ready-checks e = sym (passed ∙ ap (checked fine) e)

@@ -1,0 +1,2 @@
+-- What the reader's calls answer of a walk over a message.
+pub mod Told

@@ -1,0 +1,40 @@
+-- What the reader's calls answer of a walk over a message.
+--
+--   Walked                     what a walk over a message gives, and what it leaves in a lent list
+--   low x                      the low 32 bits of a number
+--   toldOf k w                 the answer of a walk where the list has room for k rows
+--   rowCount w                 the rows of an accepted message, none of a refused one
+--   readingBody T top m bytes  the answer without 1, 2 and 3: `reading` under a prepared table
+use mathlib.Core.Path.{_≡_}
+use mathlib.Core.List.{List}
+use Prim.Native.Nat.{ℕ, _%_, _^_}
+use lib.ListN.{length}
+use lib.Dec.{leb}
+use Rattle.encoding.specs.Result.{ok, pick}
+use Rattle.encoding.specs.Message.{Read, body, rows, Answer, answer, room, within}
+use Rattle.encoding.specs.declared.Reading.{Reading}
+use Rattle.encoding.specs.declared.Reading.the-variants.{Accepted, Refused}
+use Rattle.level.specs.Fill.{fill}
+use Rattle.reader.specs.Walks.{bodyWalk}
+use Rattle.reader.specs.declared.Walk.{Walk}
+use Rattle.reader.specs.declared.Walk.the-variants.{Done, Stop}
+
+-- the list is left with the rows of an accepted message, those that fit
+pub record Walked (T : List ℕ) (top : ℕ) (m : List ℕ) (w : Walk) (out last : List ℕ) : Type 0 where
+  pub says : w ≡ bodyWalk T top (body T top m)
+  pub kept : length last ≡ length out
+  pub lays : (rd : Read) (n : ℕ) → body T top m ≡ ok rd n → last ≡ fill 0 (rows T top (rd .format) (rd .pieces)) out
+
+abbrev pub low : ℕ → ℕ
+low x = x % 2 ^ 32
+
+unfoldable pub toldOf : ℕ → Walk → Reading
+toldOf k (Done t g n o s e) = pick (leb n k) (Accepted (low t) (low g) (low n) (low o) (low s)) (Refused 19 (low n))
+toldOf k (Stop c p) = Refused (low c) (low p)
+
+unfoldable pub rowCount : Walk → ℕ
+rowCount (Done t g n o s e) = n
+rowCount (Stop c p) = 0
+
+unfoldable pub readingBody : List ℕ → ℕ → List ℕ → ℕ → Answer
+readingBody T top m bytes = within (room bytes) (answer T top (body T top m))

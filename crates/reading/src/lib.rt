@@ -1,0 +1,145 @@
+// The reader's calls: the answer, and the rows in a lent list. None asks anything of its input.
+// `read_prepared` reads under a table that was checked before, so that a caller with many messages checks it once.
+ghost use mathlib.Core.Path.{_≡_};
+ghost use lib.ListN.{length};
+ghost use Rattle.encoding.specs.Message.{body, room, reading, listed, readingOf};
+ghost use Rattle.shapes.specs.Shapes.{shapesOf};
+ghost use Rattle.reader.specs.Walks.{bodyWalk};
+ghost use Rattle.reading.specs.Told.{Walked, low, toldOf, rowCount, readingBody};
+use encoding::Reading;
+use prepare::Prepared;
+use reader::Walk;
+
+// The low 32 bits.
+pub fn low(x: usize) -> u32
+    ensures { λ r. ⌜ r ≡ low x ⌝ }
+{
+    (x & 4294967295) as u32
+}
+
+// The answer of a walk where the list has room for k rows: 19 last.
+fn told(w: Walk, k: usize) -> Reading
+    ensures { λ r. ⌜ r ≡ toldOf k w ⌝ }
+{
+    match w {
+        Walk::Done(first, format, n, optionals, slices, end) => {
+            if n <= k {
+                Reading::Accepted(low(first), low(format), low(n), low(optionals), low(slices))
+            } else {
+                Reading::Refused(19, low(n))
+            }
+        }
+        Walk::Stop(c, p) => Reading::Refused(low(c), low(p)),
+    }
+}
+
+// The rows of an accepted message; none of a refused one.
+fn row_count(w: Walk) -> usize
+    ensures { λ r. ⌜ r ≡ rowCount w ⌝ }
+{
+    match w {
+        Walk::Done(first, format, n, optionals, slices, end) => n,
+        Walk::Stop(c, p) => 0,
+    }
+}
+
+// The walk over a message under a prepared table. It puts the rows of an accepted message into the list, those that fit.
+pub fn walk(table: &[u8], shapes: &[u8; 256], top: usize, message: &[u8], out: &mut [u8]) -> Walk
+    requires { ⌜ now shapes ≡ shapesOf (now table) ⌝ }
+    ensures { λ r. ⌜ Walked (now (table .entry)) top (now (message .entry)) r (now (out .entry)) (now (out .exit)) ⌝ }
+{
+    reader::body(table, shapes, top, message, out)
+}
+
+// Reads into a list of the call's own and copies the rows. If they do not fit there, a second walk puts them into the lent list, which has room for them.
+fn read_by(
+    table: &[u8],
+    shapes: &[u8; 256],
+    top: usize,
+    message: &[u8],
+    own: &mut [u8],
+    rows: &mut [u8],
+) -> Reading
+    requires { ⌜ now shapes ≡ shapesOf (now table) ⌝ }
+    ensures { λ r. ⌜ r ≡ toldOf (room (length (now (rows .entry)))) (bodyWalk (now (table .entry)) top (body (now (table .entry)) top (now (message .entry)))) ⌝ }
+    ensures { λ _. ⌜ now (rows .exit) ≡ listed (readingBody (now (table .entry)) top (now (message .entry)) (length (now (rows .entry)))) (now (rows .entry)) ⌝ }
+{
+    let most = own.len() / 12;
+    let k = rows.len() / 12;
+    let w = walk(table, shapes, top, message, own);
+    let n = row_count(w);
+    let answer = told(w, k);
+    if k < n {
+        return answer;
+    }
+    if n <= most {
+        wire::put_part(rows, 0, own, 0, 12 * n);
+        return answer;
+    }
+    walk(table, shapes, top, message, rows);
+    answer
+}
+
+// Reads a message under a prepared table: what `read` does after its checks. Each number of the answer is given in its low 32 bits.
+// The call's own list has 32 rows, or 128 if the table has more members: a longer list takes longer to clear.
+pub fn read_prepared(
+    table: &[u8],
+    shapes: &[u8; 256],
+    top: usize,
+    message: &[u8],
+    rows: &mut [u8],
+) -> Reading
+    requires { ⌜ now shapes ≡ shapesOf (now table) ⌝ }
+    ensures { λ r. ⌜ r ≡ toldOf (room (length (now (rows .entry)))) (bodyWalk (now (table .entry)) top (body (now (table .entry)) top (now (message .entry)))) ⌝ }
+    ensures { λ _. ⌜ now (rows .exit) ≡ listed (readingBody (now (table .entry)) top (now (message .entry)) (length (now (rows .entry)))) (now (rows .entry)) ⌝ }
+{
+    if table::members(table) <= 32 {
+        let mut few = [0u8; 384];
+        return read_by(table, shapes, top, message, &mut few, rows);
+    }
+    let mut more = [0u8; 1536];
+    read_by(table, shapes, top, message, &mut more, rows)
+}
+
+// Checks and reads.
+fn checked(table: &[u8], top: usize, message: &[u8], rows: &mut [u8]) -> Reading
+    ensures { λ r. ⌜ r ≡ readingOf (reading (now (table .entry)) top (now (message .entry)) (length (now (rows .entry)))) ⌝ }
+    ensures { λ _. ⌜ now (rows .exit) ≡ listed (reading (now (table .entry)) top (now (message .entry)) (length (now (rows .entry)))) (now (rows .entry)) ⌝ }
+{
+    let n = prepare::count(message);
+    let mut shapes = [0u8; 256];
+    let p = prepare::prepare(table, top, 1, n, &mut shapes);
+    match p {
+        Prepared::Refused(c, q) => Reading::Refused(low(c), low(q)),
+        Prepared::Ready => read_prepared(table, &shapes, top, message, rows),
+    }
+}
+
+// The reader: the answer, and the rows in the lent list, 12 bytes each; bytes after the rows stay, and on a refusal all of them.
+// The slices are taken anew as parts: passing them unchanged causes a store-forwarding stall.
+// Wrong and ruled out: a reader that writes the list on a refusal; one that takes the bytes of the list for its rows.
+pub fn read(table: &[u8], top: u32, message: &[u8], rows: &mut [u8]) -> Reading
+    ensures { λ r. ⌜ r ≡ readingOf (reading (now (table .entry)) top (now (message .entry)) (length (now (rows .entry)))) ⌝ }
+    ensures { λ _. ⌜ now (rows .exit) ≡ listed (reading (now (table .entry)) top (now (message .entry)) (length (now (rows .entry)))) (now (rows .entry)) ⌝ }
+{
+    checked(&table[0..], top as usize, &message[0..], rows)
+}
+
+// The reader's answer with a lent list of `room` bytes; no list is touched.
+// Wrong and ruled out: an answer that is the same for every room; one that takes the bytes of the list for its rows.
+pub fn answer(table: &[u8], top: u32, message: &[u8], room: usize) -> Reading
+    ensures { λ r. ⌜ r ≡ readingOf (reading (now (table .entry)) top (now (message .entry)) room) ⌝ }
+{
+    let n = prepare::count(message);
+    let t = top as usize;
+    let mut shapes = [0u8; 256];
+    let p = prepare::prepare(table, t, 1, n, &mut shapes);
+    match p {
+        Prepared::Refused(c, q) => Reading::Refused(low(c), low(q)),
+        Prepared::Ready => {
+            let mut none = [0u8; 12];
+            let w = walk(table, &shapes, t, message, &mut none);
+            told(w, room / 12)
+        }
+    }
+}

@@ -1,0 +1,202 @@
+-- The member view: the rows of a walk are read back from its list, and a part lies in the message. Assumes nothing.
+--
+--   Seeks, seeks-..                                   the loop that looks for a member in a list
+--   look-early, look-refused                          a check before the message refuses, or the message is refused
+--   look-few, look-seen, look-inside, look-other      what the view returns of an accepted message; nothing-inside
+--   part-seen, fallback-seen, nothing-seen            the bytes returned
+use mathlib.Core.Path.{_≡_, refl, sym, ap, _∙_}
+use mathlib.Core.Bool.{Bool, true, false}
+use mathlib.Core.List.{List, [], _∷_, _++_, map}
+use Prim.Native.Nat.{ℕ, _+_, _-_, _*_, _≤_, _<_}
+use native.Mathlib.Nat.{sub-zero}
+use native.Mathlib.Omega.{arith}
+use lib.ListN.{length, take, drop}
+use lib.Dec.{eqb}
+use borrow.Author.Tests.{eq-eqb, ne-eqb}
+use Rattle.encoding.specs.Result.{Res, ok, bad, pick, concat}
+use Rattle.encoding.specs.Table.{at, range, any, takes, chain}
+use Rattle.encoding.specs.Number.{Bytes}
+use Rattle.encoding.specs.Message.{Read, body, rules, Row, rows, rowBytes, firstKnown}
+use Rattle.encoding.specs.Write.{rowAt}
+use Rattle.encoding.specs.View.{Seen, part, fallback, nothing, rowOf, ofChain, seen, viewing, seenBytes}
+use Rattle.table.proofs.Ranges.{range-more, range-none}
+use Rattle.reader.specs.Walks.{bodyWalk, readDone}
+use Rattle.reader.specs.declared.Walk.{Walk}
+use Rattle.reader.specs.declared.Walk.the-variants.{Done, Stop}
+use Rattle.laws.specs.Demands.{All, end, more, RowExact}
+use Rattle.laws.specs.MessageExact.{exact-rows}
+use Rattle.laws.specs.Small.{accepted-small}
+use Rattle.laws.specs.RowsBack.{rows-back, accepted-rows-small}
+use Rattle.prepare.specs.Preparing.{checks}
+use Rattle.prepare.specs.PreparingLaws.{reading-ready, reading-refused}
+use Rattle.prepare.specs.declared.Prepared.{Prepared}
+use Rattle.prepare.specs.declared.Prepared.the-variants.{Ready, Refused}
+use Rattle.reading.specs.Told.{Walked}
+use Rattle.reading.proofs.Telling.{rows-put}
+use Rattle.view.specs.Views.{viewOf, PartInside}
+use Rattle.view.specs.declared.View.{View}
+use Rattle.view.specs.declared.View.the-variants.{Part, Fallback, Nothing}
+
+-- ---- the loop over rows
+
+-- the rows from i on decide
+pub record Seeks (list : List ℕ) (member n i : ℕ) : Type 0 where
+  pub inside : i ≤ n
+  pub few : n ≤ 1024
+  pub rest : rowOf member (map (rowAt list) (range 0 n)) ≡ rowOf member (map (rowAt list) (range i (n - i)))
+
+pub seeks-begin : (list : List ℕ) (member n : ℕ) → n ≤ 1024 → Seeks list member n 0
+seeks-begin list member n h = record { inside = omega arith; few = h; rest = rw sub-zero }
+
+module _ (list : List ℕ) (member n i : ℕ) (S : Seeks list member n i) where
+  pub seeks-end : n ≤ i → Fallback ≡ viewOf (rowOf member (map (rowAt list) (range 0 n)))
+  unfolding viewOf rowOf
+  seeks-end h = sym (ap viewOf (S .rest) ∙ ap (λ (l : List ℕ). viewOf (rowOf member (map (rowAt list) l))) (range-none i n h))
+
+  module _ (h : i < n) (a : ℕ) (ea : a ≡ at list 4 (12 * i)) where
+    turn : rowOf member (map (rowAt list) (range 0 n)) ≡ rowOf member (rowAt list i ∷ map (rowAt list) (range (i + 1) (n - (i + 1))))
+    turn = S .rest ∙ ap (λ (l : List ℕ). rowOf member (map (rowAt list) l)) (range-more i n h)
+
+    pub seeks-here : member ≡ a → (p l : ℕ) → p ≡ at list 4 (12 * i + 4) → l ≡ at list 4 (12 * i + 8) → Part p l ≡ viewOf (rowOf member (map (rowAt list) (range 0 n)))
+    unfolding viewOf rowOf rowAt
+    seeks-here q p l ep el =
+        let found : Part p l ≡ Part (at list 4 (12 * i + 4)) (at list 4 (12 * i + 8)) = cc in
+        found ∙ sym (ap viewOf turn ∙ rw (eq-eqb member (at list 4 (12 * i)) (q ∙ ea)))
+
+    pub seeks-next : (member ≡ a → ⊥) → Seeks list member n (i + 1)
+    unfolding rowOf rowAt
+    seeks-next q = record {
+      inside = omega arith;
+      few = S .few;
+      rest = turn ∙ rw (ne-eqb member (at list 4 (12 * i)) (λ e. q (e ∙ sym ea)));
+    }
+
+-- ---- what a walk tells of a member
+
+-- a part lies in the message
+row-within : (T m : List ℕ) (member : ℕ) {rs : List Row} → All (RowExact T m) rs → (p l : ℕ) → rowOf member rs ≡ part p l → p + l ≤ length m
+unfolding rowOf
+row-within T m member end p l h = let z : _≡_ {A = ℕ} 0 1 = cc in absurd (omega arith)
+row-within T m member (more {a = r} {l = rs} E L) p l h = go (eqb member (r .member)) h (λ x. row-within T m member L p l x)
+  where
+    go : (b : Bool) → pick b (part (r .place) (r .len)) (rowOf member rs) ≡ part p l → (rowOf member rs ≡ part p l → p + l ≤ length m) → p + l ≤ length m
+    go true h next = let ep : r .place ≡ p = cc in let el : r .len ≡ l = cc in omega (arith, E .inside)
+    go false h next = next h
+
+-- an accepted message, with the numbers that its walk gives
+record Taken (T : List ℕ) (top : ℕ) (m : List ℕ) (first n : ℕ) : Type 0 where
+  rd : Read
+  end : ℕ
+  accepted : rules T top m ≡ ok rd end
+  known : first ≡ firstKnown T top (rd .pieces)
+  count : n ≡ length (rows T top (rd .format) (rd .pieces))
+
+-- a check before the message refuses
+pub look-early : (T : List ℕ) (top : ℕ) (m : List ℕ) (l : ℕ) → l ≡ length m → (p : Prepared) → p ≡ checks T top 1 l → (c q : ℕ) → p ≡ Refused c q → (member : ℕ) → Nothing ≡ viewOf (viewing T top m member)
+unfolding viewing seen viewOf
+look-early T top m l el p ep c q e member = sym (ap (λ (r : Res Read). viewOf (seen T top member r)) (reading-refused T top m l el p ep c q e))
+
+module _ (T : List ℕ) (top : ℕ) (m : List ℕ) (l : ℕ) (el : l ≡ length m) (y : Bytes m) (p : Prepared) (ep : p ≡ checks T top 1 l) (ready : p ≡ Ready) (list last : List ℕ) (w : Walk) (W : Walked T top m w list last) where
+  same : rules T top m ≡ body T top m
+  same = reading-ready T top m l el p ep ready
+
+  walked : w ≡ bodyWalk T top (rules T top m)
+  walked = W .says ∙ ap (bodyWalk T top) (sym same)
+
+  module _ (t g n o s e : ℕ) (q : w ≡ Done t g n o s e) where
+    taken : Taken T top m t n
+    unfolding bodyWalk readDone
+    taken = go (rules T top m) refl (sym q ∙ walked)
+      where
+        go : (r : Res Read) → rules T top m ≡ r → Done t g n o s e ≡ bodyWalk T top r → Taken T top m t n
+        go (ok rd x) z h = record { rd = rd; end = x; accepted = z; known = cc; count = cc }
+        go (bad c p) z h = let z : _≡_ {A = ℕ} 0 1 = cc in absurd (omega arith)
+
+    pub look-few : n ≤ 1024
+    look-few = let K = taken in let S = accepted-small T top m (K .rd .format) (K .rd .pieces) (K .end) y (K .accepted) in omega (arith, S .count, K .count)
+
+    module _ (member : ℕ) (b : Bool) (eb : b ≡ any (λ o. takes T o member) (chain T t)) where
+      judged : (v : Bool) → b ≡ v → viewing T top m member ≡ pick v (rowOf member (rows T top (taken .rd .format) (taken .rd .pieces))) nothing
+      unfolding viewing seen ofChain
+      judged v x = go taken
+        where
+          go : (K : Taken T top m t n) → seen T top member (rules T top m) ≡ pick v (rowOf member (rows T top (K .rd .format) (K .rd .pieces))) nothing
+          go K =
+              let c : ofChain T (firstKnown T top (K .rd .pieces)) member ≡ v = ap (λ (i : ℕ). any (λ o. takes T o member) (chain T i)) (sym (K .known)) ∙ sym eb ∙ x in
+              ap (seen T top member) (K .accepted) ∙ ap (λ (z : Bool). pick z (rowOf member (rows T top (K .rd .format) (K .rd .pieces))) nothing) c
+
+      pub look-other : b ≡ false → Nothing ≡ viewOf (viewing T top m member)
+      unfolding viewOf
+      look-other x = sym (ap viewOf (judged false x))
+
+      module _ (x : b ≡ true) (room : length list ≡ 12288) (v : View) (ev : v ≡ viewOf (rowOf member (map (rowAt last) (range 0 n)))) where
+        back : v ≡ viewOf (rowOf member (rows T top (taken .rd .format) (taken .rd .pieces)))
+        back = ev ∙ ap (λ (l : List Row). viewOf (rowOf member l)) (go taken)
+          where
+            go : (K : Taken T top m t n) → map (rowAt last) (range 0 n) ≡ rows T top (K .rd .format) (K .rd .pieces)
+            go K =
+                let rs : List Row = rows T top (K .rd .format) (K .rd .pieces) in
+                let S = accepted-rows-small T top m (K .rd .format) (K .rd .pieces) (K .end) y (K .accepted) in
+                let f : last ≡ concat rowBytes rs ++ drop (12 * length rs) list = W .lays (K .rd) (K .end) (sym same ∙ K .accepted) ∙ rows-put rs list (omega (arith, look-few, K .count)) in
+                ap (λ (i : ℕ). map (rowAt last) (range 0 i)) (K .count) ∙ rows-back S last (drop (12 * length rs) list) f
+
+        pub look-seen : v ≡ viewOf (viewing T top m member)
+        look-seen = back ∙ ap viewOf (sym (judged true x))
+
+        pub look-inside : PartInside (length m) v
+        unfolding viewOf
+        look-inside = record { inside = λ p l q. go taken p l (sym q ∙ back) }
+          where
+            go₂ : (y : Seen) (p l : ℕ) → Part p l ≡ viewOf y → y ≡ part p l
+            go₂ (part i j) p l h = cc
+            go₂ fallback p l h = let z : _≡_ {A = ℕ} 0 1 = cc in absurd (omega arith)
+            go₂ nothing p l h = let z : _≡_ {A = ℕ} 0 1 = cc in absurd (omega arith)
+
+            go : (K : Taken T top m t n) (p l : ℕ) → Part p l ≡ viewOf (rowOf member (rows T top (K .rd .format) (K .rd .pieces))) → p + l ≤ length m
+            go K p l h =
+                row-within T m member (exact-rows T top m (K .rd .format) (K .rd .pieces) (K .end) y (K .accepted)) p l (go₂ _ p l h)
+
+  module _ (c i : ℕ) (q : w ≡ Stop c i) where
+    pub look-refused : (member : ℕ) → Nothing ≡ viewOf (viewing T top m member)
+    unfolding viewing seen viewOf bodyWalk readDone
+    look-refused member = go (rules T top m) (sym q ∙ walked)
+      where
+        go : (r : Res Read) → Stop c i ≡ bodyWalk T top r → Nothing ≡ viewOf (seen T top member r)
+        go (ok rd x) h = let z : _≡_ {A = ℕ} 0 1 = cc in absurd (omega arith)
+        go (bad d x) h = refl
+
+pub nothing-inside : (l : ℕ) → PartInside l Nothing
+nothing-inside l = record { inside = λ p n q. let z : _≡_ {A = ℕ} 0 1 = cc in absurd (omega arith) }
+
+-- ---- the bytes handed back
+
+module _ (m other : List ℕ) (y : Seen) (v : View) (ev : v ≡ viewOf y) where
+  pub part-seen : (p n : ℕ) → v ≡ Part p n → take (p + n - p) (drop p m) ≡ seenBytes m other y
+  unfolding viewOf seenBytes
+  part-seen p n q = go y (sym q ∙ ev)
+    where
+      go : (y : Seen) → Part p n ≡ viewOf y → take (p + n - p) (drop p m) ≡ seenBytes m other y
+      go (part i j) h =
+          let ei : p ≡ i = cc in
+          let ej : p + n - p ≡ j = let e : n ≡ j = cc in omega arith in
+          rw (ej, ei)
+      go fallback h = let z : _≡_ {A = ℕ} 0 1 = cc in absurd (omega arith)
+      go nothing h = let z : _≡_ {A = ℕ} 0 1 = cc in absurd (omega arith)
+
+  pub fallback-seen : v ≡ Fallback → other ≡ seenBytes m other y
+  unfolding viewOf seenBytes
+  fallback-seen q = go y (sym q ∙ ev)
+    where
+      go : (y : Seen) → Fallback ≡ viewOf y → other ≡ seenBytes m other y
+      go (part i j) h = let z : _≡_ {A = ℕ} 0 1 = cc in absurd (omega arith)
+      go fallback h = refl
+      go nothing h = let z : _≡_ {A = ℕ} 0 1 = cc in absurd (omega arith)
+
+  pub nothing-seen : v ≡ Nothing → [] ≡ seenBytes m other y
+  unfolding viewOf seenBytes
+  nothing-seen q = go y (sym q ∙ ev)
+    where
+      go : (y : Seen) → Nothing ≡ viewOf y → [] ≡ seenBytes m other y
+      go (part i j) h = let z : _≡_ {A = ℕ} 0 1 = cc in absurd (omega arith)
+      go fallback h = let z : _≡_ {A = ℕ} 0 1 = cc in absurd (omega arith)
+      go nothing h = refl

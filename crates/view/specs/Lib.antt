@@ -1,0 +1,2 @@
+-- What the contracts of the member view cite.
+pub mod Views

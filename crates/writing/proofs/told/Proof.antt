@@ -1,0 +1,17 @@
+-- Each case's numbers fit, and the answer has them. Assumes nothing.
+use borrow.Author.Needs.{needs}
+use Rattle.writing.proofs.Outcomes.{made-fits, number-fits, place-fits, told-made, told-stopped}
+use Rattle.writing.proofs.told.Statement.{statement}
+use Rattle.writing.proofs.told.Tie as tie
+
+pub told-spec : {M : Type 1} → statement M
+told-spec =
+    tie.close
+    (tie.spec
+    (λ c. search needs)  -- enum-known-o
+    (λ c. record { fits = search made-fits })  -- cast-t6
+    (λ c. search needs)  -- enum-known-o-2
+    (λ c. record { fits = search number-fits })  -- cast-t7
+    (λ c. record { fits = search place-fits })  -- cast-t8
+    (λ c. search told-made)  -- returns
+    (λ c. search told-stopped))  -- returns-2

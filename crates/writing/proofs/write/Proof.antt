@@ -1,0 +1,17 @@
+-- What is told of the outcome is document 01's answer. Assumes nothing.
+use borrow.Author.Needs.{needs}
+use Rattle.writing.proofs.Outcomes.{answer-told}
+use Rattle.writing.proofs.write.Statement.{statement}
+use Rattle.writing.proofs.write.Tie as tie
+
+returns : tie.Need-returns
+returns c = (search answer-told, search needs)
+
+pub write-spec : {M : Type 1} → statement M
+write-spec =
+    tie.close
+    (tie.spec
+    (λ c κs. search needs)  -- outcome-requires
+    (λ c κs. search needs)  -- told-requires
+    (λ c. search needs)  -- same-length
+    returns)

@@ -1,0 +1,2 @@
+-- What the writer's calls answer of an outcome.
+pub mod Tell
