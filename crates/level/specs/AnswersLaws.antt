@@ -18,10 +18,9 @@ use native.Mathlib.Omega.{arith}
 use lib.ListN.{length, drop, length-append}
 use lib.Dec.{eqb, ltb}
 use borrow.Author.Tests.{ltb-true, ltb-false}
-use Rattle.encoding.specs.Result.{Res, ok, bad, pick, _>>=_, pure, must, mapc, bytes, inside}
-use Rattle.encoding.specs.ResultLaws.{firstOf-ok, Bound, bind-ok, pure-ok, item-ok, must-ok, mapc-ok, pick-true, held-took, held-refused}
-use Rattle.encoding.specs.Number.{byte, number, sizeForm, sizeTail, size}
-use Rattle.encoding.specs.NumberLaws.{sizeForm-ok}
+use Rattle.encoding.specs.Result.{Res, ok, bad, pick, pure, must, mapc, bytes, inside}
+use Rattle.encoding.specs.ResultLaws.{firstOf-ok, Bound, bind-ok, pure-ok, must-ok, mapc-ok, pick-true, held-took, held-refused}
+use Rattle.encoding.specs.Number.{byte, size}
 use Rattle.encoding.specs.Types.{Bits, bitsAt, Form, formOf}
 use Rattle.encoding.specs.Value.{value}
 use Rattle.encoding.specs.Table.{Member, lookup}

@@ -18,7 +18,6 @@ use lib.Dec.{eqb, ltb}
 use Rattle.encoding.specs.Result.{pick}
 use Rattle.encoding.specs.Number.{leBytes, sizeBytes}
 use Rattle.encoding.specs.Optional.{Piece, pieceBytes, isOptional}
-use Rattle.encoding.specs.Message.{Row}
 use Rattle.encoding.specs.Write.{out, stop, State, Reached, reach, given, partOf, rowAt}
 use Rattle.wire.specs.Put.{formBits}
 use Rattle.pieces.specs.declared.Cursor.{Cursor}

@@ -14,7 +14,6 @@ use Rattle.encoding.specs.Number.{number, byte, boolForm, bool, size}
 use Rattle.encoding.specs.Table.{at}
 use Rattle.encoding.specs.Types.{Allowed, allows, enum}
 use Rattle.encoding.specs.Value.{enumForm, value}
-use Rattle.wire.specs.declared.Step.{Step}
 use Rattle.wire.specs.declared.Step.the-variants.{Took, Fault}
 use Rattle.wire.specs.declared.Sized.{Sized}
 use Rattle.wire.specs.declared.Sized.the-variants.{Is, Isnt}
