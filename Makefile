@@ -4,6 +4,8 @@ PREFIX = /usr/local
 # make fuzz: how many calls, and a seed to repeat a run (empty: another one each time)
 CALLS = 1000000
 SEED =
+# make library, make check-target: another processor, aarch64-unknown-linux-gnu or riscv64-unknown-linux-gnu
+TARGET =
 # make stack: the recorded calls to make besides the generated ones
 RECORDED = crates/replay
 
@@ -28,7 +30,7 @@ export ICEHUB_LIB_DIR = $(CURDIR)/target/staticlib
 export CARGO_TARGET_DIR = $(CURDIR)/target/cargo
 INDEPENDENT = --offline --release --manifest-path tests/independent/Cargo.toml --features library
 
-.PHONY: help run test callers library tool example fuzz bench stack bindings samples install clean
+.PHONY: help run test callers library check-target tool example fuzz bench stack bindings samples install clean
 .NOTPARALLEL:
 
 ## help: list what can be made
@@ -55,11 +57,18 @@ callers: example bindings
 	$(CARGO) test --offline --release --manifest-path tests/independent/Cargo.toml
 	$(CARGO) run $(INDEPENDENT) --bin fuzz -- 100000 20261116
 
-## library: prove and build the static library, target/staticlib/libicehub.a
-library: $(LIBRARY)
+## library: prove and build the static library, target/staticlib/libicehub.a; with TARGET target/TARGET/libicehub.a
+library: $(if $(TARGET),target/$(TARGET)/libicehub.a,$(LIBRARY))
 
 $(LIBRARY): $(LIBRARY_SOURCES)
 	$(RT) staticlib icehub
+
+target/%/libicehub.a: $(LIBRARY_SOURCES) tools/cross/library
+	RT=$(RT) tools/cross/library $*
+
+## check-target: make the gate's recorded calls by the library of TARGET, under qemu
+check-target:
+	tools/cross/check $(TARGET)
 
 ## tool: build the tool icehub, target/tool/icehub
 tool: $(TOOL)
