@@ -3,7 +3,7 @@
 --   content-put                            the bytes of a row
 --   header-put-short, header-put-long      a header
 --   length-put-none, length-put-size, length-put-int   a length field
---   optional-put                           header, length field and content, one behind another
+--   optional-put                           header, length field and content, one after another
 --   row-stop, row-nothing                  a row that is none of this owner, or none that may come
 --   due-wrong, due-right                   a row as a required member, by the judgement on its bytes
 --   may-wrong, may-tagged, may-right       the same as an optional one

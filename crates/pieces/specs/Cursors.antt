@@ -61,7 +61,7 @@ dueReached T m c = record { member = record { row = m; key = requiredIn T (field
 unfoldable pub mayReached : List ℕ → ℕ → Cursor → Reached
 mayReached T m c = record { member = mayMember T m; required-one = false; state = stateOf T c }
 
--- of the b member rows from a on, k passed, the next required one stands behind r rows, or none is due and all are passed
+-- of the b member rows from a on, k passed, the next required one comes after r rows, or none is due and all are passed
 pub record Settled (T : List ℕ) (a b k r : ℕ) : Type 0 where
   pub same : dueIn T a b r ≡ dueIn T a b k
   pub due : r < b → mark T (a + r) ≡ 0
@@ -71,7 +71,7 @@ pub record Gone (T : List ℕ) (c : Cursor) (m : ℕ) : Type 0 where
   pub due : dueFrom T (c .owner) (c .passed) ≡ []
   pub may : optionalRow m (c .least) (optional T (c .owner)) ≡ none
 
--- the cursor behind a member is of the same owner, and has passed at most 65,536 rows
+-- the cursor after a member is of the same owner, and has passed at most 65,536 rows
 abbrev pub ReachedIn : List ℕ → Cursor → ℕ → Reach → Type 0
 ReachedIn T at m (Due c) = (reach T m (stateOf T at) ≡ some (dueReached T m c)) × (c .owner ≡ at .owner) × (c .passed ≤ 65536)
 ReachedIn T at m (May c) = (reach T m (stateOf T at) ≡ some (mayReached T m c)) × (c .owner ≡ at .owner) × (c .passed ≤ 65536) × (c .least ≡ tag T m + 1)

@@ -90,7 +90,7 @@ module _ (T : List ℕ) (m least : ℕ) where
       go ih true = ih
       go ih false = rw (ne-eqb m a (f a (omega arith) (omega arith))) ih
 
-  -- of the first row, and of the rows behind it
+  -- of the first row, and of the rows after it
   optional-first : (b : ℕ) → optionalRow m least (optionalOf T (trees T) (range m (suc b))) ≡ pick (not (eqb (mark T m) 0) && leb least (tag T m)) (some (mayMember T m)) none
   unfolding optionalRow optionalOf range mayMember
   optional-first b = go (optional-out (suc m) b (λ i h l e. omega arith)) (eqb (mark T m) 0) (leb least (tag T m)) refl

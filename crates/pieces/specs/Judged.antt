@@ -1,10 +1,10 @@
 -- What judging the rows gives.
 --
 --   partForm       20 where a part lies outside the buffer, 21 where it isn't exactly a value of a type, else 0
---   stateFrom      where the rows stand behind a row that was judged
+--   stateFrom      the state after a row that was checked
 --   judgedRow      row i, judged where the rows stand
 --   verdictOf      whether every row is right
---   verdictFrom    the verdict on row i and those behind it, of `count` rows
+--   verdictFrom    the verdict on row i and those after it, of `count` rows
 --   verdictAbove   the same where the rows go on with the owners above: from a base row + 1 on, or there is none
 --   Accepted       it is no refusal
 --   Gives          judging gives this; where the parts were judged before and are not judged again, if it is no refusal
@@ -39,7 +39,7 @@ verdictOf (stop n p) = stop n p
 unfoldable pub verdictFrom : List ℕ → List ℕ → List ℕ → ℕ → State → ℕ → Out (Unit {0})
 verdictFrom T rows buffer count s i = verdictOf (judgeAll T buffer s i (map (rowAt rows) (range i (count - i))))
 
--- a row behind the last owner is 20
+-- a row after the last owner is 20
 unfoldable pub verdictAbove : List ℕ → List ℕ → List ℕ → ℕ → ℕ → ℕ → Out (Unit {0})
 verdictAbove T rows buffer count zero i = pick (ltb i count) (stop 20 i) (out tt)
 verdictAbove T rows buffer count (suc t) i = verdictFrom T rows buffer count (stateOf T (start t)) i

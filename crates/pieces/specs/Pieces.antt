@@ -1,9 +1,9 @@
 -- One member as it is put, in numbers.
 --
 --   headerField    an optional's header of a tag and type bits
---   lengthField    the length field in front of so many bytes, by a form's number
+--   lengthField    the length field before so many bytes, by a form's number
 --   optionalField  an optional of a tag, a form's number and bytes
---   Taken          the piece of a row, and where the rows stand behind it
+--   Taken          the piece of a row, and the state after it
 --   pieceAt        row i as a member of the owner where the rows stand, if it is one
 --   group          the pieces of that owner from row i on, at most k rows
 --   RowLaid        what is put of a row that is right, and what the code answers of it, its part being judged before or now

@@ -1,6 +1,6 @@
 -- Bytes laid by several puts, where all of them fit.
 --
---   Puts      bytes b are laid at a place of `out`, which makes `last`; `end` is the place behind them
+--   Puts      bytes b are laid at a place of `out`, which makes `last`; `end` is the place after them
 --   Leaves    of bytes w to be laid, `rest` is still to be laid at a place of `out`
 use mathlib.Core.Path.{_≡_}
 use mathlib.Core.List.{List}

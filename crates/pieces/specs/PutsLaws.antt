@@ -1,9 +1,9 @@
--- Laws of `Puts`: parts laid one behind another, or one before another, are laid at once. Assumes nothing.
+-- Laws of `Puts`: parts laid one after another, or one before another, are laid at once. Assumes nothing.
 --
 --   puts-one, puts-none, puts-is            one put; no bytes; the same bytes
 --   puts-number, puts-byte, puts-size       a number, a byte, a size
---   puts-then, puts-under                   bytes behind those laid; bytes before those laid
---   leaves-begin, leaves-next, leaves-end   what is still to be laid, at first, behind more bytes, at the end
+--   puts-then, puts-under                   bytes after those laid; bytes before those laid
+--   leaves-begin, leaves-next, leaves-end   what is still to be laid, at first, after more bytes, at the end
 use mathlib.Core.Path.{_≡_, refl, sym, ap, ap₂, subst, _∙_}
 use mathlib.Core.List.{List, [], _∷_, _++_, append-assoc}
 use Prim.Native.Nat.{ℕ, _+_, _%_, _≤_, _<_}

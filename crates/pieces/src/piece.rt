@@ -1,4 +1,4 @@
-// Judges one row and puts its member: its header, its length field, its bytes.
+// Checks one row and puts its member: its header, its length field, its bytes.
 use crate::Cursor;
 use crate::Placed;
 use crate::Reach;
@@ -17,7 +17,7 @@ ghost use Rattle.pieces.specs.Puts.{Puts};
 ghost use Rattle.pieces.specs.Judged.{partForm};
 ghost use Rattle.pieces.specs.Pieces.{headerField, lengthField, optionalField, RowPut};
 
-// Puts the bytes of a row, and gives their end.
+// Puts the bytes of a row and returns their end.
 fn put_content(out: &mut [u8], at: usize, row: RowNumbers, buffer: &[u8]) -> usize
     requires { ⌜ (at ≤ 1152921504606847000) × (length (now buffer) ≤ 65536) ⌝ }
     ensures { λ r. ⌜ Puts at (partOf (now (buffer .entry)) (asRow row)) (now (out .entry)) (now (out .exit)) r × (r ≤ at + length (now (buffer .entry))) ⌝ }
@@ -26,7 +26,7 @@ fn put_content(out: &mut [u8], at: usize, row: RowNumbers, buffer: &[u8]) -> usi
     at + rows::part_len(row, buffer)
 }
 
-// Puts an optional's header, and gives its end.
+// Puts an optional's header and returns its end.
 fn put_header(out: &mut [u8], at: usize, tag: usize, kind: usize) -> usize
     requires { ⌜ (at ≤ 1152921504606846976) × (kind < 8) ⌝ }
     ensures { λ r. ⌜ Puts at (headerField tag kind) (now (out .entry)) (now (out .exit)) r × (r ≤ at + 6) ⌝ }
@@ -40,7 +40,7 @@ fn put_header(out: &mut [u8], at: usize, tag: usize, kind: usize) -> usize
     at + 1 + wire::size_len(tag)
 }
 
-// Puts the length field of a form, if it has one, and gives its end.
+// Puts the length field of a form, if it has one, and returns its end.
 fn put_length(out: &mut [u8], at: usize, form: usize, n: usize) -> usize
     requires { ⌜ at ≤ 1152921504606846990 ⌝ }
     ensures { λ r. ⌜ Puts at (lengthField form n) (now (out .entry)) (now (out .exit)) r × (r ≤ at + 5) ⌝ }
@@ -56,7 +56,7 @@ fn put_length(out: &mut [u8], at: usize, form: usize, n: usize) -> usize
     at + 4
 }
 
-// 20 where a row's part lies outside the buffer, 21 where it isn't exactly a value of type row t, else 0; and 0 where it was judged before.
+// 20 if a row's part lies outside the buffer, 21 if it is not exactly a value of type row t, else 0. With `judged` it was checked before: 0.
 fn part_form(
     table: &[u8],
     shapes: &[u8; 256],
@@ -84,7 +84,7 @@ fn part_form(
     20
 }
 
-// Puts a row as an optional of a tag and form, and gives its end.
+// Puts a row as an optional of a tag and form and returns its end.
 fn put_optional(
     out: &mut [u8],
     at: usize,
@@ -101,7 +101,7 @@ fn put_optional(
     put_content(out, b, row, buffer)
 }
 
-// Judges row i, each 20 then 21, and puts it, if it is a member of the owner where the rows stand. A part judged before is not judged again.
+// Checks row i, 20 then 21, and puts it if it is a member of the cursor's owner. With `judged` its part is not checked again.
 pub fn put_row(
     table: &[u8],
     shapes: &[u8; 256],

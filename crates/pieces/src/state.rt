@@ -1,4 +1,4 @@
-// Where the rows stand among the members of a type and its bases, and which member comes next.
+// The cursor over the members of an owner, and which member comes next.
 use crate::Cursor;
 use crate::Reach;
 ghost use mathlib.Core.Path.{_≡_};
@@ -6,7 +6,7 @@ ghost use Prim.Native.Nat.{_≤_, _<_};
 ghost use Rattle.encoding.specs.Write.{anyOf};
 ghost use Rattle.pieces.specs.Cursors.{dueFrom, Settled, ReachedIn};
 
-// Of the b member rows from a on, how many are passed where the next required member stands; all of them where none is due.
+// How many of the b member rows from a on come before the next required one; all of them if none is due.
 fn next_due(table: &[u8], a: usize, b: usize, passed: usize) -> usize
     requires { ⌜ (a < 65536) × (b < 65536) × (passed ≤ 65536) ⌝ }
     ensures { λ r. ⌜ Settled (now (table .entry)) a b passed r ⌝ }
@@ -21,7 +21,7 @@ fn next_due(table: &[u8], a: usize, b: usize, passed: usize) -> usize
     k
 }
 
-// The next member of the owner where the rows stand, if row m is it.
+// What row m is to the cursor's owner: its next member, or not.
 pub fn reach_in(table: &[u8], at: Cursor, m: usize) -> Reach
     requires { ⌜ at .passed ≤ 65536 ⌝ }
     ensures { λ r. ⌜ ReachedIn (now (table .entry)) at m r ⌝ }
@@ -58,7 +58,7 @@ pub fn reach_in(table: &[u8], at: Cursor, m: usize) -> Reach
     })
 }
 
-// A required member of the owner where the rows stand is still due.
+// A required member of the cursor's owner is still due.
 pub fn is_due(table: &[u8], at: Cursor) -> bool
     requires { ⌜ at .passed ≤ 65536 ⌝ }
     ensures { λ r. ⌜ r ≡ anyOf (dueFrom (now (table .entry)) (at .owner) (at .passed)) ⌝ }

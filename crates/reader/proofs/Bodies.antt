@@ -30,9 +30,9 @@ use Rattle.wire.specs.declared.Step.the-variants.{Took, Fault}
 use Rattle.wire.specs.Steps.{stepOf}
 use Rattle.wire.specs.StepLaws.{rest-is, step-took, step-fault}
 use Rattle.level.specs.Fill.{fill}
-use Rattle.reader.specs.declared.Walk.{Walk}
-use Rattle.reader.specs.declared.Walk.the-variants.{Done, Stop}
-use Rattle.reader.specs.Walks.{chainRows, sliceWalk, listWalk, capsule, markerOf, endedWalk, readDone, readWalk, bodyWalk}
+use Rattle.slices.specs.declared.Walk.{Walk}
+use Rattle.slices.specs.declared.Walk.the-variants.{Done, Stop}
+use Rattle.slices.specs.Walks.{chainRows, sliceWalk, listWalk, capsule, markerOf, endedWalk, readDone, readWalk, bodyWalk}
 
 -- ---- size and version
 

@@ -1,7 +1,3 @@
--- Laws that the proofs of `reader` cite.
-pub mod Headings
-pub mod Endings
-pub mod Walking
-pub mod Steps
+-- Laws that several proofs cite.
 pub mod Listing
 pub mod Bodies

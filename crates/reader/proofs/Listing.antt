@@ -34,13 +34,13 @@ use Rattle.level.specs.declared.Members.{Members}
 use Rattle.level.specs.declared.Members.the-variants.{Read, Refused}
 use Rattle.level.specs.declared.Optional.{Optional}
 use Rattle.level.specs.declared.Optional.the-variants.{Known, Skipped, Wrong}
-use Rattle.reader.specs.declared.Walk.{Walk}
-use Rattle.reader.specs.declared.Walk.the-variants.{Done, Stop}
-use Rattle.reader.specs.Walks.{listWalk}
-use Rattle.reader.specs.Left.{Outcome, listed, refused, answerOf, optionalsFrom, finish, listClose, listing}
-use Rattle.reader.specs.LeftLaws.{parameters-required, parameters-refused, finish-end, finish-wrong, finish-known, finish-skipped}
-use Rattle.reader.specs.MemberLaws.{required-few, optional-two}
-use Rattle.reader.proofs.Endings.{Ends, ends-same, ends-refused, ends-listed, ends-answer, ends-list, Small, field-below}
+use Rattle.slices.specs.declared.Walk.{Walk}
+use Rattle.slices.specs.declared.Walk.the-variants.{Done, Stop}
+use Rattle.slices.specs.Walks.{listWalk}
+use Rattle.slices.specs.Left.{Outcome, listed, refused, answerOf, optionalsFrom, finish, listClose, listing}
+use Rattle.slices.specs.LeftLaws.{parameters-required, parameters-refused, finish-end, finish-wrong, finish-known, finish-skipped}
+use Rattle.slices.specs.MemberLaws.{required-few, optional-two}
+use Rattle.slices.proofs.Endings.{Ends, ends-same, ends-refused, ends-listed, ends-answer, ends-list, Small, field-below}
 
 -- ---- the whole walk
 

@@ -1,7 +1,6 @@
-// The walk over a message.
-// heads.rt has a slice's flags and type ID, walks.rt the slices of a record and a parameter list.
-pub mod heads;
-pub mod walks;
+// The walk over a message under a prepared table.
+// lists.rt has a parameter list; `slices` has the slices of a record.
+pub mod lists;
 
 ghost use mathlib.Core.Path.{_≡_};
 ghost use Prim.Native.Nat.{ℕ};
@@ -12,43 +11,9 @@ ghost use Rattle.encoding.specs.Message.{Read, markerForm, body, rows};
 ghost use Rattle.wire.specs.Steps.{stepOf};
 ghost use Rattle.shapes.specs.Shapes.{shapesOf};
 ghost use Rattle.level.specs.Fill.{fill};
-ghost use Rattle.reader.specs.Walks.{capsule, markerOf, endedWalk, bodyWalk};
+ghost use Rattle.slices.specs.Walks.{capsule, markerOf, endedWalk, bodyWalk};
+use slices::Walk;
 use wire::Step;
-
-// Where the walk over slices stands: at the first slice; behind skipped ones only; behind a known one, sliced or not, whose base row + 1 is given, 0 for none.
-pub enum Stage {
-    First,
-    Seeking,
-    Following(bool, usize),
-}
-
-// What flags and type ID mean: skip the slice; the slice of a known row, with its bit 2, whether it is sliced, and the bytes taken; or a refusal's number and place.
-pub enum Heading {
-    Skip(usize),
-    Known(usize, bool, bool, usize),
-    Wrong(usize, usize),
-}
-
-// A slice: skipped whole, the bytes taken; one of a known row, with its bit 2, whether it is sliced, and where its data begin and end; or a refusal's number and place.
-pub enum Opening {
-    Skip(usize),
-    Known(usize, bool, bool, usize, usize),
-    Wrong(usize, usize),
-}
-
-// What stands next among a slice's optionals: the end marker; a known one: its member row, its tag, where its bytes begin, the bytes taken; a skipped one: its tag, the bytes taken; or a refusal's number and place.
-pub enum Turn {
-    End,
-    Known(usize, usize, usize, usize),
-    Skipped(usize, usize),
-    Wrong(usize, usize),
-}
-
-// First known type, format, rows, optionals skipped, slices skipped, the end; or a refusal's number and place.
-pub enum Walk {
-    Done(usize, usize, usize, usize, usize, usize),
-    Stop(usize, usize),
-}
 
 // The encapsulation's size and version.
 fn capsule(m: &[u8]) -> Step
@@ -83,7 +48,7 @@ fn marker(s: &[u8]) -> Step
     Step::Took(1)
 }
 
-// What stands before the slices of a top of kind k: the marker byte of a class instance, else no byte.
+// What comes before the slices of a top of kind k: the marker byte of a class instance, else no byte.
 fn marker_of(k: usize, s: &[u8]) -> Step
     ensures { λ r. ⌜ r ≡ stepOf (markerOf k (now (s .entry))) ⌝ }
 {
@@ -109,7 +74,7 @@ fn ended(w: Walk, len: usize) -> Walk
     }
 }
 
-// A message under a table and a top, no table rule judged, with a row for each known member.
+// Reads a message under a prepared table and a top, and puts a row for each known member.
 pub fn body(table: &[u8], shapes: &[u8; 256], top: usize, m: &[u8], out: &mut [u8]) -> Walk
     requires { ⌜ now shapes ≡ shapesOf (now table) ⌝ }
     ensures { λ r. ⌜ r ≡ bodyWalk (now (table .entry)) top (body (now (table .entry)) top (now (m .entry))) ⌝ }
@@ -121,11 +86,14 @@ pub fn body(table: &[u8], shapes: &[u8; 256], top: usize, m: &[u8], out: &mut [u
         Step::Took(n) => {
             let k = table::kind(table, top);
             if k == 15 {
-                return ended(walks::list(table, shapes, top, m, 6, out), m.len());
+                return ended(lists::list(table, shapes, top, m, 6, out), m.len());
             }
             let mark = marker_of(k, &m[6..]);
             match mark {
-                Step::Took(l) => ended(walks::slices(table, shapes, top, m, 6 + l, out), m.len()),
+                Step::Took(l) => ended(
+                    slices::walks::slices(table, shapes, top, m, 6 + l, out),
+                    m.len(),
+                ),
                 Step::Fault(c, p) => Walk::Stop(c, 6 + p),
             }
         }

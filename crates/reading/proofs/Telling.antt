@@ -30,9 +30,9 @@ use Rattle.wire.specs.Put.{put}
 use Rattle.wire.specs.PutLaws.{put-none, put-front}
 use Rattle.level.specs.Fill.{fill}
 use Rattle.level.specs.FillLaws.{fill-listed}
-use Rattle.reader.specs.Walks.{bodyWalk, readDone}
-use Rattle.reader.specs.declared.Walk.{Walk}
-use Rattle.reader.specs.declared.Walk.the-variants.{Done, Stop}
+use Rattle.slices.specs.Walks.{bodyWalk, readDone}
+use Rattle.slices.specs.declared.Walk.{Walk}
+use Rattle.slices.specs.declared.Walk.the-variants.{Done, Stop}
 use Rattle.laws.specs.Refusals.{Numbered, refusal-numbered, rules-refused}
 use Rattle.laws.specs.Small.{Small, accepted-small}
 use Rattle.prepare.specs.Preparing.{checks}

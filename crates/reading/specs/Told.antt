@@ -15,9 +15,9 @@ use Rattle.encoding.specs.Message.{Read, body, rows, Answer, answer, room, with
 use Rattle.encoding.specs.declared.Reading.{Reading}
 use Rattle.encoding.specs.declared.Reading.the-variants.{Accepted, Refused}
 use Rattle.level.specs.Fill.{fill}
-use Rattle.reader.specs.Walks.{bodyWalk}
-use Rattle.reader.specs.declared.Walk.{Walk}
-use Rattle.reader.specs.declared.Walk.the-variants.{Done, Stop}
+use Rattle.slices.specs.Walks.{bodyWalk}
+use Rattle.slices.specs.declared.Walk.{Walk}
+use Rattle.slices.specs.declared.Walk.the-variants.{Done, Stop}
 
 -- the list is left with the rows of an accepted message, those that fit
 pub record Walked (T : List ℕ) (top : ℕ) (m : List ℕ) (w : Walk) (out last : List ℕ) : Type 0 where

@@ -4,11 +4,11 @@ ghost use mathlib.Core.Path.{_≡_};
 ghost use lib.ListN.{length};
 ghost use Rattle.encoding.specs.Message.{body, room, reading, listed, readingOf};
 ghost use Rattle.shapes.specs.Shapes.{shapesOf};
-ghost use Rattle.reader.specs.Walks.{bodyWalk};
+ghost use Rattle.slices.specs.Walks.{bodyWalk};
 ghost use Rattle.reading.specs.Told.{Walked, low, toldOf, rowCount, readingBody};
 use encoding::Reading;
 use prepare::Prepared;
-use reader::Walk;
+use slices::Walk;
 
 // The low 32 bits.
 pub fn low(x: usize) -> u32

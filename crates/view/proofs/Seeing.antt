@@ -20,9 +20,9 @@ use Rattle.encoding.specs.Message.{Read, body, rules, Row, rows, rowBytes, firs
 use Rattle.encoding.specs.Write.{rowAt}
 use Rattle.encoding.specs.View.{Seen, part, fallback, nothing, rowOf, ofChain, seen, viewing, seenBytes}
 use Rattle.table.proofs.Ranges.{range-more, range-none}
-use Rattle.reader.specs.Walks.{bodyWalk, readDone}
-use Rattle.reader.specs.declared.Walk.{Walk}
-use Rattle.reader.specs.declared.Walk.the-variants.{Done, Stop}
+use Rattle.slices.specs.Walks.{bodyWalk, readDone}
+use Rattle.slices.specs.declared.Walk.{Walk}
+use Rattle.slices.specs.declared.Walk.the-variants.{Done, Stop}
 use Rattle.laws.specs.Demands.{All, end, more, RowExact}
 use Rattle.laws.specs.MessageExact.{exact-rows}
 use Rattle.laws.specs.Small.{accepted-small}

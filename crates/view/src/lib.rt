@@ -8,7 +8,7 @@ ghost use Rattle.encoding.specs.Write.{rowAt};
 ghost use Rattle.encoding.specs.View.{rowOf, viewing, seenBytes};
 ghost use Rattle.view.specs.Views.{viewOf, PartInside};
 use prepare::Prepared;
-use reader::Walk;
+use slices::Walk;
 
 // What the view returns: a part of the message, by its place and length; the whole fallback; or an empty slice.
 pub enum View {

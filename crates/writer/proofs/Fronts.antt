@@ -1,7 +1,7 @@
--- A slice: its data, and what stands before them. Assumes nothing.
+-- A slice: its data, and what comes before them. Assumes nothing.
 --
 --   still-wrong                  rows that are refused stay refused
---   data-marked, data-plain      the rows of an owner, with and without byte 255 behind them
+--   data-marked, data-plain      the rows of an owner, with and without byte 255 after them
 --   front-sized, front-plain     flags, type ID and, in sliced format, a size
 --   front-long, front-short      how many bytes stand before the data
 --   slice-laid                   the front put before the data

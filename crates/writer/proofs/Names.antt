@@ -2,7 +2,7 @@
 --
 --   name-few            a name is at most as long as its length says
 --   id-long, id-none    how many bytes the type ID takes, where it is due and where not
---   id-put, id-put-none its size, and the name behind it
+--   id-put, id-put-none its size, and the name after it
 use mathlib.Core.Path.{_≡_, sym, ap, _∙_}
 use mathlib.Core.Bool.{Bool, true, false}
 use mathlib.Core.List.{List}

@@ -32,7 +32,7 @@ use Rattle.writer.specs.Messages.{contentsOf, AllPut}
 
 -- ---- the last owner
 
--- a row left behind it is 20, and none is right
+-- a row left after it is 20, and none is right
 module _ (T rows buffer : List ℕ) (count up i : ℕ) (z : up ≡ 0) where
   above-over : i < count → verdictAbove T rows buffer count up i ≡ stop 20 i
   unfolding verdictAbove
@@ -45,7 +45,7 @@ module _ (T rows buffer : List ℕ) (count up i : ℕ) (z : up ≡ 0) where
 -- ---- the slices of a chain
 
 module _ (T rows buffer : List ℕ) (count : ℕ) (g : Format) where
-  -- the slices behind that of owner o
+  -- the slices after that of owner o
   abbrev behind : ℕ → ℕ → ℕ → List Slice
   behind o i up = slicesFrom T rows buffer count (i + length (groupOf T rows buffer count o i)) (upward (chain T) up)
 

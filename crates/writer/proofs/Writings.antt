@@ -1,10 +1,10 @@
--- The answer, and the output behind it. Assumes nothing.
+-- The answer, and the output after it. Assumes nothing.
 --
 --   answer-few                   too few row bytes: a refusal, and the output stays
 --   answer-wrong                 a row is wrong: the same
 --   answer-over, answer-room     22: the message is too long, or longer than the output
---   answer-short                 a message put into a draft stands, copied, at the output's start
---   answer-long                  a message put again stands at the output's start
+--   answer-short                 a message put into a draft is copied to the output's start
+--   answer-long                  a message put again is at the output's start
 use mathlib.Core.Path.{_≡_, refl, sym, ap, _∙_}
 use mathlib.Core.Bool.{Bool, true, false, _&&_, not}
 use mathlib.Core.List.{List, _++_}
@@ -77,7 +77,7 @@ module _ (T : List ℕ) (top format count : ℕ) (rows buffer lent : List ℕ) w
         answer-room l = refused 22 n (result-is true false (le-leb (length message) 65536 (omega (arith, long))) (lt-leb (length message) (length lent) (omega (arith, long))))
 
         module _ (l : n ≤ length lent) (end : List ℕ) where
-          -- the message stands at the output's start
+          -- the message is at the output's start
           made : end ≡ put 0 message lent → (Told n ≡ outcomeOf result) × (end ≡ output result lent)
           unfolding outcomeOf output
           made e =

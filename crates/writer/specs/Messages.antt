@@ -24,7 +24,7 @@ use Rattle.pieces.specs.Judged.{verdictFrom, Gives}
 use Rattle.pieces.specs.Puts.{Puts}
 use Rattle.writer.specs.Slices.{groupOf, slicesFrom}
 
--- a parameter list, a class instance behind its marker, or an exception
+-- a parameter list, a class instance after its marker, or an exception
 unfoldable pub contentsOf : List ℕ → List ℕ → List ℕ → ℕ → Format → ℕ → List ℕ
 contentsOf T rows buffer count g type =
     pick (eqb (kind T type) 15) (concat pieceBytes (groupOf T rows buffer count type 0))

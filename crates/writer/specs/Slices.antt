@@ -4,7 +4,7 @@
 --   sliceOf                its slice
 --   slicesFrom             the slices of owners, one after another, from row i on
 --   formatBy               sliced or compact
---   idField, frontField    a slice's type ID, where one is due; all that stands before its data
+--   idField, frontField    a slice's type ID, where one is due; all that comes before its data
 --   RowsLaid, DataLaid, SliceLaid   what is put of an owner's rows, of its slice's data, of its slice, and what the code answers of it
 --   Judges                 the owner's rows are right and that much is put; or the verdict is their refusal
 --   RowsPut, DataPut, SlicePut      the code's answers

@@ -11,7 +11,7 @@ ghost use Rattle.encoding.specs.Write.{output};
 ghost use Rattle.shapes.specs.Shapes.{shapesOf};
 ghost use Rattle.writer.specs.Messages.{written, outcomeOf};
 
-// Where the bytes put end, the next row, whether an optional member was put, and the number of the refusal at that row or 0.
+// The end of the bytes put, the next row, whether an optional member was put, and the number of the refusal at that row or 0.
 pub struct Laid {
     pub end: usize,
     pub row: usize,
@@ -19,7 +19,7 @@ pub struct Laid {
     pub fault: usize,
 }
 
-// Where the bytes put end, every row being right; or a refusal's number and place.
+// The end of the bytes put if every row is right; or a refusal's number and place.
 pub enum Put {
     Made(usize),
     Wrong(usize, usize),
@@ -31,8 +31,8 @@ pub enum Outcome {
     Stopped(usize, usize),
 }
 
-// Rows to a message by a draft: the message is put into the draft first, which judges the rows and gives its length.
-// A message that fits there is copied, a longer one is put again, its parts not judged again.
+// Puts the message into a draft first, which checks the rows and gives its length.
+// A message that fits there is copied to the output; a longer one is put again, its parts not checked again.
 fn write_by_draft(
     table: &[u8],
     shapes: &[u8; 256],
@@ -82,8 +82,8 @@ fn write_by_draft(
     }
 }
 
-// Rows to a message, behind the judgements on table, type, format and buffer: judges the rows, each 20 then 21, then 22, and puts the message at the output's start.
-// The draft has 256 bytes where the buffer is short, else 1,024: fewer bytes are cleared sooner.
+// Writes under a prepared table: checks the rows, each 20 then 21, then 22, and puts the message at the output's start.
+// The draft has 256 bytes if the buffer is short, else 1,024: a shorter one takes less time to clear.
 pub fn write_rows(
     table: &[u8],
     shapes: &[u8; 256],

@@ -1,4 +1,4 @@
-// Judges the rows and puts the slices of a chain, and a message.
+// Checks the rows and puts the slices of a chain, and a message.
 use crate::Put;
 use crate::slice;
 ghost use mathlib.Core.Path.{_≡_};
@@ -11,7 +11,7 @@ ghost use Rattle.shapes.specs.Shapes.{shapesOf};
 ghost use Rattle.writer.specs.Slices.{formatBy, slicesFrom};
 ghost use Rattle.writer.specs.Messages.{contentsOf, AllPut};
 
-// Judges the rows and puts the slices of row t and its bases.
+// Checks the rows and puts the slices of row t and its bases.
 fn put_slices(
     table: &[u8],
     shapes: &[u8; 256],
@@ -65,7 +65,7 @@ fn put_slices(
     }
 }
 
-// Judges the rows and puts the data of an encapsulation: a parameter list, a class instance behind its marker, or an exception.
+// Checks the rows and puts the data of an encapsulation: a parameter list, a class instance after its marker, or an exception.
 fn put_contents(
     table: &[u8],
     shapes: &[u8; 256],
@@ -121,7 +121,7 @@ fn put_contents(
     )
 }
 
-// Judges the rows and puts the message: the data, then the size and the version before them.
+// Checks the rows and puts the message: the data, then the size and the version before them.
 pub fn put_message(
     table: &[u8],
     shapes: &[u8; 256],

@@ -1,4 +1,4 @@
-// Judges and puts the rows of an owner, and its slice.
+// Checks and puts the rows of an owner, and its slice.
 use crate::Laid;
 use pieces::Cursor;
 use pieces::Placed;
@@ -13,7 +13,7 @@ ghost use Rattle.shapes.specs.Shapes.{shapesOf};
 ghost use Rattle.pieces.specs.Puts.{Puts};
 ghost use Rattle.writer.specs.Slices.{formatBy, idField, frontField, RowsPut, DataPut, SlicePut};
 
-// Judges and puts the rows of owner o from row `first` on.
+// Checks and puts the rows of owner o from row `first` on.
 pub fn put_rows(
     table: &[u8],
     shapes: &[u8; 256],
@@ -81,7 +81,7 @@ pub fn put_rows(
     }
 }
 
-// How many bytes the name of owner o has: at most as many as its length says.
+// How many bytes the name of owner o has.
 fn name_len(table: &[u8], o: usize) -> usize
     ensures { λ r. ⌜ (r ≡ length (nameOf (now (table .entry)) o)) × (r < 65536) ⌝ }
 {
@@ -104,7 +104,7 @@ fn id_len(table: &[u8], o: usize, id: bool) -> usize
     0
 }
 
-// Puts the type ID of owner o, if it is due, and gives its end.
+// Puts the type ID of owner o, if it is due, and returns its end.
 fn put_id(table: &[u8], out: &mut [u8], at: usize, o: usize, id: bool) -> usize
     requires { ⌜ at ≤ 1152921504606846976 ⌝ }
     ensures { λ r. ⌜ Puts at (idField (now (table .entry)) o id) (now (out .entry)) (now (out .exit)) r × (r ≤ at + 65540) ⌝ }
@@ -119,7 +119,7 @@ fn put_id(table: &[u8], out: &mut [u8], at: usize, o: usize, id: bool) -> usize
     at
 }
 
-// Judges the rows of owner o and puts a slice's data: the rows and, behind optionals, byte 255.
+// Checks the rows of owner o and puts a slice's data: the rows and, after optionals, byte 255.
 fn put_data(
     table: &[u8],
     shapes: &[u8; 256],
@@ -163,7 +163,7 @@ fn put_data(
     d
 }
 
-// How many bytes stand before a slice's data: flags, type ID, size.
+// How many bytes come before a slice's data: flags, type ID, size.
 fn front_len(table: &[u8], o: usize, id: bool, sliced: bool) -> usize
     ensures { λ r. ⌜ (r ≡ 1 + length (idField (now (table .entry)) o id) + pick sliced 4 0) × (r ≤ 65545) ⌝ }
 {
@@ -174,7 +174,7 @@ fn front_len(table: &[u8], o: usize, id: bool, sliced: bool) -> usize
     n
 }
 
-// Puts what stands before a slice's data of n bytes, and gives its end.
+// Puts what comes before a slice's data of n bytes and returns its end.
 fn put_front(
     table: &[u8],
     out: &mut [u8],
@@ -198,7 +198,7 @@ fn put_front(
     a
 }
 
-// Judges the rows of owner o and puts its slice: the data first, then what stands before them.
+// Checks the rows of owner o and puts its slice: the data first, then what comes before them.
 pub fn put_slice(
     table: &[u8],
     shapes: &[u8; 256],

@@ -1,0 +1,2 @@
+-- What the contracts of `heads` cite besides the definitions of the encoding.
+pub mod Stages

@@ -1,0 +1,64 @@
+// The walk over a parameter list.
+ghost use mathlib.Core.Path.{_≡_};
+ghost use mathlib.Core.List.{List};
+ghost use Prim.Native.Nat.{ℕ, _≤_};
+ghost use lib.ListN.{length, drop};
+ghost use Rattle.encoding.specs.Result.{ok};
+ghost use Rattle.encoding.specs.Optional.{Piece};
+ghost use Rattle.encoding.specs.Message.{parameters, pieceRows};
+ghost use Rattle.shapes.specs.Shapes.{shapesOf};
+ghost use Rattle.level.specs.Fill.{fill};
+ghost use Rattle.slices.specs.Walks.{listWalk};
+use level::Members;
+use level::Optional;
+use slices::Walk;
+
+// A parameter list from a place on: required members as declared, then optionals to the end, with a row for each known member.
+pub fn list(
+    table: &[u8],
+    shapes: &[u8; 256],
+    top: usize,
+    m: &[u8],
+    start: usize,
+    out: &mut [u8],
+) -> Walk
+    requires { ⌜ start ≤ length (now m) ⌝ }
+    requires { ⌜ now shapes ≡ shapesOf (now table) ⌝ }
+    ensures { λ r. ⌜ r ≡ listWalk (now (table .entry)) top start (parameters (now (table .entry)) top (drop start (now (m .entry)))) ⌝ }
+    ensures { λ _. ⌜ length (now (out .exit)) ≡ length (now (out .entry)) ⌝ }
+    ensures { λ _. ⌜ ((ps : List Piece) (n : ℕ) → parameters (now (table .entry)) top (drop start (now (m .entry))) ≡ ok ps n → now (out .exit) ≡ fill 0 (pieceRows (now (table .entry)) top start ps) (now (out .entry))) ⌝ }
+{
+    let members = level::required(table, shapes, top, &m[start..], start, 0, out);
+    match members {
+        Members::Read(n, k, begin) => {
+            let stop = table::chain::member_end(table, top);
+            let mut at = start + n;
+            let mut count = k;
+            let mut optionals = 0;
+            let mut least = 0;
+            let mut row = begin;
+            while at < m.len() {
+                let o = level::optionals::optional(table, shapes, stop, row, least, &m[at..]);
+                match o {
+                    Optional::Known(member, tag, b, l) => {
+                        wire::rows::put_row(out, count, member, at + b, l - b);
+                        count += 1;
+                        at += l;
+                        least = tag + 1;
+                        row = table::chain::behind(table, row, member, tag);
+                    }
+                    Optional::Skipped(tag, l) => {
+                        optionals += 1;
+                        at += l;
+                        least = tag + 1;
+                    }
+                    Optional::Wrong(c, p) => {
+                        return Walk::Stop(c, at + p);
+                    }
+                }
+            }
+            Walk::Done(top, 1, count, optionals, 0, at)
+        }
+        Members::Refused(c, p) => Walk::Stop(c, start + p),
+    }
+}
