@@ -1,11 +1,11 @@
 /* Makes the gate's recorded calls by the C functions and compares each answer, for a library that was built for another
  * processor.
  *
- *   replay read STDIN STDOUT     the files of crates/replay: the reader, and the writer where a message is written again
- *   replay write STDIN STDOUT    the files of crates/replay_write: the writer
+ *   replay STDIN STDOUT     the files of crates/replay
  *
- * The first file has the calls, the second a line for each answer; the programs in crates say how they are made. Calls of
- * the member view are counted as left out: C has no such function. Exit status: 0 if all agree. */
+ * The first file has the calls, the second a line for each answer; the program in crates/replay says how they are made.
+ * Calls that C does not have (the member view, row records, the check of a table) are counted as left out. Exit status: 0
+ * if all others agree. */
 #include "icehub.h"
 
 #include <inttypes.h>
@@ -16,7 +16,7 @@
 
 enum { LENT = 0xAA, MOST_LINE = 1 << 20, MOST_INPUT = 1 << 18 };
 
-static uint8_t table[ICEHUB_MOST_BYTES], input[MOST_INPUT], rows[MOST_INPUT], out[ICEHUB_MOST_BYTES];
+static uint8_t table[ICEHUB_MOST_BYTES], input[MOST_INPUT], rows[ICEHUB_MOST_BYTES], out[ICEHUB_MOST_BYTES];
 static char line[MOST_LINE], expected[MOST_LINE];
 static size_t line_len, table_len;
 static unsigned long agreed, differed, left_out;
@@ -85,11 +85,6 @@ static int fetch(FILE *calls, uint8_t *bytes, size_t count, size_t room)
     return got == count;
 }
 
-static uint32_t int_of(const uint8_t *head, size_t at)
-{
-    return (uint32_t)icehub_unsigned(head + at, 4);
-}
-
 static void read_call(uint32_t top, const uint8_t *message, size_t message_len, size_t room)
 {
     uint32_t refusal, first, format, count, optionals, slices, i;
@@ -121,24 +116,55 @@ static void read_call(uint32_t top, const uint8_t *message, size_t message_len, 
     }
 }
 
-static void replay_read(FILE *calls, FILE *answers)
+static void write_call(uint32_t type, uint32_t format, uint32_t count, const uint8_t *list, size_t list_len,
+                       const uint8_t *buffer, size_t buffer_len, size_t room)
 {
-    uint8_t head[16];
+    uint32_t refusal, length, i;
+    memset(out, LENT, sizeof out);
+    refusal = icehub_write(table, table_len, type, format, count, list, list_len, buffer, buffer_len, out, room);
+    length = icehub_write_length(table, table_len, type, format, count, list, list_len, buffer, buffer_len, room);
+    put("%" PRIu32 " %" PRIu32 " %" PRIu32 " ", refusal,
+        icehub_write_place(table, table_len, type, format, count, list, list_len, buffer, buffer_len, room), length);
+    if (length > room) {
+        put("more bytes than room");
+        return;
+    }
+    for (i = 0; i < length; i++) {
+        put("%02x", (unsigned)out[i]);
+    }
+    put_touched(out + length, sizeof out - length, " touched");
+}
+
+/* The kinds of records. */
+enum { TABLE = 0, READ = 1, WRITE = 3, NUMBERS = 7 };
+
+static void replay(FILE *calls, FILE *answers)
+{
+    uint8_t head[4 * NUMBERS];
     while (fetch(calls, head, sizeof head, sizeof head)) {
-        const uint32_t kind = (uint32_t)icehub_unsigned(head, 2), fallback = (uint32_t)icehub_unsigned(head + 2, 2);
-        const size_t length = int_of(head, 12);
-        if (kind == 0) {
-            table_len = length;
+        uint32_t n[NUMBERS];
+        size_t i, length;
+        for (i = 0; i < NUMBERS; i++) {
+            n[i] = (uint32_t)icehub_unsigned(head + 4 * i, 4);
+        }
+        length = n[1];
+        if (n[0] == TABLE) {
             (void)fetch(calls, table, length, sizeof table);
+            table_len = length;
             continue;
         }
-        (void)fetch(calls, input, length + fallback, sizeof input);
-        if (kind == 1) {
-            const size_t room = int_of(head, 8);
-            if (room > sizeof rows) {
+        (void)fetch(calls, input, length, sizeof input);
+        if (n[0] == READ) {
+            if (n[3] > sizeof rows) {
                 stop("a list is too long");
             }
-            read_call(int_of(head, 4), input, length, room);
+            read_call(n[2], input, length, n[3]);
+            compare(answers);
+        } else if (n[0] == WRITE) {
+            if (n[5] > length || n[6] > sizeof out) {
+                stop("a call is too long");
+            }
+            write_call(n[2], n[3], n[4], input, n[5], input + n[5], length - n[5], n[6]);
             compare(answers);
         } else {
             if (fgets(expected, sizeof expected, answers) == NULL) {
@@ -149,61 +175,21 @@ static void replay_read(FILE *calls, FILE *answers)
     }
 }
 
-static void replay_write(FILE *calls, FILE *answers)
-{
-    uint8_t head[28];
-    while (fetch(calls, head, sizeof head, sizeof head)) {
-        const uint32_t type = int_of(head, 4), format = int_of(head, 8), count = int_of(head, 12);
-        const size_t rows_len = int_of(head, 16), buffer_len = int_of(head, 20), room = int_of(head, 24);
-        uint32_t refusal, length, i;
-        if (int_of(head, 0) > 0) {
-            table_len = int_of(head, 0);
-            (void)fetch(calls, table, table_len, sizeof table);
-        }
-        (void)fetch(calls, rows, rows_len, sizeof rows);
-        (void)fetch(calls, input, buffer_len, sizeof input);
-        if (room > sizeof out) {
-            stop("an output is too long");
-        }
-        memset(out, LENT, sizeof out);
-        refusal = icehub_write(table, table_len, type, format, count, rows, rows_len, input, buffer_len, out, room);
-        length =
-            icehub_write_length(table, table_len, type, format, count, rows, rows_len, input, buffer_len, room);
-        put("%" PRIu32 " %" PRIu32 " %" PRIu32 " ", refusal,
-            icehub_write_place(table, table_len, type, format, count, rows, rows_len, input, buffer_len, room), length);
-        for (i = 0; i < length && i < room; i++) {
-            put("%02x", (unsigned)out[i]);
-        }
-        if (length <= room) {
-            put_touched(out + length, sizeof out - length, " touched");
-        }
-        compare(answers);
-    }
-}
-
 int main(int argc, char **argv)
 {
     FILE *calls, *answers;
-    if (argc != 4 || (strcmp(argv[1], "read") != 0 && strcmp(argv[1], "write") != 0)) {
-        stop("usage: replay read|write STDIN STDOUT");
+    if (argc != 3) {
+        stop("usage: replay STDIN STDOUT");
     }
-    calls = fopen(argv[2], "rb");
-    answers = fopen(argv[3], "rb");
+    calls = fopen(argv[1], "rb");
+    answers = fopen(argv[2], "rb");
     if (calls == NULL || answers == NULL) {
         stop("a file cannot be opened");
     }
-    if (argv[1][0] == 'r') {
-        replay_read(calls, answers);
-    } else {
-        replay_write(calls, answers);
-    }
+    replay(calls, answers);
     if (fgets(expected, sizeof expected, answers) != NULL) {
         stop("more answers than calls");
     }
-    printf("%s: %lu of %lu recorded calls agree", argv[1], agreed, agreed + differed);
-    if (left_out > 0) {
-        printf(", %lu left out", left_out);
-    }
-    printf("\n");
+    printf("%lu of %lu recorded calls agree, %lu left out\n", agreed, agreed + differed, left_out);
     return differed > 0 || agreed == 0;
 }
