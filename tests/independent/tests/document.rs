@@ -1,4 +1,4 @@
-//! Document 01's bench cases, and the bounds that it names.
+//! Document 01's bench cases, its rules each by name, and the bounds that it names.
 
 use independent::json::unhex;
 use independent::spec::{Member, Spec};
@@ -193,6 +193,223 @@ fn reply() {
     let top = spec.owner(15, &[(double, None), (bool, None), (proxy, Some(300))]).into();
     let message = wrapped(&bytes("1F 85 EB 51 B8 1E 09 40 01 F6 FF 2C 01 00 00 02 00 00 00 00 00"));
     there_and_back(&spec.bytes(), top, &message, &[[0, 6, 8], [1, 14, 1], [2, 25, 2]]);
+}
+
+/// A table of one member of kind 0 to 7, or of the type that `of` adds, and its top.
+fn one(tag: Option<u32>, of: impl Fn(&mut Spec) -> u16) -> (Vec<u8>, u32) {
+    let mut spec = Spec::default();
+    let row = of(&mut spec);
+    let top = spec.owner(15, &[(row, tag)]);
+    (spec.bytes(), top.into())
+}
+
+/// The refusal of a body, or the length of its one row.
+fn length_or_refusal((table, top): &(Vec<u8>, u32), body: &str) -> Result<u32, Refusal> {
+    rows_of(table, *top, &wrapped(&bytes(body))).map(|(rows, _)| rows[0][2])
+}
+
+#[test]
+fn bools_and_enumerators() {
+    let flag = one(None, |spec| spec.basic(0));
+    assert_eq!((length_or_refusal(&flag, "00"), length_or_refusal(&flag, "01")), (Ok(1), Ok(1)));
+    assert_eq!((length_or_refusal(&flag, "02"), length_or_refusal(&flag, "")), (Err((8, 6)), Err((4, 6))));
+    let state = one(None, |spec| spec.enumeration(2));
+    assert_eq!((length_or_refusal(&state, "02"), length_or_refusal(&state, "03")), (Ok(1), Err((9, 6))));
+}
+
+/// A count promises nothing: 4 is at the first item that does not fit. Order and equal keys are kept.
+#[test]
+fn containers() {
+    let shorts = one(None, |spec| {
+        let short = spec.basic(2);
+        spec.row(10, [short, 0, 0, 0, 0])
+    });
+    assert_eq!(length_or_refusal(&shorts, "02 01 00 02 00"), Ok(5));
+    assert_eq!(length_or_refusal(&shorts, "02 01 00 02"), Err((4, 9)));
+    let flags = one(None, |spec| {
+        let (byte, flag) = (spec.basic(1), spec.basic(0));
+        spec.row(11, [byte, flag, 0, 0, 0])
+    });
+    assert_eq!(length_or_refusal(&flags, "02 07 01 07 00"), Ok(5));
+    assert_eq!(length_or_refusal(&flags, "02 07 01 07 02"), Err((8, 10)));
+}
+
+/// Identity, facet, mode, secure, protocol and encoding, endpoints or adapter.
+#[test]
+fn proxies() {
+    let proxy = one(None, |spec| spec.basic(12));
+    let of = |body: &str| length_or_refusal(&proxy, body);
+    assert_eq!(of("00 00"), Ok(2));
+    assert_eq!(of("01 41 00 00 00 00 01 00 01 01 00 00"), Ok(12));
+    assert_eq!(of("01 41 00 01 01 66 04 01 01 00 01 01 00 01 61"), Ok(15));
+    assert_eq!(of("00 01 41"), Err((10, 6)));
+    assert_eq!(of("01 41 00 02"), Err((10, 9)));
+    assert_eq!(of("01 41 00 00 00 02"), Err((8, 11)));
+    assert_eq!(of("01 41 00 00 00 00 01 00 01 01 01 01 00 06 00 00 00 01 01"), Ok(19));
+    assert_eq!(of("01 41 00 00 00 00 01 00 01 01 01 01 00 05 00 00 00 01"), Err((11, 19)));
+    assert_eq!(of("01 41 00 00 00 00 01 00 01 01 01 01 00 07 00 00 00 01 01"), Err((4, 19)));
+}
+
+#[test]
+fn proxy_mode_five() {
+    let proxy = one(None, |spec| spec.basic(12));
+    let with_mode = |mode: &str| length_or_refusal(&proxy, &format!("01 41 00 00 {mode} 00 01 00 01 01 00 00"));
+    assert_eq!((with_mode("04"), with_mode("05")), (Ok(12), Err((10, 10))));
+}
+
+/// A header: five bits 31, the long tag's size, form, order, Class, type.
+#[test]
+fn optional_headers() {
+    let byte = one(Some(30), |spec| spec.basic(1));
+    let of = |body: &str| length_or_refusal(&byte, body);
+    assert_eq!(of("F0 1E 05"), Ok(1));
+    assert_eq!((of("F8 05"), of("FF")), (Err((12, 6)), Err((12, 6))));
+    assert_eq!((of("F0 FF 1E 00 00 00"), of("F0")), (Err((7, 7)), Err((4, 7))));
+    assert_eq!((of("F0 1D 05"), of("F7 1D")), (Err((12, 6)), Err((12, 6))));
+    assert_eq!((of("F0 1E 05 08 05"), of("F0 1E 05 F0 1E 05")), (Err((12, 9)), Err((12, 9))));
+    assert_eq!((of("F7 1E"), of("0F")), (Err((13, 6)), Err((13, 6))));
+    assert_eq!(of("F1 1E 05 05"), Err((12, 6)));
+}
+
+/// An unknown tag is skipped by its declared bytes, whatever they hold: F1, F2, F4, F8, Size, VSize, FSize.
+#[test]
+fn unknown_tags() {
+    let (table, top) = list(&[]);
+    let skipped = |body: &str| {
+        let (rows, reading) = rows_of(&table, top, &wrapped(&bytes(body)))?;
+        Ok((rows.len(), reading.optionals_skipped))
+    };
+    for body in ["00 09", "01 09 09", "02 09 09 09 09", "03 09 09 09 09 09 09 09 09"] {
+        assert_eq!((skipped(body), skipped(&body[..body.len() - 3])), (Ok((0, 1)), Err((4, 7))), "{body}");
+    }
+    for body in ["04 FF 2C 01 00 00", "05 00", "05 02 09 09", "06 01 00 00 00 09", "00 09 08 09 10 09"] {
+        assert_eq!(skipped(body).map(|(rows, _)| rows), Ok(0), "{body}");
+    }
+    assert_eq!((skipped("05 02 09"), skipped("07 01 09")), (Err((4, 7)), Err((13, 6))));
+}
+
+#[test]
+fn fsize_of_no_bytes() {
+    let strings = |tag| {
+        one(tag, |spec| {
+            let string = spec.basic(7);
+            spec.row(10, [string, 0, 0, 0, 0])
+        })
+    };
+    for table in [strings(Some(1)), strings(Some(2))] {
+        assert_eq!(length_or_refusal(&table, "0E 00 00 00 00"), Err((11, 7)));
+        assert_eq!(length_or_refusal(&table, "0E FF FF FF FF"), Err((11, 7)));
+        assert_eq!(length_or_refusal(&table, "0E 02 00 00 00 00"), Err((4, 7)));
+    }
+    assert_eq!(length_or_refusal(&strings(Some(1)), "0E 01 00 00 00 00"), Ok(1));
+}
+
+/// The declared bytes come first, then the value in them: 4 at the inner item, 11 at the length where bytes are left.
+#[test]
+fn known_values_use_up_their_bytes() {
+    let strings = one(Some(1), |spec| {
+        let string = spec.basic(7);
+        spec.row(10, [string, 0, 0, 0, 0])
+    });
+    assert_eq!(length_or_refusal(&strings, "0E 03 00 00 00 01 01 41"), Ok(3));
+    assert_eq!(length_or_refusal(&strings, "0E 04 00 00 00 01 01 41 00"), Err((11, 7)));
+    assert_eq!(length_or_refusal(&strings, "0E 02 00 00 00 01 01"), Err((4, 12)));
+}
+
+/// A table of the exception E, an int and an optional byte of tag 1, with the base B, which has no members; E's row.
+fn records() -> (Vec<u8>, u32) {
+    let mut spec = Spec::default();
+    let (byte, int) = (spec.basic(1), spec.basic(3));
+    let base = spec.record(13, None, b"B", &[]);
+    let top = spec.record(13, Some(base), b"E", &[(int, None), (byte, Some(1))]);
+    spec.record(13, None, b"O", &[]);
+    (spec.bytes(), top.into())
+}
+
+fn record(body: &str) -> Result<Reading, Refusal> {
+    let (table, top) = records();
+    rows_of(&table, top, &wrapped(&bytes(body))).map(|(_, reading)| reading)
+}
+
+#[test]
+fn bit_2_without_an_optional() {
+    assert_eq!(record("05 01 45 07 00 00 00 08 05 FF 20").map(|reading| reading.rows), Ok(2));
+    assert_eq!(record("05 01 45 07 00 00 00 FF 20"), Err((14, 6)));
+    assert_eq!(record("15 01 45 09 00 00 00 07 00 00 00 FF 31 01 42 04 00 00 00"), Err((14, 6)));
+    assert_eq!(record("05 01 45 07 00 00 00"), Err((4, 13)));
+    assert_eq!(record("05 01 45 07 00 00 00 08 05"), Err((4, 15)));
+}
+
+/// At one flags byte: 14, 13, then the ID, then 15 to 17.
+#[test]
+fn slice_flags() {
+    assert_eq!(record("01 01 45 07 00 00 00 20").map(|reading| reading.rows), Ok(1));
+    assert_eq!((record("41"), record("C9"), record("00")), (Err((14, 6)), Err((14, 6)), Err((14, 6))));
+    assert_eq!((record("09"), record("02"), record("13")), (Err((13, 6)), Err((13, 6)), Err((13, 6))));
+    // Behind a compact slice: another format, any ID bits; behind a sliced one: another format, no ID.
+    for flags in ["31", "21", "22"] {
+        assert_eq!(record(&format!("01 01 45 07 00 00 00 {flags}")), Err((14, 13)), "{flags}");
+    }
+    for flags in ["21", "30"] {
+        assert_eq!(record(&format!("11 01 45 08 00 00 00 07 00 00 00 {flags}")), Err((14, 17)), "{flags}");
+    }
+}
+
+/// A slice size: 4, 11 for its least, 4 for its reach; bytes left over are 11 at the size.
+#[test]
+fn slice_sizes() {
+    let sized = |size: &str| record(&format!("11 01 45 {size} 07 00 00 00 31 01 42 04 00 00 00"));
+    assert_eq!(sized("08 00 00 00").map(|reading| reading.format), Ok(1));
+    assert_eq!((sized("03 00 00 00"), sized("FF FF FF FF")), (Err((11, 9)), Err((11, 9))));
+    assert_eq!((sized("17 00 00 00"), sized("09 00 00 00")), (Err((4, 9)), Err((11, 9))));
+    assert_eq!(record("11 01 45 04 00"), Err((4, 9)));
+}
+
+/// Unknown slices are skipped by their size: flags, ID and size are judged, bit 2 and data are not.
+#[test]
+fn skipped_slices() {
+    let rest = "11 01 45 08 00 00 00 07 00 00 00 31 01 42 04 00 00 00";
+    let reading = record(&format!("15 01 4E 06 00 00 00 FF FF {rest}")).unwrap();
+    assert_eq!((reading.first, reading.rows, reading.slices_skipped, reading.optionals_skipped), (3, 1, 1, 0));
+    assert_eq!(record(&format!("19 01 4E 04 00 00 00 {rest}")), Err((13, 6)));
+    assert_eq!(record(&format!("11 01 4E 03 00 00 00 {rest}")), Err((11, 9)));
+}
+
+/// 15 at the ID, 16 and 17 at the flags, 18 at the first byte after the record.
+#[test]
+fn chains() {
+    assert_eq!(record("01 01 4E"), Err((15, 7)));
+    assert_eq!(record("31 01 4E 04 00 00 00"), Err((16, 6)));
+    assert_eq!((record("31 01 4F 04 00 00 00"), record("21 01 45")), (Err((17, 6)), Err((17, 6))));
+    assert_eq!(record("11 01 45 08 00 00 00 07 00 00 00 31 01 4F 04 00 00 00"), Err((17, 17)));
+    assert_eq!(record("11 01 45 08 00 00 00 07 00 00 00 31 01 4E 04 00 00 00"), Err((17, 17)));
+    assert_eq!(record("01 01 45 07 00 00 00 00"), Err((17, 13)));
+    assert_eq!(record("01 01 45 07 00 00 00 20 00"), Err((18, 14)));
+}
+
+#[test]
+fn class_markers() {
+    let mut spec = Spec::default();
+    let top = spec.record(14, None, b"C", &[]).into();
+    let of = |body: &str| rows_of(&spec.bytes(), top, &wrapped(&bytes(body))).map(|(_, reading)| reading.first);
+    assert_eq!(of("01 21 01 43"), Ok(0));
+    assert_eq!((of("02 21 01 43"), of("00"), of("")), (Err((13, 6)), Err((13, 6)), Err((4, 6))));
+}
+
+/// Each row 20 then 21: row 0's bytes are judged before row 1 is.
+#[test]
+fn rows_of_the_writer() {
+    let (table, top) = p2_table();
+    let of = |rows: &[Row]| {
+        let list: Vec<u8> = rows.iter().flatten().flat_map(|number| number.to_le_bytes()).collect();
+        write(&table, top, 1, rows.len() as u32, &list, &bytes(P2), &mut [0; 64])
+    };
+    assert_eq!(of(&[[0, 6, 2], [1, 9, 8], [2, 18, 4]]), Ok(22));
+    assert_eq!(of(&[[0, 6, 3], [0, 6, 2]]), Err((21, 0)));
+    assert_eq!(of(&[[0, 6, 2], [0, 6, 2]]), Err((20, 1)));
+    assert_eq!(of(&[[0, 6, 2], [2, 18, 4], [1, 9, 8]]), Err((20, 2)));
+    assert_eq!(of(&[[1, 9, 8]]), Err((20, 0)));
+    assert_eq!((of(&[[0, 21, 2]]), of(&[[0, 22, 0]]), of(&[[0, 23, 0]])), (Err((20, 0)), Err((21, 0)), Err((20, 0))));
 }
 
 #[test]
