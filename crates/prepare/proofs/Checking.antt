@@ -5,12 +5,13 @@
 --   format-great, format-list, format-known           23
 --   early-top, early-format, early-long, early-none   2, 23 and 3 in turn
 --   broken-checks, early-checks, ready-checks         what `checks` gives; broken-, early-, ready-shapes: the lent array then
+--   anew-checks, anew-ready                           the same of a table taken anew
 use mathlib.Core.Path.{_≡_, refl, sym, ap, _∙_}
 use mathlib.Core.Bool.{Bool, true, false}
 use mathlib.Core.List.{List, [], _∷_}
-use Prim.Native.Nat.{ℕ, zero, suc, _≤_, _<_}
+use Prim.Native.Nat.{ℕ, zero, suc, _-_, _≤_, _<_}
 use native.Mathlib.Omega.{arith}
-use lib.ListN.{length, getD}
+use lib.ListN.{length, take, drop, getD}
 use lib.Dec.{eqb, ltb}
 use borrow.Author.Tests.{le-leb, lt-leb, le-ltb, lt-ltb, eq-eqb, ne-eqb}
 use Rattle.encoding.specs.Result.{firstOf}
@@ -18,6 +19,7 @@ use Rattle.encoding.specs.Number.{Bytes}
 use Rattle.encoding.specs.Table.{types, kind, Fault, fine, fault, faults, ruleNumber}
 use Rattle.encoding.specs.Message.{noTop, limit}
 use Rattle.encoding.specs.Write.{noFormat}
+use Rattle.wire.specs.StepLaws.{rest-is}
 use Rattle.rules.specs.Checks.{verdictOf}
 use Rattle.shapes.specs.Shapes.{shapesOf}
 use Rattle.rules.specs.declared.Verdict.{Verdict}
@@ -119,3 +121,15 @@ module _ (T : List ℕ) (top format len : ℕ) (v : Verdict) (ev : v ≡ verdict
     pub ready-checks : n ≡ 0 → Ready ≡ checks T top format len
     unfolding checked
     ready-checks e = sym (passed ∙ ap (checked fine) e)
+
+-- ---- the table taken anew
+
+-- a slice from 0 on, as the check names it
+abbrev anew : List ℕ → List ℕ
+anew s = take (length s - 0) (drop 0 s)
+
+pub anew-checks : (T : List ℕ) (top format len : ℕ) (r : Prepared) → r ≡ checks (anew T) top format len → r ≡ checks T top format len
+anew-checks T top format len r e = rw (rest-is T 0) at e
+
+pub anew-ready : (T : List ℕ) (r : Prepared) (shapes : List ℕ) → ReadyShapes (anew T) r shapes → ReadyShapes T r shapes
+anew-ready T r shapes S = record { same = λ e. S .same e ∙ ap shapesOf (rest-is T 0) }

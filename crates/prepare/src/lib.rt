@@ -62,15 +62,8 @@ fn early(table: &[u8], top: usize, format: usize, len: usize) -> usize
     0
 }
 
-// Checks the table, the top, the format and the length of a message or buffer, and computes the shapes of the table's rows. A reader, which knows no format yet, passes 1: no top is refused for it.
-// Wrong and ruled out: a call that lets format 0 pass for a parameter list; one that refuses exactly 65,536 bytes.
-pub fn prepare(
-    table: &[u8],
-    top: usize,
-    format: usize,
-    len: usize,
-    shapes: &mut [u8; 256],
-) -> Prepared
+// The checks, then the shapes.
+fn checked(table: &[u8], top: usize, format: usize, len: usize, shapes: &mut [u8; 256]) -> Prepared
     ensures { λ r. ⌜ r ≡ checks (now (table .entry)) top format len ⌝ }
     ensures { λ r. ⌜ ReadyShapes (now (table .entry)) r (now (shapes .exit)) ⌝ }
 {
@@ -86,4 +79,20 @@ pub fn prepare(
             Prepared::Ready
         }
     }
+}
+
+// Checks the table, the top, the format and the length of a message or buffer, and computes the shapes of the table's rows. A reader, which knows no format yet, passes 1: no top is refused for it.
+// The table is taken anew as a part: passing it unchanged causes a store-forwarding stall.
+// Wrong and ruled out: a call that lets format 0 pass for a parameter list; one that refuses exactly 65,536 bytes.
+pub fn prepare(
+    table: &[u8],
+    top: usize,
+    format: usize,
+    len: usize,
+    shapes: &mut [u8; 256],
+) -> Prepared
+    ensures { λ r. ⌜ r ≡ checks (now (table .entry)) top format len ⌝ }
+    ensures { λ r. ⌜ ReadyShapes (now (table .entry)) r (now (shapes .exit)) ⌝ }
+{
+    checked(&table[0..], top, format, len, shapes)
 }

@@ -2,13 +2,13 @@
 --
 --   count-done, count-stop             the rows of a walk, case by case
 --   told-done, told-short, told-stop   the answer of a walk, case by case
---   body-walked                        what the walk over a body gives, as one record
+--   anew-shapes                        the shapes of a table taken anew
+--   body-walked                        what the walk over a body of slices taken anew gives, as one record
 --   told-walk                          the answer of a walk over a body
 --   rows-put                           a list that holds the rows, after they are put
 --   list-short, list-own, list-again   the lent list if it has no room, if the rows come from another list, if a second walk puts them there
 --   refused-told, refused-listed       answer and list if a check before the message refuses
 --   ready-told, ready-answer, ready-listed   answer and list if none does
---   anew-told, anew-listed             the same of slices taken anew
 use mathlib.Core.Path.{_≡_, refl, sym, ap, _∙_}
 use mathlib.Core.Bool.{Bool, true, false}
 use mathlib.Core.List.{List, [], _∷_, _++_}
@@ -28,6 +28,7 @@ use Rattle.encoding.specs.declared.Reading.the-variants.{Accepted, Refused}
 use Rattle.wire.specs.StepLaws.{rest-is}
 use Rattle.wire.specs.Put.{put}
 use Rattle.wire.specs.PutLaws.{put-none, put-front}
+use Rattle.shapes.specs.Shapes.{shapesOf}
 use Rattle.level.specs.Fill.{fill}
 use Rattle.level.specs.FillLaws.{fill-listed}
 use Rattle.slices.specs.Walks.{bodyWalk, readDone}
@@ -120,9 +121,19 @@ module _ (T : List ℕ) (top : ℕ) (m : List ℕ) (b : ℕ) where
       go (ok rd n) e = told-accepted T top rd n (b / 12) (accepted-small T top m (rd .format) (rd .pieces) n y e)
       go (bad c p) e = told-refused T top (b / 12) c p (refusal-numbered (rules-refused T top m e))
 
-module _ (T : List ℕ) (top : ℕ) (m out last : List ℕ) (w : Walk) (says : w ≡ bodyWalk T top (body T top m)) (kept : length last ≡ length out) where
-  pub body-walked : ((rd : Read) (n : ℕ) → body T top m ≡ ok rd n → last ≡ fill 0 (rows T top (rd .format) (rd .pieces)) out) → Walked T top m w out last
-  body-walked lays = record { says = says; kept = kept; lays = lays }
+-- a slice from 0 on, as the check names it
+abbrev anew : List ℕ → List ℕ
+anew s = take (length s - 0) (drop 0 s)
+
+pub anew-shapes : (T shapes : List ℕ) → shapes ≡ shapesOf T → shapes ≡ shapesOf (anew T)
+anew-shapes T shapes e = e ∙ ap shapesOf (sym (rest-is T 0))
+
+module _ (T : List ℕ) (top : ℕ) (m out last : List ℕ) (w : Walk) (says : w ≡ bodyWalk (anew T) top (body (anew T) top (anew m))) (kept : length last ≡ length out) where
+  pub body-walked : ((rd : Read) (n : ℕ) → body (anew T) top (anew m) ≡ ok rd n → last ≡ fill 0 (rows (anew T) top (rd .format) (rd .pieces)) out) → Walked T top m w out last
+  body-walked lays =
+      let s : w ≡ bodyWalk T top (body T top m) = rw (rest-is T 0, rest-is m 0) at says in
+      let g : (rd : Read) (n : ℕ) → body T top m ≡ ok rd n → last ≡ fill 0 (rows T top (rd .format) (rd .pieces)) out = simp rest-is at lays in
+      record { says = s; kept = kept; lays = g }
 
 pub told-walk : (T : List ℕ) (top : ℕ) (m out last R : List ℕ) (w : Walk) → Walked T top m w out last → (k : ℕ) → k ≡ length R / 12 → (r : Reading) → r ≡ toldOf k w
     → r ≡ toldOf (room (length R)) (bodyWalk T top (body T top m))
@@ -217,19 +228,3 @@ module _ (T : List ℕ) (top : ℕ) (m : List ℕ) (l : ℕ) (el : l ≡ length 
     pub ready-listed : (R x : List ℕ) (b : ℕ) → x ≡ listed (readingBody T top m b) R → x ≡ listed (reading T top m b) R
     unfolding reading readingBody
     ready-listed R x b ex = ex ∙ ap (λ (z : Res Read). listed (within (room b) (answer T top z)) R) (sym (reading-ready T top m l el p ep e))
-
--- ---- slices taken anew
-
--- a slice from 0 on, as the check names it
-abbrev anew : List ℕ → List ℕ
-anew s = take (length s - 0) (drop 0 s)
-
-module _ (T : List ℕ) (top : ℕ) (m : List ℕ) (b : ℕ) where
-  anew-same : reading (anew T) top (anew m) b ≡ reading T top m b
-  anew-same = rw (rest-is T 0, rest-is m 0)
-
-  pub anew-told : (r : Reading) → r ≡ readingOf (reading (anew T) top (anew m) b) → r ≡ readingOf (reading T top m b)
-  anew-told r e = e ∙ ap readingOf anew-same
-
-  pub anew-listed : (R x : List ℕ) → x ≡ listed (reading (anew T) top (anew m) b) R → x ≡ listed (reading T top m b) R
-  anew-listed R x e = e ∙ ap (λ (a : Answer). listed a R) anew-same

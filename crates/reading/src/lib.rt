@@ -44,11 +44,12 @@ fn row_count(w: Walk) -> usize
 }
 
 // The walk over a message under a prepared table. It puts the rows of an accepted message into the list, those that fit.
+// The slices are taken anew as parts: passing them unchanged causes a store-forwarding stall.
 pub fn walk(table: &[u8], shapes: &[u8; 256], top: usize, message: &[u8], out: &mut [u8]) -> Walk
     requires { ⌜ now shapes ≡ shapesOf (now table) ⌝ }
     ensures { λ r. ⌜ Walked (now (table .entry)) top (now (message .entry)) r (now (out .entry)) (now (out .exit)) ⌝ }
 {
-    reader::body(table, shapes, top, message, out)
+    reader::body(&table[0..], shapes, top, &message[0..], out)
 }
 
 // Reads into a list of the call's own and copies the rows. If they do not fit there, a second walk puts them into the lent list, which has room for them.
@@ -116,13 +117,12 @@ fn checked(table: &[u8], top: usize, message: &[u8], rows: &mut [u8]) -> Reading
 }
 
 // The reader: the answer, and the rows in the lent list, 12 bytes each; bytes after the rows stay, and on a refusal all of them.
-// The slices are taken anew as parts: passing them unchanged causes a store-forwarding stall.
 // Wrong and ruled out: a reader that writes the list on a refusal; one that takes the bytes of the list for its rows.
 pub fn read(table: &[u8], top: u32, message: &[u8], rows: &mut [u8]) -> Reading
     ensures { λ r. ⌜ r ≡ readingOf (reading (now (table .entry)) top (now (message .entry)) (length (now (rows .entry)))) ⌝ }
     ensures { λ _. ⌜ now (rows .exit) ≡ listed (reading (now (table .entry)) top (now (message .entry)) (length (now (rows .entry)))) (now (rows .entry)) ⌝ }
 {
-    checked(&table[0..], top as usize, &message[0..], rows)
+    checked(table, top as usize, message, rows)
 }
 
 // The reader's answer with a lent list of `room` bytes; no list is touched.
