@@ -454,21 +454,56 @@ fn view() {
     assert_eq!(member(&table, top, &short[1..], 1, &fallback), []);
 }
 
+/// A byte, an enum, a struct and an exception, with type rows at 12, 24, 36 and 48 and member rows at 60, 68, 76 and 84.
+fn sample() -> Spec {
+    let mut table = Spec::default();
+    table.basic(1);
+    table.enumeration(5);
+    table.owner(9, &[(0, None)]);
+    table.record(13, None, b"A", &[(0, Some(1)), (0, Some(2)), (1, None)]);
+    table
+}
+
+/// The rule class and the place of a table's first fault; zeros if it has none.
+fn fault(table: &[u8]) -> (u32, u32) {
+    (class(table), check(table).err().map_or(0, |(_, place)| place))
+}
+
+/// The fault of the sample table with another byte at a place.
+fn fault_with(at: usize, byte: u8) -> (u32, u32) {
+    let mut table = sample().bytes();
+    table[at] = byte;
+    fault(&table)
+}
+
+#[test]
+fn table_headers() {
+    for (at, byte) in [(0, b'f'), (2, b'G'), (3, 2), (4, 1), (5, 5), (7, 3), (9, 2), (11, 1)] {
+        assert_eq!(fault_with(at, byte), (31, 0), "{at}");
+    }
+    let table = sample().bytes();
+    assert_eq!((fault(&table), fault(&table[..92]), fault(&table[..11])), ((0, 0), (31, 0), (31, 0)));
+    assert_eq!(fault(&[&table[..], &[0]].concat()), (31, 0));
+}
+
+/// The zero byte, the mark, the tag of a required member, a tag that is too great.
+#[test]
+fn table_member_rows() {
+    assert_eq!((fault_with(63, 1), fault_with(62, 2)), ((32, 60), (36, 60)));
+    assert_eq!((fault_with(64, 1), fault_with(75, 0x80)), ((32, 60), (38, 68)));
+}
+
 /// Each rule class by one table that breaks it, with its place.
 #[test]
 fn table_rules() {
     let broken = |spec: &dyn Fn(&mut Spec), byte: Option<(usize, u8)>| {
-        let mut table = Spec::default();
-        table.basic(1);
-        table.enumeration(5);
-        table.owner(9, &[(0, None)]);
-        table.record(13, None, b"A", &[(0, Some(1)), (0, Some(2)), (1, None)]);
+        let mut table = sample();
         spec(&mut table);
         let mut bytes = table.bytes();
         if let Some((at, byte)) = byte {
             bytes[at] = byte;
         }
-        (class(&bytes), check(&bytes).err().map_or(0, |(_, place)| place))
+        fault(&bytes)
     };
     let same = |_: &mut Spec| ();
     assert_eq!(broken(&same, None), (0, 0));
