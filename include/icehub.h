@@ -3,13 +3,13 @@
  * One message is one encapsulation that holds a parameter list, an exception, or one class instance that
  * refers to no other. The table says which types there are; a row of it, the top, says which is wanted.
  *
- * Any bytes may be handed to any call: none has to be looked at first, and every call returns. A call that
- * refuses gives one number, the first that applies in the order of document 01, and changes no lent byte.
+ * Any call may be given any bytes: none has to be checked first, and every call returns. A call that refuses
+ * returns one number, the first that applies in the order of document 01, and changes no lent byte.
  *
  * What a caller owes:
  *   - Bytes are lent as a pointer and a length in bytes. The pointer is not NULL, also where the length is 0,
- *     and that many bytes behind it may be read; those behind `rows` of icehub_read and `out` of icehub_write
- *     may be written too.
+ *     and that many bytes from it on may be read; those of `rows` of icehub_read and `out` of icehub_write may
+ *     be written too.
  *   - Lent output (`rows` of icehub_read, `out` of icehub_write) overlaps no input of the same call. Inputs may
  *     overlap each other.
  *   - Nobody else changes lent bytes, or reads lent output, until the call returns.
@@ -19,8 +19,8 @@
  * Stack and time are measured, not proved (x86-64, make stack, make bench). No call took more than 6 KB of stack over
  * all recorded and 20,000 generated calls; each level of nesting of the table's types takes 0.5 KB more, 124 KB under a
  * table of 256 nested types. icehub_read took 0.08 us for a message of 22 bytes, 0.7 us for 1 KB, and 0.17 s for the
- * slowest message of 65,536 bytes that we know; icehub_write took 0.1 us, 0.9 us and 0.16 s. Each further call takes as
- * long as the call whose numbers it tells.
+ * slowest message of 65,536 bytes that we know; icehub_write took 0.1 us, 0.9 us and 0.16 s. Each of the calls that
+ * return one more number costs as much as a full read or write.
  */
 #ifndef ICEHUB_H
 #define ICEHUB_H
@@ -120,13 +120,13 @@ enum icehub_refusal {
  *   rows, rows_len        the lent list: rows_len / ICEHUB_ROW_SIZE rows have room (ICEHUB_MOST_ROWS always do)
  */
 
-/* Reads a message. Returns ICEHUB_OK: the members that the table knows stand at the start of `rows`, one row each, in
- * message order, and the bytes beyond these rows are untouched. Or returns a refusal: `rows` is untouched. */
+/* Reads a message. Returns ICEHUB_OK: the members that the table knows are at the start of `rows`, one row each, in
+ * message order, and the bytes after these rows are unchanged. Or returns a refusal: `rows` is unchanged. */
 uint32_t icehub_read(const uint8_t *table, size_t table_len, uint32_t top, const uint8_t *message, size_t message_len,
                      uint8_t *rows, size_t rows_len);
 
-/* The other numbers of a reading. Each call judges table, top and message anew, as icehub_read does with a list of
- * rows_len bytes, and changes nothing. Where icehub_read refuses, each gives 0 but the place. */
+/* The other numbers of a reading. Each call checks table, top and message again, as icehub_read does with a list of
+ * rows_len bytes, and changes nothing. Where icehub_read refuses, each but the place is 0. */
 
 /* The place of the refusal; 0 where the message is accepted. */
 uint32_t icehub_read_place(const uint8_t *table, size_t table_len, uint32_t top, const uint8_t *message,
@@ -149,7 +149,7 @@ uint32_t icehub_read_count(const uint8_t *table, size_t table_len, uint32_t top,
 uint32_t icehub_read_optionals_skipped(const uint8_t *table, size_t table_len, uint32_t top, const uint8_t *message,
                                        size_t message_len, size_t rows_len);
 
-/* How many slices were skipped, because the table does not know their type IDs. What stands in them is not counted. */
+/* How many slices were skipped, because the table does not know their type IDs. What is in them is not counted. */
 uint32_t icehub_read_slices_skipped(const uint8_t *table, size_t table_len, uint32_t top, const uint8_t *message,
                                     size_t message_len, size_t rows_len);
 
@@ -166,17 +166,17 @@ uint32_t icehub_read_slices_skipped(const uint8_t *table, size_t table_len, uint
  *   out, out_len        the lent output
  */
 
-/* Writes a message. Returns ICEHUB_OK: the message stands at the start of `out`, as long as icehub_write_length says,
- * and the bytes beyond it are untouched. Or returns a refusal: `out` is untouched. */
+/* Writes a message. Returns ICEHUB_OK: the message is at the start of `out`, as long as icehub_write_length says,
+ * and the bytes after it are unchanged. Or returns a refusal: `out` is unchanged. */
 uint32_t icehub_write(const uint8_t *table, size_t table_len, uint32_t type, uint32_t format, uint32_t count,
                       const uint8_t *rows, size_t rows_len, const uint8_t *buffer, size_t buffer_len,
                       uint8_t *out, size_t out_len);
 
-/* The other numbers of a writing. Each call judges the same input anew, as icehub_write does with an output of out_len
+/* The other numbers of a writing. Each call checks the same input again, as icehub_write does with an output of out_len
  * bytes, and changes nothing. */
 
-/* The place of the refusal; 0 where the message is written. With an out_len of 0, rows that nothing else is wrong with
- * are refused by ICEHUB_OUTPUT_TOO_LONG, and the place is the length that their message needs. */
+/* The place of the refusal; 0 where the message is written. With an out_len of 0, right rows are refused by
+ * ICEHUB_OUTPUT_TOO_LONG, and the place is the length that their message needs. */
 uint32_t icehub_write_place(const uint8_t *table, size_t table_len, uint32_t type, uint32_t format, uint32_t count,
                             const uint8_t *rows, size_t rows_len, const uint8_t *buffer, size_t buffer_len,
                             size_t out_len);
