@@ -110,7 +110,7 @@ bindings: $(LIBRARY)
 	$(CARGO) test --offline --manifest-path bindings/rust/Cargo.toml
 	$(CARGO) test --offline --manifest-path tools/icehub/Cargo.toml
 
-## samples: write the sample files anew from samples/README.md
+## samples: write the sample files again from samples/README.md
 samples:
 	samples/make.sh
 

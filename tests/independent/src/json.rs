@@ -9,7 +9,7 @@ pub enum Json {
 }
 
 impl Json {
-    /// One value and nothing behind it.
+    /// One value and nothing after it.
     pub fn parse(text: &str) -> Option<Json> {
         let mut rest = text;
         let json = value(&mut rest)?;

@@ -4,7 +4,7 @@ use crate::table::*;
 use crate::value::Part;
 use crate::{Refusal, MOST};
 
-/// What the reader gives beside the rows.
+/// What the reader gives besides the rows.
 #[derive(Clone, Copy, Debug, Default, PartialEq, Eq)]
 pub struct Reading {
     /// The first known type; for a parameter list the top.
@@ -22,7 +22,7 @@ pub fn read(table: &[u8], top: u32, message: &[u8], rows: &mut [u8]) -> Result<R
     let table = Table::check(table, &mut shapes)?;
     let lent = rows.as_chunks_mut::<12>().0;
 
-    // The rows wait here for the acceptance; no member stands in a message twice.
+    // The rows are kept here until the message is accepted; no member is in a message twice.
     let most = lent.len().min(table.member_rows());
     let mut few = [[0; 12]; 32];
     let mut many;
@@ -111,7 +111,7 @@ struct Walk<'w, F> {
 }
 
 impl<F: FnMut(usize, usize, usize)> Walk<'_, F> {
-    /// An exception, or a class instance behind its marker: slices from the most derived to the last.
+    /// An exception, or a class instance with its marker: slices from the most derived to the last.
     fn record(&mut self, top: usize, part: &mut Part) -> Result<(), Refusal> {
         let table = self.table;
         if table.kind(top) == CLASS {
@@ -121,7 +121,7 @@ impl<F: FnMut(usize, usize, usize)> Walk<'_, F> {
             }
         }
         let mut sliced = None; // fixed by the first slice
-        let mut due = None; // behind the first known slice, the base of the one before
+        let mut due = None; // after the first known slice, the base of the one before
         loop {
             let start = *part;
             let flags = part.byte()?;

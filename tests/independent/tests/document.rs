@@ -185,7 +185,7 @@ fn exceptions() {
     assert_eq!((reading.first, reading.format), (derived.into(), 0));
 }
 
-/// 000's reply: a nil proxy behind tag 300, an FSize that does not count itself.
+/// 000's reply: a nil proxy with tag 300, an FSize that does not count itself.
 #[test]
 fn reply() {
     let mut spec = Spec::default();
@@ -346,7 +346,7 @@ fn slice_flags() {
     assert_eq!(record("01 01 45 07 00 00 00 20").map(|reading| reading.rows), Ok(1));
     assert_eq!((record("41"), record("C9"), record("00")), (Err((14, 6)), Err((14, 6)), Err((14, 6))));
     assert_eq!((record("09"), record("02"), record("13")), (Err((13, 6)), Err((13, 6)), Err((13, 6))));
-    // Behind a compact slice: another format, any ID bits; behind a sliced one: another format, no ID.
+    // After a compact slice: another format, any ID bits. After a sliced one: another format, no ID.
     for flags in ["31", "21", "22"] {
         assert_eq!(record(&format!("01 01 45 07 00 00 00 {flags}")), Err((14, 13)), "{flags}");
     }

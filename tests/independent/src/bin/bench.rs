@@ -59,7 +59,7 @@ impl Case {
             || number(write(black_box(table), *top, *format, count, black_box(rows), black_box(message), &mut other)),
             0,
         );
-        // The empty input is refused by 4 right behind the rules of the table.
+        // The empty input is refused by 4 right after the rules of the table.
         report(
             &format!("{name}: table check, {} bytes", table.len()),
             || ffi::read(black_box(table), *top, &[], &mut []),
@@ -187,7 +187,7 @@ fn main() {
     let values: Vec<_> = (0..1_024).map(|i| (i, value(i))).collect();
     Case::new("1,024 members", &spec, top, &values).run();
 
-    // The slowest that we know: tags that fall, so that each is compared with all before; a bool behind 253 structs,
+    // The slowest that we know: tags that fall, so that each is compared with all before; a bool inside 253 structs,
     // as often as a message can hold it.
     let mut spec = Spec::default();
     let byte = spec.basic(1);

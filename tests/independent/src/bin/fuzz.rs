@@ -1,6 +1,6 @@
-//! fuzz [CALLS [SEED]]: makes calls (1,000,000 unless told) of the reader and the writer and compares the proved
+//! fuzz [CALLS [SEED]]: makes calls (1,000,000 by default) of the reader and the writer and compares the proved
 //! library with this implementation in every number and every lent byte. A difference is printed as a line like those
-//! of the recorded calls, the library's answer behind it as `got`; with any, the exit status is 1.
+//! of the recorded calls, the library's answer after it as `got`; with any, the exit status is 1.
 
 use independent::ffi;
 use independent::gen::Calls;
