@@ -1,5 +1,5 @@
-// The reader's calls: the answer, and the rows in a lent list. None asks anything of its input.
-// `read_prepared` reads under a table that was checked before, so that a caller with many messages checks it once.
+// The reader's calls: the answer, and the rows in a lent list. `read` and `answer` ask nothing of their input.
+// `read_prepared` asks for the shapes of the table, so that a caller with many messages checks its table once.
 ghost use mathlib.Core.Path.{_≡_};
 ghost use lib.ListN.{length};
 ghost use Rattle.encoding.specs.Message.{body, room, reading, listed, readingOf};
@@ -44,7 +44,7 @@ fn row_count(w: Walk) -> usize
 }
 
 // The walk over a message under a prepared table. It puts the rows of an accepted message into the list, those that fit.
-// The slices are taken anew as parts: passing them unchanged causes a store-forwarding stall.
+// The slices are passed as new parts: passing them unchanged causes a store-forwarding stall.
 pub fn walk(table: &[u8], shapes: &[u8; 256], top: usize, message: &[u8], out: &mut [u8]) -> Walk
     requires { ⌜ now shapes ≡ shapesOf (now table) ⌝ }
     ensures { λ r. ⌜ Walked (now (table .entry)) top (now (message .entry)) r (now (out .entry)) (now (out .exit)) ⌝ }

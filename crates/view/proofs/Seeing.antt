@@ -71,7 +71,7 @@ module _ (list : List ℕ) (member n i : ℕ) (S : Seeks list member n i) where
       rest = turn ∙ rw (ne-eqb member (at list 4 (12 * i)) (λ e. q (e ∙ sym ea)));
     }
 
--- ---- what a walk tells of a member
+-- ---- what a walk says of a member
 
 -- a part lies in the message
 row-within : (T m : List ℕ) (member : ℕ) {rs : List Row} → All (RowExact T m) rs → (p l : ℕ) → rowOf member rs ≡ part p l → p + l ≤ length m
@@ -168,7 +168,7 @@ module _ (T : List ℕ) (top : ℕ) (m : List ℕ) (l : ℕ) (el : l ≡ length 
 pub nothing-inside : (l : ℕ) → PartInside l Nothing
 nothing-inside l = record { inside = λ p n q. let z : _≡_ {A = ℕ} 0 1 = cc in absurd (omega arith) }
 
--- ---- the bytes handed back
+-- ---- the bytes returned
 
 module _ (m other : List ℕ) (y : Seen) (v : View) (ev : v ≡ viewOf y) where
   pub part-seen : (p n : ℕ) → v ≡ Part p n → take (p + n - p) (drop p m) ≡ seenBytes m other y

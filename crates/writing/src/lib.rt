@@ -33,7 +33,7 @@ fn checked(
     }
 }
 
-// The same of slices taken anew as parts: passing them unchanged causes a store-forwarding stall.
+// The same, with the slices passed as new parts: passing them unchanged causes a store-forwarding stall.
 fn outcome(
     table: &[u8],
     top: usize,

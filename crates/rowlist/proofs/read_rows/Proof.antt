@@ -1,5 +1,5 @@
 -- `rowlist::read_rows` meets its contract: a walk of its MIR, by hand. A local array of bytes is lent to `listing` as a `&mut` slice, for a lifetime that is made for the call, and comes back; then it is lent to `rows_of` as a `&` slice, for another lifetime, and `rows` is passed on for good.
--- All that the proof knows of `listing`, `told` and `rows_of` is that they meet their contracts. What is said of lists stands in `Laying.antt`.
+-- All that the proof knows of `listing`, `told` and `rows_of` is that they meet their contracts. The laws about lists are in `Laying.antt`.
 -- Assumes nothing.
 use mathlib.Core.Path.{_≡_, refl, sym, _∙_, ap, subst}
 use Prim.Native.Nat.{ℕ, _*_, _/_, _<_, _≤_, _^_, min}

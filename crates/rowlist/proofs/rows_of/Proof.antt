@@ -1,6 +1,6 @@
 -- `rows_of` meets its contract: a walk of its MIR, by hand, with a loop. The borrow of `rows` is opened once, before the loop, and closed once, after it. In between the elements are the function's own:
 -- a turn calls `row_at` for the row i, takes element i out of the row of elements, stores to it and puts it back.
--- All that the proof knows of `count` and `row_at` is that they meet their contracts. What is said of lists stands in `Laying.antt`.
+-- All that the proof knows of `count` and `row_at` is that they meet their contracts. The laws about lists are in `Laying.antt`.
 -- Assumes nothing.
 use mathlib.Core.Path.{_≡_, refl, sym, _∙_, ap, subst}
 use Prim.Native.Nat.{ℕ, zero, suc, _+_, _*_, _-_, _/_, _<_, _≤_, _^_, min}

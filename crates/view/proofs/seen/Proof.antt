@@ -1,4 +1,4 @@
--- Each case is handed back as `seenBytes` says; a part lies in the message. Assumes nothing.
+-- Each case returns what `seenBytes` says; a part lies in the message. Assumes nothing.
 use borrow.Author.Needs.{needs}
 use native.Mathlib.Omega.{arith}
 use Rattle.view.proofs.Seeing.{part-seen, fallback-seen, nothing-seen}

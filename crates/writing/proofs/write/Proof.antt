@@ -1,4 +1,4 @@
--- What is told of the outcome is document 01's answer. Assumes nothing.
+-- The answer made of the outcome is document 01's. Assumes nothing.
 use borrow.Author.Needs.{needs}
 use Rattle.writing.proofs.Outcomes.{answer-told}
 use Rattle.writing.proofs.write.Statement.{statement}
