@@ -20,12 +20,12 @@ use Rattle.encoding.specs.Result.{ok, Parser, shift, _>>=_, must, atEnd,
 use Rattle.encoding.specs.ResultLaws.{shift-shift, Closed, Lies, by-pick, held, pick-judges, atMark-looks, ok≢bad, either-false, firstOf-ok, bind-next, must-step, Held, atEnd-fits}
 use Rattle.encoding.specs.Number.{byte, number, leBytes}
 use Rattle.encoding.specs.NumberLaws.{closed-byte, length-leBytes, number-written}
-use Rattle.encoding.specs.Table.{types, kind, Fault, fine, fault, faults, required, optional}
+use Rattle.encoding.specs.Table.{types, kind, Fault, fine, fault, faults, requiredMembers, optionalMembers}
 use Rattle.encoding.specs.Optional.{Piece}
 use Rattle.encoding.specs.OptionalLaws.{closed-optionals, closed-requireds}
 use Rattle.encoding.specs.Slice.{sliced, Chain}
 use Rattle.encoding.specs.SliceLaws.{closed-slices}
-use Rattle.encoding.specs.Message.{list, exception, class, Read, encapsulate, parameters, markerForm, contents, sizeForm, versionForm, ended, body, noTop, limit, afterRules, unless, rules, Row, rowBytes}
+use Rattle.encoding.specs.Message.{list, exception, class, Read, encapsulate, parameters, markerForm, contents, outerForm, versionForm, ended, body, noTop, limit, afterRules, refusedFirst, rules, Row, rowBytes}
 
 ended-in : {A : Type 0} (a : A) (xs : List ℕ) → Lies (length xs) (ended a xs)
 unfolding ended
@@ -36,7 +36,7 @@ ended-in a (x ∷ xs) = omega arith
 module _ {P : (A : Type 0) → Parser A → Type 0} {Stops : (List ℕ → Option ℕ) → Type 0} (C : Closed P Stops) (marked : Stops atMark) (to-end : Stops atEnd) (T : List ℕ) (top : ℕ) where
   pub closed-parameters : P (List Piece) (parameters T top)
   unfolding parameters
-  closed-parameters = C .by-bind _ _ (closed-requireds C (required T top)) (λ a. C .by-mapc _ (closed-optionals C atEnd to-end (optional T top)) (λ ps _. a ++ ps))
+  closed-parameters = C .by-bind _ _ (closed-requireds C (requiredMembers T top)) (λ a. C .by-mapc _ (closed-optionals C atEnd to-end (optionalMembers T top)) (λ ps _. a ++ ps))
 
   pub closed-contents : P Read (contents T top)
   unfolding contents markerForm
@@ -70,14 +70,14 @@ length-encapsulate b = length-append (leBytes 4 (6 + length b)) (1 ∷ 1 ∷ b) 
 
 -- an encapsulation is read as what it holds, six bytes on
 pub body-encapsulated : (T : List ℕ) (top : ℕ) (b : List ℕ) → 6 + length b < 2 ^ 31 → body T top (encapsulate b) ≡ shift 6 ((contents T top >>= ended) b)
-unfolding body sizeForm versionForm encapsulate leBytes
+unfolding body outerForm versionForm encapsulate leBytes
 body-encapsulated T top b h =
     let n : ℕ = 6 + length b in
     let w : List ℕ = leBytes 4 n in
     let m : List ℕ = w ++ (1 ∷ 1 ∷ b) in
-    let right : sizeForm (length m) n ≡ 0 = rw (le-ltb n 6 (omega arith), eq-eqb n (length m) (sym (length-encapsulate b))) in
+    let right : outerForm (length m) n ≡ 0 = rw (le-ltb n 6 (omega arith), eq-eqb n (length m) (sym (length-encapsulate b))) in
     let versioned : Parser Read = must versionForm (number 2) >>= λ _. contents T top >>= ended in
-    bind-next (must (sizeForm (length m)) (number 4)) (λ _. versioned) m (must-step (number 4) m (sizeForm (length m)) (number-written 4 n (1 ∷ 1 ∷ b) (omega arith)) right)
+    bind-next (must (outerForm (length m)) (number 4)) (λ _. versioned) m (must-step (number 4) m (outerForm (length m)) (number-written 4 n (1 ∷ 1 ∷ b) (omega arith)) right)
     ∙ ap (λ (z : List ℕ). shift 4 (versioned z)) (drop-at w (1 ∷ 1 ∷ b) 4 (length-leBytes 4 n))
     ∙ ap (shift 4) (bind-next (must versionForm (number 2)) (λ _. contents T top >>= ended) (1 ∷ 1 ∷ b) (must-step (number 2) (1 ∷ 1 ∷ b) versionForm (number-written 2 257 b (omega arith)) refl))
     ∙ shift-shift 4 2 ((contents T top >>= ended) b)
@@ -98,26 +98,26 @@ pub record Admitted (T : List ℕ) (top : ℕ) (m : List ℕ) (r : Read) (n : �
 
 module _ (T : List ℕ) (top : ℕ) (m : List ℕ) where
   pub rules-ok : {r : Read} {n : ℕ} → rules T top m ≡ ok r n → Admitted T top m r n
-  unfolding rules afterRules unless
+  unfolding rules afterRules refusedFirst
   rules-ok {r} {n} h = go (faults T) refl h
     where
       judged : ℕ
       judged = firstOf ((2, noTop T top) ∷ (3, ltb limit (length m)) ∷ [])
 
-      go₂ : (c : ℕ) → judged ≡ c → faults T ≡ fine → unless c (body T top m) ≡ ok r n → Admitted T top m r n
+      go₂ : (c : ℕ) → judged ≡ c → faults T ≡ fine → refusedFirst c (body T top m) ≡ ok r n → Admitted T top m r n
       go₂ zero e F h =
           let a = firstOf-ok 1 (noTop T top) _ e in
           let b = firstOf-ok 2 (ltb limit (length m)) _ (a .1) in
           record { table = F; top-right = a .0; short = ltb-false limit (length m) (b .0); read = h }
       go₂ (suc c) e F h = absurd (ok≢bad h refl)
 
-      go : (f : Fault) → faults T ≡ f → afterRules f (unless judged (body T top m)) ≡ ok r n → Admitted T top m r n
+      go : (f : Fault) → faults T ≡ f → afterRules f (refusedFirst judged (body T top m)) ≡ ok r n → Admitted T top m r n
       go fine e h = go₂ judged refl e h
       go (fault c p) e h = absurd (ok≢bad h refl)
 
   -- past table, top and limit the rules are the body
   pub rules-body : faults T ≡ fine → noTop T top ≡ false → length m ≤ limit → rules T top m ≡ body T top m
-  unfolding rules afterRules unless firstOf
+  unfolding rules afterRules refusedFirst firstOf
   rules-body f t l = rw (f, t, le-ltb limit (length m) l)
 
   pub rules-step : {r : Read} {n : ℕ} → Admitted T top m r n → rules T top m ≡ ok r n

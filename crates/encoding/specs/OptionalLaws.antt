@@ -24,7 +24,7 @@ use Rattle.encoding.specs.NumberLaws.{closed-byte, closed-size, closed-d
 use Rattle.encoding.specs.Types.{Ty, short, int, long, float, double, broken, bool, byte, string, proxy, num, enum, struct, seq, dict, fixed, fixeds, single, Bits, f1, f2, f4, f8, size, vsize, fsize, class, bitsAt, Form, bare, own, counted, sized, bitsOf, formOf}
 use Rattle.encoding.specs.ValueLaws.{closed-value}
 use Rattle.encoding.specs.Table.{Member, lookup}
-use Rattle.encoding.specs.Optional.{Piece, Header, firstForm, headerTail, headerForm, header, extent, part, content, optionalOf, optionals, requireds, lengthBytes, required, optional, skipped}
+use Rattle.encoding.specs.Optional.{Piece, Header, firstForm, headerTail, headerForm, header, extent, part, content, nextOptional, optionals, requireds, lengthBytes, required, optional, skipped}
 
 -- ---- headers
 
@@ -41,12 +41,12 @@ module _ (ms : List Member) (least : ℕ) where
   unfolding header
   starved-header = starved-must (headerForm ms least) _ (starved-bind _ headerTail (starved-must firstForm _ starved-byte))
 
-  pub eats-optional : Eats (optionalOf ms least)
-  unfolding optionalOf
+  pub eats-optional : Eats (nextOptional ms least)
+  unfolding nextOptional
   eats-optional = eats-first _ _ eats-header
 
-  pub starved-optional : Starved (optionalOf ms least)
-  unfolding optionalOf
+  pub starved-optional : Starved (nextOptional ms least)
+  unfolding nextOptional
   starved-optional = starved-bind _ _ starved-header
 
 -- ---- what extents and parts deliver ends what they take
@@ -118,13 +118,13 @@ module _ {P : (A : Type 0) → Parser A → Type 0} {Stops : (List ℕ → Optio
   closed-content (some m) h =
       C .by-mapc _ (C .by-inside _ _ (closed-part C (formOf (m .ty))) (ends-part (formOf (m .ty))) (C .by-bytes _ (closed-value C (m .ty)))) (λ b _. optional (h .tag) (formOf (m .ty)) b)
 
-  pub closed-optional : (ms : List Member) (least : ℕ) → P (Piece × ℕ) (optionalOf ms least)
-  unfolding optionalOf
+  pub closed-optional : (ms : List Member) (least : ℕ) → P (Piece × ℕ) (nextOptional ms least)
+  unfolding nextOptional
   closed-optional ms least = C .by-bind _ _ (closed-header C ms least) (λ h. C .by-mapc _ (closed-content (lookup (h .tag) ms) h) (λ p _. (p, suc (h .tag))))
 
   pub closed-optionals : (stop : List ℕ → Option ℕ) → Stops stop → (ms : List Member) → P (List Piece) (optionals stop ms)
   unfolding optionals
-  closed-optionals stop s ms = C .by-fuel (λ f. many stop (optionalOf ms) f 0) (λ f. C .by-many stop (optionalOf ms) s (closed-optional ms) (eats-optional ms) f 0) (many-fuel stop (optionalOf ms) (eats-optional ms) 0)
+  closed-optionals stop s ms = C .by-fuel (λ f. many stop (nextOptional ms) f 0) (λ f. C .by-many stop (nextOptional ms) s (closed-optional ms) (eats-optional ms) f 0) (many-fuel stop (nextOptional ms) (eats-optional ms) 0)
 
   pub closed-requireds : (ms : List Member) → P (List Piece) (requireds ms)
   unfolding requireds
@@ -134,16 +134,16 @@ module _ {P : (A : Type 0) → Parser A → Type 0} {Stops : (List ℕ → Optio
 pub held-content : (o : Option Member) (h : Header) → Held (content o h)
 held-content = closed-content held
 
-pub held-optional : (ms : List Member) (least : ℕ) → Held (optionalOf ms least)
+pub held-optional : (ms : List Member) (least : ℕ) → Held (nextOptional ms least)
 held-optional = closed-optional held
 
 pub held-requireds : (ms : List Member) → Held (requireds ms)
 held-requireds = closed-requireds held
 
 -- any fuel that is not below the bytes left gives the same
-pub optionals-enough : (ms : List Member) (stop : List ℕ → Option ℕ) (f : ℕ) (xs : List ℕ) → length xs ≤ f → optionals stop ms xs ≡ many stop (optionalOf ms) f 0 xs
+pub optionals-enough : (ms : List Member) (stop : List ℕ → Option ℕ) (f : ℕ) (xs : List ℕ) → length xs ≤ f → optionals stop ms xs ≡ many stop (nextOptional ms) f 0 xs
 unfolding optionals
-optionals-enough ms stop f xs h = many-enough stop (optionalOf ms) (eats-optional ms) (starved-optional ms) (length xs) f 0 xs (omega arith) h
+optionals-enough ms stop f xs h = many-enough stop (nextOptional ms) (eats-optional ms) (starved-optional ms) (length xs) f 0 xs (omega arith) h
 
 -- ---- the part of a known value
 

@@ -254,12 +254,12 @@ module _ {B : Type 0} (p : Parser (List ℕ)) (q : Parser B) (xs : List ℕ) whe
 
 -- ---- the frame
 
-pub record Kept {A : Type 0} (p : Parser A) (xs : List ℕ) (a : A) (n : ℕ) : Type 0 where
+pub record TakenAgain {A : Type 0} (p : Parser A) (xs : List ℕ) (a : A) (n : ℕ) : Type 0 where
   pub fits : n ≤ length xs
   pub again : (w : List ℕ) → p (take n xs ++ w) ≡ ok a n
 
 abbrev pub Framed : {A : Type 0} → Parser A → Type 0
-Framed {A} p = (xs : List ℕ) (a : A) (n : ℕ) → p xs ≡ ok a n → Kept p xs a n
+Framed {A} p = (xs : List ℕ) (a : A) (n : ℕ) → p xs ≡ ok a n → TakenAgain p xs a n
 
 module _ {A : Type 0} (p : Parser A) (F : Framed p) (xs : List ℕ) {a : A} {n : ℕ} where
   -- more bytes behind change nothing
@@ -277,7 +277,7 @@ module _ {A B : Type 0} (p : Parser A) (f : A → Parser B) where
   pub framed-bind : Framed p → ((a : A) → Framed (f a)) → Framed (p >>= f)
   framed-bind P F xs b k h = go (bind-ok p f xs h)
     where
-      go : Bound p f xs b k → Kept (p >>= f) xs b k
+      go : Bound p f xs b k → TakenAgain (p >>= f) xs b k
       go B =
           let P₁ = P xs (B .fst) (B .n) (B .first) in
           let F₁ = F (B .fst) (drop (B .n) xs) b (B .m) (B .next) in

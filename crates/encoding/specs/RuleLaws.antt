@@ -39,7 +39,7 @@ use borrow.Author.Tests.{eqb-true, eqb-false, leb-true, leb-false, ltb-true, ltb
 use Rattle.encoding.specs.Result.{pick, firstOf, sameBytes}
 use Rattle.encoding.specs.ResultLaws.{both-true, both-false, either-false, sameBytes-ok, sameBytes-same}
 use Rattle.encoding.specs.Types.{Ty}
-use Rattle.encoding.specs.Table.{types, members, kind, field, mark, tag, isRecord, owns, takes, range, namesAt, nameOf, Fault, fine, fault, orElse, faultAt, any, headerTests, headerRules, taken, noBase, alike, typeRules, sumRules, ownerOf, tagAlike, memberRules, rowAt, memberAt, pass, passes, faults, search, named, base, upward, climb, chain, Member, memberTy, lookup, requiredOf, optionalOf, required, optional, ownRows, trees}
+use Rattle.encoding.specs.Table.{types, members, kind, field, mark, tag, isRecord, owns, takes, range, namesAt, nameOf, Fault, fine, fault, orElse, faultAt, any, headerTests, headerRules, taken, noBase, alike, typeRules, sumRules, ownerOf, tagAlike, memberRules, rowAt, memberAt, pass, passes, faults, search, named, base, upward, climb, chain, Member, memberTy, lookup, requiredsIn, optionalsIn, requiredMembers, optionalMembers, ownRows, trees}
 use Rattle.encoding.specs.TableLaws.{header-most}
 
 -- ---- passes
@@ -198,8 +198,8 @@ own-here T a b q this m e r k t =
     let s : m .row ≡ a = ap (λ (x : Member). x .row) (sym e) ∙ r in
     record { from = omega arith; to = omega arith; marked = ap (λ (x : ℕ). eqb (mark T x) 0) s ∙ k; tagged = λ f. ap (λ (x : Member). x .key) (sym e) ∙ t f ∙ ap (tag T) (sym s) }
 
-pub required-among : (T : List ℕ) (l : List Ty) (i k a b : ℕ) (m : Member) → lookup k (requiredOf T l i (range a b)) ≡ some m → Own T a b true m
-unfolding requiredOf range lookup
+pub required-among : (T : List ℕ) (l : List Ty) (i k a b : ℕ) (m : Member) → lookup k (requiredsIn T l i (range a b)) ≡ some m → Own T a b true m
+unfolding requiredsIn range lookup
 required-among T l i k a zero m h = let z : _≡_ {A = ℕ} 0 1 = cc in absurd (omega arith)
 required-among T l i k a (suc b) m h =
     go (eqb (mark T a) 0) refl h (λ h. own-later (required-among T l (suc i) k (suc a) b m h)) (λ h. own-later (required-among T l i k (suc a) b m h))
@@ -207,53 +207,53 @@ required-among T l i k a (suc b) m h =
     this : Member
     this = record { row = a; key = i; ty = memberTy T l a }
 
-    go₂ : eqb (mark T a) 0 ≡ true → (q : Bool) → pick q (some this) (lookup k (requiredOf T l (suc i) (range (suc a) b))) ≡ some m
-        → (lookup k (requiredOf T l (suc i) (range (suc a) b)) ≡ some m → Own T a (suc b) true m) → Own T a (suc b) true m
+    go₂ : eqb (mark T a) 0 ≡ true → (q : Bool) → pick q (some this) (lookup k (requiredsIn T l (suc i) (range (suc a) b))) ≡ some m
+        → (lookup k (requiredsIn T l (suc i) (range (suc a) b)) ≡ some m → Own T a (suc b) true m) → Own T a (suc b) true m
     go₂ e true h ih = own-here T a b true this m (cc) refl e (λ f. absurd (true≢false f))
     go₂ e false h ih = ih h
 
-    go : (q : Bool) → eqb (mark T a) 0 ≡ q → lookup k (pick q (this ∷ requiredOf T l (suc i) (range (suc a) b)) (requiredOf T l i (range (suc a) b))) ≡ some m
-        → (lookup k (requiredOf T l (suc i) (range (suc a) b)) ≡ some m → Own T a (suc b) true m) → (lookup k (requiredOf T l i (range (suc a) b)) ≡ some m → Own T a (suc b) true m)
+    go : (q : Bool) → eqb (mark T a) 0 ≡ q → lookup k (pick q (this ∷ requiredsIn T l (suc i) (range (suc a) b)) (requiredsIn T l i (range (suc a) b))) ≡ some m
+        → (lookup k (requiredsIn T l (suc i) (range (suc a) b)) ≡ some m → Own T a (suc b) true m) → (lookup k (requiredsIn T l i (range (suc a) b)) ≡ some m → Own T a (suc b) true m)
         → Own T a (suc b) true m
     go true e h ia ib = go₂ e (eqb k i) h ia
     go false e h ia ib = ib h
 
-optional-among : (T : List ℕ) (l : List Ty) (k a b : ℕ) (m : Member) → lookup k (optionalOf T l (range a b)) ≡ some m → Own T a b false m
-unfolding optionalOf range lookup
+optional-among : (T : List ℕ) (l : List Ty) (k a b : ℕ) (m : Member) → lookup k (optionalsIn T l (range a b)) ≡ some m → Own T a b false m
+unfolding optionalsIn range lookup
 optional-among T l k a zero m h = let z : _≡_ {A = ℕ} 0 1 = cc in absurd (omega arith)
 optional-among T l k a (suc b) m h = go (eqb (mark T a) 0) refl h (λ h. own-later (optional-among T l k (suc a) b m h))
   where
     this : Member
     this = record { row = a; key = tag T a; ty = memberTy T l a }
 
-    go₂ : eqb (mark T a) 0 ≡ false → (q : Bool) → pick q (some this) (lookup k (optionalOf T l (range (suc a) b))) ≡ some m
-        → (lookup k (optionalOf T l (range (suc a) b)) ≡ some m → Own T a (suc b) false m) → Own T a (suc b) false m
+    go₂ : eqb (mark T a) 0 ≡ false → (q : Bool) → pick q (some this) (lookup k (optionalsIn T l (range (suc a) b))) ≡ some m
+        → (lookup k (optionalsIn T l (range (suc a) b)) ≡ some m → Own T a (suc b) false m) → Own T a (suc b) false m
     go₂ e true h ih = own-here T a b false this m (cc) refl e (λ f. refl)
     go₂ e false h ih = ih h
 
-    go : (q : Bool) → eqb (mark T a) 0 ≡ q → lookup k (pick q (optionalOf T l (range (suc a) b)) (this ∷ optionalOf T l (range (suc a) b))) ≡ some m
-        → (lookup k (optionalOf T l (range (suc a) b)) ≡ some m → Own T a (suc b) false m) → Own T a (suc b) false m
+    go : (q : Bool) → eqb (mark T a) 0 ≡ q → lookup k (pick q (optionalsIn T l (range (suc a) b)) (this ∷ optionalsIn T l (range (suc a) b))) ≡ some m
+        → (lookup k (optionalsIn T l (range (suc a) b)) ≡ some m → Own T a (suc b) false m) → Own T a (suc b) false m
     go true e h ih = ih h
     go false e h ih = go₂ e (eqb k (tag T a)) h ih
 
 module _ (T : List ℕ) (t k : ℕ) (m : Member) where
-  pub required-own : lookup k (required T t) ≡ some m → Own T (field T t 0) (field T t 1) true m
-  unfolding required ownRows
+  pub required-own : lookup k (requiredMembers T t) ≡ some m → Own T (field T t 0) (field T t 1) true m
+  unfolding requiredMembers ownRows
   required-own h = required-among T (trees T) 0 k (field T t 0) (field T t 1) m h
 
-  pub optional-own : lookup k (optional T t) ≡ some m → Own T (field T t 0) (field T t 1) false m
-  unfolding optional ownRows
+  pub optional-own : lookup k (optionalMembers T t) ≡ some m → Own T (field T t 0) (field T t 1) false m
+  unfolding optionalMembers ownRows
   optional-own h = optional-among T (trees T) k (field T t 0) (field T t 1) m h
 
 -- each member row is required or optional
-marked-sum : (T : List ℕ) (l : List Ty) (i : ℕ) (rs : List ℕ) → length (requiredOf T l i rs) + length (optionalOf T l rs) ≡ length rs
-unfolding requiredOf optionalOf
+marked-sum : (T : List ℕ) (l : List Ty) (i : ℕ) (rs : List ℕ) → length (requiredsIn T l i rs) + length (optionalsIn T l rs) ≡ length rs
+unfolding requiredsIn optionalsIn
 marked-sum T l i [] = omega arith
 marked-sum T l i (m ∷ rs) = go (eqb (mark T m) 0) (marked-sum T l (suc i) rs) (marked-sum T l i rs)
   where
-    go : (b : Bool) → length (requiredOf T l (suc i) rs) + length (optionalOf T l rs) ≡ length rs → length (requiredOf T l i rs) + length (optionalOf T l rs) ≡ length rs
-        → length (pick b (record { row = m; key = i; ty = memberTy T l m } ∷ requiredOf T l (suc i) rs) (requiredOf T l i rs))
-        + length (pick b (optionalOf T l rs) (record { row = m; key = tag T m; ty = memberTy T l m } ∷ optionalOf T l rs)) ≡ suc (length rs)
+    go : (b : Bool) → length (requiredsIn T l (suc i) rs) + length (optionalsIn T l rs) ≡ length rs → length (requiredsIn T l i rs) + length (optionalsIn T l rs) ≡ length rs
+        → length (pick b (record { row = m; key = i; ty = memberTy T l m } ∷ requiredsIn T l (suc i) rs) (requiredsIn T l i rs))
+        + length (pick b (optionalsIn T l rs) (record { row = m; key = tag T m; ty = memberTy T l m } ∷ optionalsIn T l rs)) ≡ suc (length rs)
     go true h k = omega arith
     go false h k = omega arith
 
@@ -262,8 +262,8 @@ unfolding range
 length-range i zero = refl
 length-range i (suc k) = ap suc (length-range (suc i) k)
 
-pub own-sum : (T : List ℕ) (t : ℕ) → length (required T t) + length (optional T t) ≡ field T t 1
-unfolding required optional ownRows
+pub own-sum : (T : List ℕ) (t : ℕ) → length (requiredMembers T t) + length (optionalMembers T t) ≡ field T t 1
+unfolding requiredMembers optionalMembers ownRows
 own-sum T t = marked-sum T (trees T) 0 (ownRows T t) ∙ length-range (field T t 0) (field T t 1)
 
 -- ---- owners that take the member rows in turn

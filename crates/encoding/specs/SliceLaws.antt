@@ -19,10 +19,10 @@ use Rattle.encoding.specs.Result.{pick, sameBytes, Res, ok, bad, Parser,
 use Rattle.encoding.specs.ResultLaws.{Closed, ofContents, Judges, by-pick, held, pick-judges, firstOf-judges, none-judges, ok≢bad, Bound, bind-ok, bind-step, mapc-ok, mapc-step, Held, Eats, eats-must, eats-first, eats-recall, Starved, starved-must, starved-bind, starved-recall, atMark-looks}
 use Rattle.encoding.specs.Number.{byte}
 use Rattle.encoding.specs.NumberLaws.{closed-byte, closed-string, closed-declared, ends-declared, eats-byte, starved-byte}
-use Rattle.encoding.specs.Table.{any, chain, named, required, optional, nameOf, base}
+use Rattle.encoding.specs.Table.{any, chain, named, requiredMembers, optionalMembers, nameOf, base}
 use Rattle.encoding.specs.Optional.{Piece, optionals}
 use Rattle.encoding.specs.OptionalLaws.{closed-optionals, closed-requireds}
-use Rattle.encoding.specs.Slice.{Format, sliced, isSliced, Slice, known, passed, bit, formatOf, Stand, first, later, due, flagForm, Head, head, someForm, fields, knownData, Stage, seek, follow, standOf, finished, Meaning, skip, row, wrong, wrongLast, knownMeaning, seekMeaning, isNone, meaning, idForm, meaningForm, enterSlice, slice, Chain, ahead, unlessFinished, walk, slices}
+use Rattle.encoding.specs.Slice.{Format, sliced, isSliced, Slice, known, passed, bit, formatOfFlags, Stand, first, later, due, flagForm, Head, head, someForm, fields, knownData, Stage, seek, follow, standOf, finished, Meaning, skip, row, wrong, wrongLast, knownMeaning, seekMeaning, isNone, meaning, idForm, meaningForm, enterSlice, slice, Chain, ahead, unlessFinished, walk, slices}
 
 -- ---- flags and type ID
 
@@ -115,15 +115,15 @@ module _ {P : (A : Type 0) → Parser A → Type 0} {Stops : (List ℕ → Optio
   unfolding head
   closed-head s judge most =
       C .by-bind _ _ (C .by-must _ (closed-byte C) (flagForm s) (flags-judge s))
-      (λ f. C .by-mapc _ (by-pick C (due s (formatOf f)) _ _ (C .by-must _ (closed-string C) (judge (formatOf f)) (most (formatOf f))) (C .by-pure []))
-      (λ nm _. record { format = formatOf f; optionals = bit f 4; last = bit f 32; id = nm }))
+      (λ f. C .by-mapc _ (by-pick C (due s (formatOfFlags f)) _ _ (C .by-must _ (closed-string C) (judge (formatOfFlags f)) (most (formatOfFlags f))) (C .by-pure []))
+      (λ nm _. record { format = formatOfFlags f; optionals = bit f 4; last = bit f 32; id = nm }))
 
   module _ (marked : Stops atMark) (T : List ℕ) where
     pub closed-fields : (t : ℕ) (opt : Bool) → P (List Piece) (fields T t opt)
     unfolding fields
     closed-fields t opt =
-        C .by-bind _ _ (closed-requireds C (required T t))
-        (λ a. by-pick C opt _ _ (C .by-mapc _ (C .by-must _ (closed-optionals C atMark marked (optional T t)) someForm some-judges) (λ ps _. a ++ ps)) (C .by-pure a))
+        C .by-bind _ _ (closed-requireds C (requiredMembers T t))
+        (λ a. by-pick C opt _ _ (C .by-mapc _ (C .by-must _ (closed-optionals C atMark marked (optionalMembers T t)) someForm some-judges) (λ ps _. a ++ ps)) (C .by-pure a))
 
     pub closed-knownData : (t : ℕ) (h : Head) → P Slice (knownData T t h)
     unfolding knownData

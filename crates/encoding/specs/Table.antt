@@ -14,7 +14,7 @@
 --   tys, trees, tyOf t           the tree of each row, made from the trees of the rows below it
 --   partTy t i                   the tree of row i as a part of row t: broken unless i is below t
 --   Member                       a member: its row, its tag (or, if required, its position) and its type
---   required t, optional t       the members of row t, each as declared
+--   requiredMembers t, optionalMembers t       the members of row t, each as declared
 --   nameOf t, named nm           the name of a record; the record of a name
 --   base t, chain t              the base row, if any; the row and its bases, one after another
 use mathlib.Core.Bool.{Bool, false, _&&_, _||_, not}
@@ -321,24 +321,24 @@ pub record Member : Type 0 where
   pub ty : Ty
 
 -- the required ones, numbered from i on
-unfoldable pub requiredOf : List ℕ → List Ty → ℕ → List ℕ → List Member
-requiredOf T l i [] = []
-requiredOf T l i (m ∷ ms) =
-    pick (eqb (mark T m) 0) (record { row = m; key = i; ty = memberTy T l m } ∷ requiredOf T l (suc i) ms) (requiredOf T l i ms)
+unfoldable pub requiredsIn : List ℕ → List Ty → ℕ → List ℕ → List Member
+requiredsIn T l i [] = []
+requiredsIn T l i (m ∷ ms) =
+    pick (eqb (mark T m) 0) (record { row = m; key = i; ty = memberTy T l m } ∷ requiredsIn T l (suc i) ms) (requiredsIn T l i ms)
 
 -- the optional ones, with their tags
-unfoldable pub optionalOf : List ℕ → List Ty → List ℕ → List Member
-optionalOf T l [] = []
-optionalOf T l (m ∷ ms) =
-    pick (eqb (mark T m) 0) (optionalOf T l ms) (record { row = m; key = tag T m; ty = memberTy T l m } ∷ optionalOf T l ms)
+unfoldable pub optionalsIn : List ℕ → List Ty → List ℕ → List Member
+optionalsIn T l [] = []
+optionalsIn T l (m ∷ ms) =
+    pick (eqb (mark T m) 0) (optionalsIn T l ms) (record { row = m; key = tag T m; ty = memberTy T l m } ∷ optionalsIn T l ms)
 
 -- the required members of row t, as declared
-unfoldable pub required : List ℕ → ℕ → List Member
-required T t = requiredOf T (trees T) 0 (ownRows T t)
+unfoldable pub requiredMembers : List ℕ → ℕ → List Member
+requiredMembers T t = requiredsIn T (trees T) 0 (ownRows T t)
 
 -- the optional members of row t, as declared
-unfoldable pub optional : List ℕ → ℕ → List Member
-optional T t = optionalOf T (trees T) (ownRows T t)
+unfoldable pub optionalMembers : List ℕ → ℕ → List Member
+optionalMembers T t = optionalsIn T (trees T) (ownRows T t)
 
 -- the member of a key
 unfoldable pub lookup : ℕ → List Member → Option Member

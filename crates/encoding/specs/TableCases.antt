@@ -83,16 +83,16 @@ pub record Meaning (T : List ℕ) : Type 0 where
   pub fine : Table.faults T ≡ Table.fine
   pub trees : Table.trees T ≡ bool ∷ byte ∷ num short ∷ num int ∷ num long ∷ num float ∷ num double ∷ string ∷ enum (upto 131372) ∷ pair ∷ seq pair ∷ dict string (seq pair)
       ∷ proxy ∷ broken ∷ broken ∷ broken ∷ broken ∷ []
-  pub required : map (Table.required T) (9 ∷ 13 ∷ 14 ∷ 15 ∷ 16 ∷ [])
+  pub required : map (Table.requiredMembers T) (9 ∷ 13 ∷ 14 ∷ 15 ∷ 16 ∷ [])
       ≡ (member 0 0 byte ∷ member 1 1 (enum (upto 131372)) ∷ []) ∷ (member 2 0 string ∷ []) ∷ (member 4 0 proxy ∷ []) ∷ [] ∷ [] ∷ []
-  pub optional : map (Table.optional T) (9 ∷ 13 ∷ 14 ∷ 15 ∷ 16 ∷ [])
+  pub optional : map (Table.optionalMembers T) (9 ∷ 13 ∷ 14 ∷ 15 ∷ 16 ∷ [])
       ≡ [] ∷ [] ∷ (member 3 65541 (dict string (seq pair)) ∷ []) ∷ (member 5 1 (num int) ∷ []) ∷ (member 6 6 (num long) ∷ member 7 7 (num short) ∷ []) ∷ []
   pub names : map (Table.nameOf T) (13 ∷ 14 ∷ 16 ∷ []) ≡ nameBase ∷ nameCars ∷ nameDerived ∷ []
   pub named : map (Table.named T) (nameBase ∷ nameCars ∷ nameDerived ∷ (46 ∷ nameBase) ∷ []) ≡ some 13 ∷ some 14 ∷ some 16 ∷ none ∷ []
   pub chains : map (Table.chain T) (13 ∷ 14 ∷ 15 ∷ 16 ∷ []) ≡ (13 ∷ []) ∷ (14 ∷ []) ∷ (15 ∷ []) ∷ (16 ∷ 13 ∷ []) ∷ []
 
 pub sample-means : Meaning sample
-unfolding sample Result.firstOf Result.sameBytes Number.val Number.negative Table.at Table.types Table.members Table.names Table.typesAt Table.kind Table.spare Table.field Table.memberType Table.mark Table.memberSpare Table.tag Table.takes Table.range Table.greatest Table.nameOf Table.orElse Table.faultAt Table.any Table.headerTests Table.headerRules Table.used Table.taken Table.noPart Table.noBase Table.alike Table.typeRules Table.sumRules Table.ownerOf Table.tagAlike Table.memberRules Table.pass Table.passes Table.faults Table.memberTy Table.memberTys Table.ownRows Table.allowed Table.rowTy Table.grow Table.tys Table.typeRows Table.trees Table.requiredOf Table.optionalOf Table.required Table.optional Table.search Table.named Table.base Table.upward Table.climb Table.chain
+unfolding sample Result.firstOf Result.sameBytes Number.val Number.negative Table.at Table.types Table.members Table.names Table.typesAt Table.kind Table.spare Table.field Table.memberType Table.mark Table.memberSpare Table.tag Table.takes Table.range Table.greatest Table.nameOf Table.orElse Table.faultAt Table.any Table.headerTests Table.headerRules Table.used Table.taken Table.noPart Table.noBase Table.alike Table.typeRules Table.sumRules Table.ownerOf Table.tagAlike Table.memberRules Table.pass Table.passes Table.faults Table.memberTy Table.memberTys Table.ownRows Table.allowed Table.rowTy Table.grow Table.tys Table.typeRows Table.trees Table.requiredsIn Table.optionalsIn Table.requiredMembers Table.optionalMembers Table.search Table.named Table.base Table.upward Table.climb Table.chain
 sample-means = record { fine = refl; trees = refl; required = refl; optional = refl; names = refl; named = refl; chains = refl }
 
 -- ---- one byte changed

@@ -16,13 +16,13 @@ use Rattle.encoding.specs.Result.{ok, bad, Parser, pick, _>>=_, pure, fa
 use Rattle.encoding.specs.ResultLaws.{ok≢bad, firstOf-ok, Bound, bind-ok, bind-step, bind-bad, bind-next, must-ok, must-step, mapc-ok, recall-ok, recall-step}
 use Rattle.encoding.specs.Number.{byte, string}
 use Rattle.encoding.specs.NumberLaws.{byte-canonical}
-use Rattle.encoding.specs.Slice.{Format, compact, sliced, isSliced, Slice, bit, formatOf, Stand, later, mixed, due, flagForm, Head, head, Stage, standOf, finished, meaning, Meaning, idForm, meaningForm, enterSlice, slice, Chain, ahead, unlessFinished, walk}
+use Rattle.encoding.specs.Slice.{Format, compact, sliced, isSliced, Slice, bit, formatOfFlags, Stand, later, mixed, due, flagForm, Head, head, Stage, standOf, finished, meaning, Meaning, idForm, meaningForm, enterSlice, slice, Chain, ahead, unlessFinished, walk}
 
 -- ---- flags and type ID
 
 -- what flags f and a type ID make
 unfoldable pub headOf : ℕ → List ℕ → Head
-headOf f nm = record { format = formatOf f; optionals = bit f 4; last = bit f 32; id = nm }
+headOf f nm = record { format = formatOfFlags f; optionals = bit f 4; last = bit f 32; id = nm }
 
 -- flags, and a type ID where one is due
 pub record Heads (s : Stand) (xs : List ℕ) (h : Head) (n : ℕ) : Type 0 where
@@ -36,7 +36,7 @@ pub record Heads (s : Stand) (xs : List ℕ) (h : Head) (n : ℕ) : Type 0 where
 
 module _ (s : Stand) (j : Format → List ℕ → ℕ) (xs : List ℕ) where
   idOf : ℕ → Parser Head
-  idOf f = mapc (λ nm _. record { format = formatOf f; optionals = bit f 4; last = bit f 32; id = nm }) (pick (due s (formatOf f)) (must (j (formatOf f)) string) (pure []))
+  idOf f = mapc (λ nm _. record { format = formatOfFlags f; optionals = bit f 4; last = bit f 32; id = nm }) (pick (due s (formatOfFlags f)) (must (j (formatOfFlags f)) string) (pure []))
 
   pub head-ok : (h : Head) (n : ℕ) → head s j xs ≡ ok h n → Heads s xs h n × (due s (h .format) ≡ true → j (h .format) (h .id) ≡ 0)
   unfolding head idOf headOf
@@ -51,11 +51,11 @@ module _ (s : Stand) (j : Format → List ℕ → ℕ) (xs : List ℕ) where
       go B =
           let F = must-ok byte xs (flagForm s) (B .first) in
           let one : B .n ≡ 1 = byte-canonical xs (F .0) .1 in
-          let M = mapc-ok (pick (due s (formatOf (B .fst))) (must (j (formatOf (B .fst))) string) (pure [])) (drop (B .n) xs)
-          (λ nm _. record { format = formatOf (B .fst); optionals = bit (B .fst) 4; last = bit (B .fst) 32; id = nm }) (B .next) in
-          let g : h .format ≡ formatOf (B .fst) = ap (λ (x : Head). x .format) (M .2) in
+          let M = mapc-ok (pick (due s (formatOfFlags (B .fst))) (must (j (formatOfFlags (B .fst))) string) (pure [])) (drop (B .n) xs)
+          (λ nm _. record { format = formatOfFlags (B .fst); optionals = bit (B .fst) 4; last = bit (B .fst) 32; id = nm }) (B .next) in
+          let g : h .format ≡ formatOfFlags (B .fst) = ap (λ (x : Head). x .format) (M .2) in
           let i : h .id ≡ M .0 = ap (λ (x : Head). x .id) (M .2) in
-          let D = due-ok (due s (formatOf (B .fst))) (formatOf (B .fst)) (M .0) (B .n) (B .m) (M .1) in (
+          let D = due-ok (due s (formatOfFlags (B .fst))) (formatOfFlags (B .fst)) (M .0) (B .n) (B .m) (M .1) in (
             record {
               flags = B .fst;
               idBytes = B .m;
@@ -70,7 +70,7 @@ module _ (s : Stand) (j : Format → List ℕ → ℕ) (xs : List ℕ) where
           )
 
   module _ (h : Head) (n : ℕ) (H : Heads s xs h n) where
-    same-format : h .format ≡ formatOf (H .flags)
+    same-format : h .format ≡ formatOfFlags (H .flags)
     unfolding headOf
     same-format = ap (λ (x : Head). x .format) (H .is)
 
@@ -80,7 +80,7 @@ module _ (s : Stand) (j : Format → List ℕ → ℕ) (xs : List ℕ) where
     head-refused c d e =
         let I : string (drop 1 xs) ≡ ok (h .id) (H .idBytes) = ap (λ (q : Bool). pick q string (pure []) (drop 1 xs)) (sym d) ∙ H .id-read in
         let R : must (j (h .format)) string (drop 1 xs) ≡ bad (suc c) 0 = rw (must, I, e, ne-eqb (suc c) 0 (λ z. omega arith)) in
-        let Q : pick (due s (formatOf (H .flags))) (must (j (formatOf (H .flags))) string) (pure []) (drop 1 xs) ≡ bad (suc c) 0 =
+        let Q : pick (due s (formatOfFlags (H .flags))) (must (j (formatOfFlags (H .flags))) string) (pure []) (drop 1 xs) ≡ bad (suc c) 0 =
         ap (λ (g : Format). pick (due s g) (must (j g) string) (pure []) (drop 1 xs)) (sym same-format) ∙ ap (λ (q : Bool). pick q (must (j (h .format)) string) (pure []) (drop 1 xs)) d ∙ R in
         bind-next (must (flagForm s) byte) idOf xs (must-step byte xs (flagForm s) (H .read) (H .form)) ∙ ap (λ r. shift 1 (made (λ nm _. headOf (H .flags) nm) r)) Q
 

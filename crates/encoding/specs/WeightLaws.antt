@@ -20,7 +20,7 @@ use Rattle.encoding.specs.Types.{Bits, f1, f2, f4, f8, size, vsize, fsiz
 use Rattle.encoding.specs.Value.{value}
 use Rattle.encoding.specs.ValueLaws.{held-value}
 use Rattle.encoding.specs.Table.{Member, lookup}
-use Rattle.encoding.specs.Optional.{Piece, required, optional, skipped, Header, firstForm, headerTail, headerForm, header, extent, part, content, optionalOf, requireds, headerBytes, lengthBytes, frontBytes, contentBytes, pieceBytes}
+use Rattle.encoding.specs.Optional.{Piece, required, optional, skipped, Header, firstForm, headerTail, headerForm, header, extent, part, content, nextOptional, requireds, headerBytes, lengthBytes, frontBytes, contentBytes, pieceBytes}
 use Rattle.encoding.specs.OptionalLaws.{Sound, Plain, formOf-sound, held-extent}
 
 -- ---- numbers, sizes, strings
@@ -147,8 +147,8 @@ content-weight (some m) h xs {p} {n} e =
     rw (M .2) (ap (λ (i : ℕ). i + n) (header-length (h .tag) (h .type) (bitsOf f)) ∙ ap (λ (i : ℕ). length (headerBytes (h .tag) (bitsOf f)) + i) w
     ∙ sym (ap length (append-assoc (headerBytes (h .tag) (bitsOf f)) (lengthBytes f (M .0)) (M .0)) ∙ length-append (headerBytes (h .tag) (bitsOf f)) (lengthBytes f (M .0) ++ M .0)))
 
-pub optional-weight : (ms : List Member) (least : ℕ) (xs : List ℕ) {r : Piece × ℕ} {n : ℕ} → optionalOf ms least xs ≡ ok r n → n ≡ length (pieceBytes (r .0))
-unfolding optionalOf
+pub optional-weight : (ms : List Member) (least : ℕ) (xs : List ℕ) {r : Piece × ℕ} {n : ℕ} → nextOptional ms least xs ≡ ok r n → n ≡ length (pieceBytes (r .0))
+unfolding nextOptional
 optional-weight ms least xs {r} {n} e = go (bind-ok (header ms least) _ xs e)
   where
     go : Bound (header ms least) (λ h. mapc (λ p _. (p, suc (h .tag))) (content (lookup (h .tag) ms) h)) xs r n → n ≡ length (pieceBytes (r .0))
@@ -173,7 +173,7 @@ requireds-weight (m ∷ ms) xs {ps} {n} h = go (bind-ok (bytes (value (m .ty))) 
         rw (M .2) (B .sum ∙ omega (arith, whole-weight (value (m .ty)) (held-value (m .ty)) xs (B .first), rest (drop (B .n) xs) (M .0) (B .m) (M .1)))
 
 -- optionals, and what the stop took
-pub run-weight : (stop : List ℕ → Option ℕ) (ms : List Member) {f s : ℕ} {xs : List ℕ} {ps : List Piece} {n : ℕ} → Run stop (optionalOf ms) f s xs ps n
+pub run-weight : (stop : List ℕ → Option ℕ) (ms : List Member) {f s : ℕ} {xs : List ℕ} {ps : List Piece} {n : ℕ} → Run stop (nextOptional ms) f s xs ps n
     → (k : ℕ) × (stop (drop (length (concat pieceBytes ps)) xs) ≡ some k) × (n ≡ length (concat pieceBytes ps) + k)
 unfolding concat
 run-weight stop ms (end {k = k} e) = (k, e, omega arith)

@@ -25,7 +25,7 @@ use Rattle.encoding.specs.ResultLaws.{firstOf-ok, must-ok, Held, held-took, hel
 use Rattle.encoding.specs.Number.{byte, number, Content, string}
 use Rattle.encoding.specs.NumberLaws.{held-string}
 use Rattle.encoding.specs.Table.{at, any, chain, named, nameOf, base}
-use Rattle.encoding.specs.Slice.{compact, sliced, isSliced, bit, formatOf, first, later, seek, follow, mixed, due, flagForm, Head, head, standOf, Meaning, skip, row, wrong, wrongLast, knownMeaning, seekMeaning, meaning, isNone, idForm, meaningForm}
+use Rattle.encoding.specs.Slice.{compact, sliced, isSliced, bit, formatOfFlags, first, later, seek, follow, mixed, due, flagForm, Head, head, standOf, Meaning, skip, row, wrong, wrongLast, knownMeaning, seekMeaning, meaning, isNone, idForm, meaningForm}
 use Rattle.encoding.specs.Slice
 use Rattle.wire.specs.declared.Sized.{Sized}
 use Rattle.wire.specs.declared.Sized.the-variants.{Is, Isnt}
@@ -66,15 +66,15 @@ module _ (stage : Stage) (f : ℕ) where
     unfolding mixed standOf stageOf
     mixed-following s b q = rw (q, e, format-sliced s)
 
-    pub due-seeking : stage ≡ Seeking → size ≡ due (standOf (stageOf stage)) (formatOf f)
+    pub due-seeking : stage ≡ Seeking → size ≡ due (standOf (stageOf stage)) (formatOfFlags f)
     unfolding due standOf stageOf
     due-seeking q = rw (q, format-sliced (bit f 16)) e
 
-    pub due-following : (s : Bool) (b : ℕ) → stage ≡ Following s b → size ≡ due (standOf (stageOf stage)) (formatOf f)
+    pub due-following : (s : Bool) (b : ℕ) → stage ≡ Following s b → size ≡ due (standOf (stageOf stage)) (formatOfFlags f)
     unfolding due standOf stageOf
     due-following s b q = rw (q, format-sliced (bit f 16)) e
 
-  pub due-first : stage ≡ First → true ≡ due (standOf (stageOf stage)) (formatOf f)
+  pub due-first : stage ≡ First → true ≡ due (standOf (stageOf stage)) (formatOfFlags f)
   unfolding due standOf stageOf
   due-first q = rw q
 
@@ -88,13 +88,13 @@ module _ (stage : Stage) (f : ℕ) where
       unfolding flagForm firstOf
       flags-mixed q = rw (sym eu ∙ nu, sym em ∙ q)
 
-      module _ (nm : m ≡ false) (i : ℕ) (ei : i ≡ f % 4) (d : Bool) (ed : d ≡ due (standOf (stageOf stage)) (formatOf f)) where
+      module _ (nm : m ≡ false) (i : ℕ) (ei : i ≡ f % 4) (d : Bool) (ed : d ≡ due (standOf (stageOf stage)) (formatOfFlags f)) where
         pub flags-id : Bool·beq d (eqb i 0) ≡ true → 14 ≡ flagForm (standOf (stageOf stage)) f
         unfolding flagForm firstOf
-        flags-id q = let g : Bool·beq (due (standOf (stageOf stage)) (formatOf f)) (eqb (f % 4) 0) ≡ true = rw (ed, ei) at q in rw (sym eu ∙ nu, sym em ∙ nm, g)
+        flags-id q = let g : Bool·beq (due (standOf (stageOf stage)) (formatOfFlags f)) (eqb (f % 4) 0) ≡ true = rw (ed, ei) at q in rw (sym eu ∙ nu, sym em ∙ nm, g)
 
         module _ (nd : Bool·beq d (eqb i 0) ≡ false) (t : Bool) (et : t ≡ bit f 8) where
-          gone : Bool·beq (due (standOf (stageOf stage)) (formatOf f)) (eqb (f % 4) 0) ≡ false
+          gone : Bool·beq (due (standOf (stageOf stage)) (formatOfFlags f)) (eqb (f % 4) 0) ≡ false
           gone = rw (ed, ei) at nd
 
           pub flags-table : t ≡ true → 13 ≡ flagForm (standOf (stageOf stage)) f
@@ -129,7 +129,7 @@ module _ (T : List ℕ) (t : ℕ) (last : Bool) where
 module _ (T : List ℕ) (top f : ℕ) (nm : List ℕ) (n : ℕ) where
   seek-known : (t : ℕ) → named T nm ≡ some t → seekHeading T top f nm n ≡ meaningAnswer (headOf f nm) n (knownMeaning T top (bit f 32) t)
   unfolding seekHeading isNone seekMeaning
-  seek-known t e = rw e (go (not (isSliced (formatOf f))))
+  seek-known t e = rw e (go (not (isSliced (formatOfFlags f))))
     where
       go : (b : Bool) → pick (b && false) (Wrong 15 1) (meaningAnswer (headOf f nm) n (knownMeaning T top (bit f 32) t)) ≡ meaningAnswer (headOf f nm) n (knownMeaning T top (bit f 32) t)
       go true = refl
@@ -301,15 +301,15 @@ module _ (s : List ℕ) (d : Bool) (r : Sized) (e : r ≡ bytesOf (idText d (tak
 
 -- flags and ID, judged by 15 at the ID
 heading-answer : (T : List ℕ) (top : ℕ) (stage : Stage) (f : ℕ) (b : List ℕ) (n : ℕ)
-    → heading T top stage f b (1 + n) ≡ headAnswer T top (stageOf stage) (shift 1 (made (λ nm _. headOf f nm) (judged (idForm T (stageOf stage) (formatOf f)) (ok b n))))
+    → heading T top stage f b (1 + n) ≡ headAnswer T top (stageOf stage) (shift 1 (made (λ nm _. headOf f nm) (judged (idForm T (stageOf stage) (formatOfFlags f)) (ok b n))))
 unfolding heading seekHeading followHeading headAnswer stageOf shift made judged idForm meaning
-heading-answer T top First f b n = go (not (isSliced (formatOf f)) && isNone (named T b))
+heading-answer T top First f b n = go (not (isSliced (formatOfFlags f)) && isNone (named T b))
   where
     go : (x : Bool) → pick x (Wrong 15 1) (meaningAnswer (headOf f b) (1 + n) (seekMeaning T top (bit f 32) (named T b)))
         ≡ headAnswer T top (seek first) (shift 1 (made (λ nm _. headOf f nm) (pick (eqb (pick x 15 0) 0) (ok b n) (bad (pick x 15 0) 0))))
     go true = refl
     go false = refl
-heading-answer T top Seeking f b n = go (not (isSliced (formatOf f)) && isNone (named T b))
+heading-answer T top Seeking f b n = go (not (isSliced (formatOfFlags f)) && isNone (named T b))
   where
     go : (x : Bool) → pick x (Wrong 15 1) (meaningAnswer (headOf f b) (1 + n) (seekMeaning T top (bit f 32) (named T b)))
         ≡ headAnswer T top (seek (later sliced)) (shift 1 (made (λ nm _. headOf f nm) (pick (eqb (pick x 15 0) 0) (ok b n) (bad (pick x 15 0) 0))))
@@ -319,7 +319,7 @@ heading-answer T top (Following s zero) f b n = refl
 heading-answer T top (Following s (suc t)) f b n = refl
 
 -- where no ID is due, none is judged
-heading-bare : (T : List ℕ) (top : ℕ) (stage : Stage) (f : ℕ) → flagForm (standOf (stageOf stage)) f ≡ 0 → due (standOf (stageOf stage)) (formatOf f) ≡ false
+heading-bare : (T : List ℕ) (top : ℕ) (stage : Stage) (f : ℕ) → flagForm (standOf (stageOf stage)) f ≡ 0 → due (standOf (stageOf stage)) (formatOfFlags f) ≡ false
     → heading T top stage f [] 1 ≡ headAnswer T top (stageOf stage) (ok (headOf f []) 1)
 unfolding heading followHeading headAnswer stageOf standOf flagForm mixed due meaning
 heading-bare T top First f z d = let y : _≡_ {A = ℕ} 0 1 = cc in absurd (omega arith)
@@ -342,7 +342,7 @@ module _ (T : List ℕ) (top : ℕ) (stage : Stage) (s : List ℕ) where
 
   -- the head of flags f, with an ID where one is due
   abbrev heads : ℕ → Bool → Res Head
-  heads f b = shift 1 (made (λ nm _. headOf f nm) (pick b (must (idForm T (stageOf stage) (formatOf f)) string) (pure []) (drop 1 s)))
+  heads f b = shift 1 (made (λ nm _. headOf f nm) (pick b (must (idForm T (stageOf stage) (formatOfFlags f)) string) (pure []) (drop 1 s)))
 
   pub head-none : length s < 1 → Wrong 4 0 ≡ whole
   unfolding head must judged _>>=_ after byte number chunk headAnswer
@@ -353,7 +353,7 @@ module _ (T : List ℕ) (top : ℕ) (stage : Stage) (s : List ℕ) where
     unfolding head must judged _>>=_ after byte number chunk headAnswer at
     head-flags n = sym (whole-is ∙ rw (le-leb 1 (length s) h, ← ef, ← ec, ne-eqb c 0 n))
 
-    module _ (z : c ≡ 0) (d : Bool) (ed : d ≡ due (standOf (stageOf stage)) (formatOf f)) where
+    module _ (z : c ≡ 0) (d : Bool) (ed : d ≡ due (standOf (stageOf stage)) (formatOfFlags f)) where
       head-on : whole ≡ headAnswer T top (stageOf stage) (heads f d)
       unfolding head must judged _>>=_ after byte number chunk mapc at
       head-on = whole-is ∙ rw (le-leb 1 (length s) h, ← ef, ← ec, z, ← ed)
@@ -366,7 +366,7 @@ module _ (T : List ℕ) (top : ℕ) (stage : Stage) (s : List ℕ) where
           go : (b : Bool) → d ≡ b → idText b (drop 1 s) ≡ ok w n → heading T top stage f w (1 + n) ≡ headAnswer T top (stageOf stage) (heads f b)
           go true q k =
               heading-answer T top stage f w n
-              ∙ ap (λ (i : Res (List ℕ)). headAnswer T top (stageOf stage) (shift 1 (made (λ nm _. headOf f nm) (judged (idForm T (stageOf stage) (formatOf f)) i)))) (sym k)
+              ∙ ap (λ (i : Res (List ℕ)). headAnswer T top (stageOf stage) (shift 1 (made (λ nm _. headOf f nm) (judged (idForm T (stageOf stage) (formatOfFlags f)) i)))) (sym k)
           go false q k =
               let v : w ≡ [] = cc in
               let o : n ≡ 0 = cc in

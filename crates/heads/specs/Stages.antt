@@ -14,7 +14,7 @@ use mathlib.Core.List.{List, []}
 use Rattle.encoding.specs.Result.{Res, ok, bad, Parser, pick, pure}
 use Rattle.encoding.specs.Number.{string}
 use Rattle.encoding.specs.Table.{named}
-use Rattle.encoding.specs.Slice.{compact, sliced, isSliced, bit, formatOf, first, later, seek, follow, Head, Meaning, skip, row, wrong, isNone, seekMeaning, meaning}
+use Rattle.encoding.specs.Slice.{compact, sliced, isSliced, bit, formatOfFlags, first, later, seek, follow, Head, Meaning, skip, row, wrong, isNone, seekMeaning, meaning}
 use Rattle.encoding.specs.Slice
 use Rattle.heads.specs.declared.Stage.{Stage}
 use Rattle.heads.specs.declared.Stage.the-variants.{First, Seeking, Following}
@@ -30,7 +30,7 @@ unfoldable pub idText : Bool → Parser (List ℕ)
 idText d = pick d string (pure [])
 
 abbrev pub headOf : ℕ → List ℕ → Head
-headOf f nm = record { format = formatOf f; optionals = bit f 4; last = bit f 32; id = nm }
+headOf f nm = record { format = formatOfFlags f; optionals = bit f 4; last = bit f 32; id = nm }
 
 -- a slice to skip: the bytes taken; a known one: its row, its bit 2, whether it is sliced, the bytes taken
 unfoldable pub meaningAnswer : Head → ℕ → Meaning → Heading
@@ -47,7 +47,7 @@ headAnswer T top st (bad c p) = Wrong c p
 -- 15 is at the ID, after the flags
 unfoldable pub seekHeading : List ℕ → ℕ → ℕ → List ℕ → ℕ → Heading
 seekHeading T top f nm n =
-    pick (not (isSliced (formatOf f)) && isNone (named T nm)) (Wrong 15 1)
+    pick (not (isSliced (formatOfFlags f)) && isNone (named T nm)) (Wrong 15 1)
     (meaningAnswer (headOf f nm) n (seekMeaning T top (bit f 32) (named T nm)))
 
 unfoldable pub followHeading : List ℕ → Bool → ℕ → ℕ → List ℕ → ℕ → Heading

@@ -3,7 +3,7 @@ ghost use mathlib.Core.Path.{_≡_};
 ghost use mathlib.Core.Bool.{_&&_, not};
 ghost use Rattle.encoding.specs.Result.{must, sameBytes};
 ghost use Rattle.encoding.specs.Table.{nameOf};
-ghost use Rattle.encoding.specs.Slice.{formatOf, mixed, due, flagForm, head, standOf, idForm, wrongLast, meaning, meaningForm};
+ghost use Rattle.encoding.specs.Slice.{formatOfFlags, mixed, due, flagForm, head, standOf, idForm, wrongLast, meaning, meaningForm};
 ghost use Rattle.wire.specs.Steps.{bytesOf};
 ghost use Rattle.heads.specs.Stages.{stageOf, idText, seekHeading, followHeading, heading, headAnswer};
 use table::Found;
@@ -37,7 +37,7 @@ fn mixed(stage: Stage, flags: usize) -> bool
 
 // A type ID is due.
 fn due(stage: Stage, flags: usize) -> bool
-    ensures { λ r. ⌜ r ≡ due (standOf (stageOf stage)) (formatOf flags) ⌝ }
+    ensures { λ r. ⌜ r ≡ due (standOf (stageOf stage)) (formatOfFlags flags) ⌝ }
 {
     let size = wire::has_size(flags);
     match stage {

@@ -14,7 +14,7 @@ use borrow.Author.Tests.{eqb-true}
 use Rattle.encoding.specs.Result.{pick}
 use Rattle.encoding.specs.ResultLaws.{some≢none}
 use Rattle.encoding.specs.Types.{Ty}
-use Rattle.encoding.specs.Table.{kind, field, mark, tag, range, trees, memberTy, Member, requiredOf, ownRows, lookup}
+use Rattle.encoding.specs.Table.{kind, field, mark, tag, range, trees, memberTy, Member, requiredsIn, ownRows, lookup}
 use Rattle.encoding.specs.Table
 use Rattle.encoding.specs.RuleLaws.{required-among, required-own, optional-own}
 use Rattle.encoding.specs.Extends.{Extends, SameOwner, as-records, as-tops, MembersMatch, both-required, both-optional, Counterpart}
@@ -24,9 +24,9 @@ use Rattle.laws.specs.RecordNewer.{record-list, new-record, pair-only}
 use Rattle.laws.specs.RowsNewer.{owner-there, match-own, counterpart-owner}
 
 -- required rows rise with their positions
-required-once-in : (T : List ℕ) (l : List Ty) (i a b k j : ℕ) (m n : Member) → lookup k (requiredOf T l i (range a b)) ≡ some m → lookup j (requiredOf T l i (range a b)) ≡ some n
+required-once-in : (T : List ℕ) (l : List Ty) (i a b k j : ℕ) (m n : Member) → lookup k (requiredsIn T l i (range a b)) ≡ some m → lookup j (requiredsIn T l i (range a b)) ≡ some n
     → m .row ≡ n .row → k ≡ j
-unfolding requiredOf range lookup
+unfolding requiredsIn range lookup
 required-once-in T l i a zero k j m n e f s = absurd (some≢none e refl)
 required-once-in T l i a (suc b) k j m n e f s =
     go (eqb (mark T a) 0) e f (λ e f. required-once-in T l (suc i) (suc a) b k j m n e f s) (λ e f. required-once-in T l i (suc a) b k j m n e f s)
@@ -35,7 +35,7 @@ required-once-in T l i a (suc b) k j m n e f s =
     this = record { row = a; key = i; ty = memberTy T l a }
 
     later : List Member
-    later = requiredOf T l (suc i) (range (suc a) b)
+    later = requiredsIn T l (suc i) (range (suc a) b)
 
     -- the row a itself, and one of the rows after it
     apart : (x y : Member) (q : ℕ) → this ≡ x → lookup q later ≡ some y → x .row ≡ y .row → ⊥
@@ -48,30 +48,30 @@ required-once-in T l i a (suc b) k j m n e f s =
     split false true u v e f ih = absurd (apart n m k (cc) e (sym s))
     split false false u v e f ih = ih e f
 
-    go : (p : Bool) → lookup k (pick p (this ∷ later) (requiredOf T l i (range (suc a) b))) ≡ some m → lookup j (pick p (this ∷ later) (requiredOf T l i (range (suc a) b))) ≡ some n
+    go : (p : Bool) → lookup k (pick p (this ∷ later) (requiredsIn T l i (range (suc a) b))) ≡ some m → lookup j (pick p (this ∷ later) (requiredsIn T l i (range (suc a) b))) ≡ some n
         → (lookup k later ≡ some m → lookup j later ≡ some n → k ≡ j)
-        → (lookup k (requiredOf T l i (range (suc a) b)) ≡ some m → lookup j (requiredOf T l i (range (suc a) b)) ≡ some n → k ≡ j) → k ≡ j
+        → (lookup k (requiredsIn T l i (range (suc a) b)) ≡ some m → lookup j (requiredsIn T l i (range (suc a) b)) ≡ some n → k ≡ j) → k ≡ j
     go true e f ia ib = split (eqb k i) (eqb j i) refl refl e f ia
     go false e f ia ib = ib e f
 
-pub required-once : (T : List ℕ) (t k j : ℕ) (m n : Member) → lookup k (Table.required T t) ≡ some m → lookup j (Table.required T t) ≡ some n → m .row ≡ n .row → k ≡ j
-unfolding Table.required ownRows
+pub required-once : (T : List ℕ) (t k j : ℕ) (m n : Member) → lookup k (Table.requiredMembers T t) ≡ some m → lookup j (Table.requiredMembers T t) ≡ some n → m .row ≡ n .row → k ≡ j
+unfolding Table.requiredMembers ownRows
 required-once T t k j m n e f s = required-once-in T (trees T) 0 (field T t 0) (field T t 1) k j m n e f s
 
 -- an optional member is found by its own tag only
-optional-once : (T : List ℕ) (t k j : ℕ) (m n : Member) → lookup k (Table.optional T t) ≡ some m → lookup j (Table.optional T t) ≡ some n → m .row ≡ n .row → k ≡ j
+optional-once : (T : List ℕ) (t k j : ℕ) (m n : Member) → lookup k (Table.optionalMembers T t) ≡ some m → lookup j (Table.optionalMembers T t) ≡ some n → m .row ≡ n .row → k ≡ j
 optional-once T t k j m n e f s =
-    lookup-key k (Table.optional T t) m e ∙ optional-own T t k m e .tagged refl ∙ ap (tag T) s ∙ sym (optional-own T t j n f .tagged refl) ∙ sym (lookup-key j (Table.optional T t) n f)
+    lookup-key k (Table.optionalMembers T t) m e ∙ optional-own T t k m e .tagged refl ∙ ap (tag T) s ∙ sym (optional-own T t j n f .tagged refl) ∙ sym (lookup-key j (Table.optionalMembers T t) n f)
 
 -- the members of one old owner that match one member row of one new owner
 one-member : (old new : List ℕ) (t u : ℕ) (m n m′ n′ : Member) → MembersMatch old new t u m n → MembersMatch old new t u m′ n′ → n .row ≡ n′ .row → m .row ≡ m′ .row
 one-member old new t u m n m′ n′ (both-required a b) (both-required c d) s =
     let k = required-once new u (m .key) (m′ .key) n n′ b d s in
-    let e : some m ≡ some m′ = sym a ∙ ap (λ (x : ℕ). lookup x (Table.required old t)) k ∙ c in
+    let e : some m ≡ some m′ = sym a ∙ ap (λ (x : ℕ). lookup x (Table.requiredMembers old t)) k ∙ c in
     let same : m ≡ m′ = cc in ap (λ (x : Member). x .row) same
 one-member old new t u m n m′ n′ (both-optional a b) (both-optional c d) s =
     let k = optional-once new u (m .key) (m′ .key) n n′ b d s in
-    let e : some m ≡ some m′ = sym a ∙ ap (λ (x : ℕ). lookup x (Table.optional old t)) k ∙ c in
+    let e : some m ≡ some m′ = sym a ∙ ap (λ (x : ℕ). lookup x (Table.optionalMembers old t)) k ∙ c in
     let same : m ≡ m′ = cc in ap (λ (x : Member). x .row) same
 one-member old new t u m n m′ n′ (both-required a b) (both-optional c d) s =
     absurd (true≢false (sym (required-own new u (m .key) n b .marked) ∙ ap (λ (x : ℕ). eqb (mark new x) 0) s ∙ optional-own new u (m′ .key) n′ d .marked))

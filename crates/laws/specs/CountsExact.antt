@@ -21,8 +21,8 @@ unfolding listRow
 listed-one at b rs q = rw q
 
 module _ (T : List ℕ) where
-  pieces-counted : (t : ℕ) (ms : List Member) → All (Found (Table.required T t)) ms → (least : ℕ) (ps : List Piece)
-      → Level ms (Table.optional T t) least ps → (at : ℕ) → length (pieceRows T t at ps) + skippedPieces ps ≡ length ps
+  pieces-counted : (t : ℕ) (ms : List Member) → All (Found (Table.requiredMembers T t)) ms → (least : ℕ) (ps : List Piece)
+      → Level ms (Table.optionalMembers T t) least ps → (at : ℕ) → length (pieceRows T t at ps) + skippedPieces ps ≡ length ps
   unfolding pieceRows pieceMember listRow contentBytes skippedPieces isSkipped
   pieces-counted t [] F least [] L at = omega arith
   pieces-counted t [] F least (required i b ∷ ps) L at = absurd L
@@ -35,7 +35,7 @@ module _ (T : List ℕ) where
       omega (arith, pieces-counted t [] F (suc k) ps L (at + length (pieceBytes (skipped k f b))))
   pieces-counted t (x ∷ ms) F least [] L at = absurd L
   pieces-counted t (x ∷ ms) (more q F) least (required i b ∷ ps) (e, h, L) at =
-      let f : lookup i (Table.required T t) ≡ some x = rw e q in
+      let f : lookup i (Table.requiredMembers T t) ≡ some x = rw e q in
       let one : length (pieceRows T t at (required i b ∷ ps)) ≡ suc (length (pieceRows T t (at + length (pieceBytes (required i b))) ps)) =
       listed-one (at + length (frontBytes (required i b))) b (pieceRows T t (at + length (pieceBytes (required i b))) ps) f in
       omega (arith, one, pieces-counted t ms F least ps L (at + length (pieceBytes (required i b))))
@@ -43,7 +43,7 @@ module _ (T : List ℕ) where
   pieces-counted t (x ∷ ms) F least (skipped k f b ∷ ps) L at = absurd L
 
   owned-counted : (t : ℕ) (ps : List Piece) → Owned T t ps → (at : ℕ) → length (pieceRows T t at ps) + skippedPieces ps ≡ length ps
-  owned-counted t ps L at = pieces-counted t (Table.required T t) (required-found T t) 0 ps L at
+  owned-counted t ps L at = pieces-counted t (Table.requiredMembers T t) (required-found T t) 0 ps L at
 
   -- members of the slices of a chain
   follow-counted : (g : Format) (ts : List ℕ) (ss : List Slice) → Follow T ts ss → (s : Stand) (at : ℕ)

@@ -198,9 +198,9 @@ pub record RowOf (m : List ℕ) (d : Member) (b : List ℕ) (r : Row) : Type 0 w
 -- pieces of owner t and their rows, in order: a piece that is not skipped has the row of its member with its content
 pub data ListedOf (T m : List ℕ) (t : ℕ) : List Piece → List Row → Type 0 where
   none-left : ListedOf T m t [] []
-  a-required : {i : ℕ} {b : List ℕ} {ps : List Piece} {d : Member} {r : Row} {rs : List Row} → lookup i (Table.required T t) ≡ some d → RowOf m d b r
+  a-required : {i : ℕ} {b : List ℕ} {ps : List Piece} {d : Member} {r : Row} {rs : List Row} → lookup i (Table.requiredMembers T t) ≡ some d → RowOf m d b r
       → ListedOf T m t ps rs → ListedOf T m t (required i b ∷ ps) (r ∷ rs)
-  an-optional : {k : ℕ} {f : Form} {b : List ℕ} {ps : List Piece} {d : Member} {r : Row} {rs : List Row} → lookup k (Table.optional T t) ≡ some d → RowOf m d b r
+  an-optional : {k : ℕ} {f : Form} {b : List ℕ} {ps : List Piece} {d : Member} {r : Row} {rs : List Row} → lookup k (Table.optionalMembers T t) ≡ some d → RowOf m d b r
       → ListedOf T m t ps rs → ListedOf T m t (optional k f b ∷ ps) (r ∷ rs)
   a-skipped : {k : ℕ} {f : Bits} {b : List ℕ} {ps : List Piece} {rs : List Row} → ListedOf T m t ps rs → ListedOf T m t (skipped k f b ∷ ps) rs
 
@@ -350,8 +350,8 @@ pub data SameMembers (m m′ : List ℕ) : List Row → List Row → Type 0 wher
       → SameMembers m m′ rs rs′ → SameMembers m m′ (r ∷ rs) (r′ ∷ rs′)
 
 -- type is the top or descends from it
-abbrev pub Below : List ℕ → ℕ → ℕ → Type 0
-Below T top type = any (λ r. eqb r top) (chain T type) ≡ true
+abbrev pub UnderTop : List ℕ → ℕ → ℕ → Type 0
+UnderTop T top type = any (λ r. eqb r top) (chain T type) ≡ true
 
 -- the rows that count and row bytes name
 abbrev pub rowList : ℕ → List ℕ → List Row
@@ -376,7 +376,7 @@ pub record ReadBackAs (T : List ℕ) (top type format : ℕ) (rs : List Row) (bu
 abbrev pub ReadBack : Type 0
 ReadBack =
     (T : List ℕ) (top type format count : ℕ) (rs buffer : List ℕ) (room : ℕ) (m : List ℕ)
-    → writing T type format count rs buffer room ≡ out m → Below T top type → ReadBackAs T top type format (rowList count rs) buffer m
+    → writing T type format count rs buffer room ≡ out m → UnderTop T top type → ReadBackAs T top type format (rowList count rs) buffer m
 
 -- the same of the reader's answer, where the lent list of so many bytes holds a row for each member given
 pub record ReadBackAnswer (type format : ℕ) (rs : List Row) (buffer m : List ℕ) (a : Answer) : Type 0 where
@@ -390,7 +390,7 @@ pub record ReadBackAnswer (type format : ℕ) (rs : List Row) (buffer m : List �
 abbrev pub ReadBackReading : Type 0
 ReadBackReading =
     (T : List ℕ) (top type format count : ℕ) (rs buffer : List ℕ) (room : ℕ) (m : List ℕ)
-    → writing T type format count rs buffer room ≡ out m → Below T top type → (bytes : ℕ) → 12 * count ≤ bytes
+    → writing T type format count rs buffer room ≡ out m → UnderTop T top type → (bytes : ℕ) → 12 * count ≤ bytes
     → ReadBackAnswer type format (rowList count rs) buffer m (reading T top m bytes)
 
 -- An accepted message with nothing skipped, written again from itself with its own rows in a format that its type may have, is the encoding of its

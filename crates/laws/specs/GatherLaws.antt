@@ -130,9 +130,9 @@ module _ (s : Slot) (b : List ℕ) where
 
   pub piece-member : (T : List ℕ) (t : ℕ) → Fit T s → s .owner ≡ t → pieceMember T t (givenOf s b .piece) ≡ some (s .member)
   unfolding givenOf pieceMember
-  piece-member T t F e = go (s .due) (ap (λ (o : ℕ). lookup (s .member .key) (pick (s .due) (Table.required T o) (Table.optional T o))) (sym e) ∙ F .finds)
+  piece-member T t F e = go (s .due) (ap (λ (o : ℕ). lookup (s .member .key) (pick (s .due) (Table.requiredMembers T o) (Table.optionalMembers T o))) (sym e) ∙ F .finds)
     where
-      go : (q : Bool) → lookup (s .member .key) (pick q (Table.required T t) (Table.optional T t)) ≡ some (s .member)
+      go : (q : Bool) → lookup (s .member .key) (pick q (Table.requiredMembers T t) (Table.optionalMembers T t)) ≡ some (s .member)
           → pieceMember T t (pick q (required (s .member .key) b) (optional (s .member .key) (formOf (s .member .ty)) b)) ≡ some (s .member)
       go true h = h
       go false h = h

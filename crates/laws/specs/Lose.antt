@@ -27,7 +27,7 @@ losePiece ms (skipped t k b) = skipped t k b
 -- a known slice stays where the old table has a record of its name, else it is skipped
 unfoldable pub loseKnown : List ℕ → List ℕ → List Piece → Option ℕ → Slice
 loseKnown old o ps none = passed (anyOptional ps) o (dataBytes (known o ps))
-loseKnown old o ps (some t) = known o (map (losePiece (Table.optional old t)) ps)
+loseKnown old o ps (some t) = known o (map (losePiece (Table.optionalMembers old t)) ps)
 
 -- of one slice
 unfoldable pub loseSlice : List ℕ → Slice → Slice
@@ -36,6 +36,6 @@ loseSlice old (passed b nm d) = passed b nm d
 
 -- of a message under the old top
 unfoldable pub lose : List ℕ → ℕ → Pieces → Pieces
-lose old top (list ps) = list (map (losePiece (Table.optional old top)) ps)
+lose old top (list ps) = list (map (losePiece (Table.optionalMembers old top)) ps)
 lose old top (exception ss) = exception (map (loseSlice old) ss)
 lose old top (class ss) = class (map (loseSlice old) ss)

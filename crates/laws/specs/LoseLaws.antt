@@ -57,7 +57,7 @@ module _ (old : List ℕ) where
     where
       go : (n : Option ℕ) → dataBytes (loseKnown old o ps n) ≡ dataBytes (known o ps)
       go none = refl
-      go (some t) = ap₂ (λ (b : List ℕ) (q : Bool). b ++ pick q (255 ∷ []) []) (losePieces-bytes (Table.optional old t) ps) (losePieces-optional (Table.optional old t) ps)
+      go (some t) = ap₂ (λ (b : List ℕ) (q : Bool). b ++ pick q (255 ∷ []) []) (losePieces-bytes (Table.optionalMembers old t) ps) (losePieces-optional (Table.optionalMembers old t) ps)
   loseSlice-data (passed b nm d) = refl
 
   loseSlice-flag : (sl : Slice) → hasOptionals (loseSlice old sl) ≡ hasOptionals sl
@@ -66,7 +66,7 @@ module _ (old : List ℕ) where
     where
       go : (n : Option ℕ) → hasOptionals (loseKnown old o ps n) ≡ anyOptional ps
       go none = refl
-      go (some t) = losePieces-optional (Table.optional old t) ps
+      go (some t) = losePieces-optional (Table.optionalMembers old t) ps
   loseSlice-flag (passed b nm d) = refl
 
   loseSlice-id : (sl : Slice) → idOf (loseSlice old sl) ≡ idOf sl
@@ -96,7 +96,7 @@ module _ (old : List ℕ) where
 
   pub lose-bytes : (top : ℕ) (g : Format) (p : Pieces) → encode g (lose old top p) ≡ encode g p
   unfolding encode lose
-  lose-bytes top g (list ps) = losePieces-bytes (Table.optional old top) ps
+  lose-bytes top g (list ps) = losePieces-bytes (Table.optionalMembers old top) ps
   lose-bytes top g (exception ss) = loseSlices-bytes g first ss
   lose-bytes top g (class ss) = ap (λ (w : List ℕ). 1 ∷ w) (loseSlices-bytes g first ss)
 

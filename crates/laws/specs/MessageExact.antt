@@ -21,7 +21,7 @@ use Rattle.encoding.specs.NumberLaws.{bytes-drop, byte-written, byte-canonical,
 use Rattle.encoding.specs.Table.{kind}
 use Rattle.encoding.specs.RuleLaws.{kind-known}
 use Rattle.encoding.specs.Slice.{Format, sliced, Chain, slices, first, slicesBytes}
-use Rattle.encoding.specs.Message.{Pieces, list, exception, class, Read, encode, encapsulate, parameters, markerForm, contents, sizeForm, versionForm, ended, body, rules}
+use Rattle.encoding.specs.Message.{Pieces, list, exception, class, Read, encode, encapsulate, parameters, markerForm, contents, outerForm, versionForm, ended, body, rules}
 use Rattle.encoding.specs.MessageLaws.{held-contents, ended-ok, length-encapsulate, body-encapsulated, top-there, rules-ok, rules-step}
 use Rattle.encoding.specs.Conform.{Conform}
 use Rattle.laws.specs.Demands.{readAs, Follows, Exact, ExactRows}
@@ -112,15 +112,15 @@ module _ (T : List ℕ) (top : ℕ) where
 
   pub body-canonical : (m : List ℕ) → Bytes m → Short (length m) → 13 ≤ kind T top → kind T top ≤ 15 → {r : Read} {n : ℕ} → body T top m ≡ ok r n
       → Conform T top (r .format) (r .pieces) × (m ≡ encapsulate (encode (r .format) (r .pieces))) × (n ≡ length m)
-  unfolding body sizeForm versionForm encapsulate leBytes
-  body-canonical m y sh low high {r} {n} h = go (bind-ok (must (sizeForm (length m)) (number 4)) (λ _. versionedP) m h)
+  unfolding body outerForm versionForm encapsulate leBytes
+  body-canonical m y sh low high {r} {n} h = go (bind-ok (must (outerForm (length m)) (number 4)) (λ _. versionedP) m h)
     where
-      go₂ : (B : Bound (must (sizeForm (length m)) (number 4)) (λ _. versionedP) m r n) → Bound (must versionForm (number 2)) (λ _. closedP) (drop (B .n) m) r (B .m)
+      go₂ : (B : Bound (must (outerForm (length m)) (number 4)) (λ _. versionedP) m r n) → Bound (must versionForm (number 2)) (λ _. closedP) (drop (B .n) m) r (B .m)
           → Conform T top (r .format) (r .pieces) × (m ≡ leBytes 4 (6 + length (encode (r .format) (r .pieces))) ++ (1 ∷ 1 ∷ encode (r .format) (r .pieces))) × (n ≡ length m)
       go₂ B D =
           let d : List ℕ = drop (B .n) m in
           let e : List ℕ = encode (r .format) (r .pieces) in
-          let M = must-ok (number 4) m (sizeForm (length m)) (B .first) in
+          let M = must-ok (number 4) m (outerForm (length m)) (B .first) in
           let N = number-canonical 4 m y (M .0) in
           let s = either-false (ltb (B .fst) 6) (not (eqb (B .fst) (length m))) (pick-ok _ 4 (M .1)) in
           let six : 6 ≤ B .fst = ltb-false (B .fst) 6 (s .0) in
@@ -136,7 +136,7 @@ module _ (T : List ℕ) (top : ℕ) where
             omega (arith, B .sum, D .sum, C .1, N .2, L .2, length-drop (D .n) d, length-drop (B .n) m),
           )
 
-      go : Bound (must (sizeForm (length m)) (number 4)) (λ _. versionedP) m r n
+      go : Bound (must (outerForm (length m)) (number 4)) (λ _. versionedP) m r n
           → Conform T top (r .format) (r .pieces) × (m ≡ leBytes 4 (6 + length (encode (r .format) (r .pieces))) ++ (1 ∷ 1 ∷ encode (r .format) (r .pieces))) × (n ≡ length m)
       go B = go₂ B (bind-ok (must versionForm (number 2)) (λ _. closedP) (drop (B .n) m) (B .next))
 

@@ -17,7 +17,7 @@ use Rattle.encoding.specs.ResultLaws.{both-true, firstOf-ok}
 use Rattle.encoding.specs.Value.{exact}
 use Rattle.encoding.specs.Table.{kind, chain, range, Fault, fine, fault, faults, ruleNumber}
 use Rattle.encoding.specs.Message.{Row, encode, encapsulate, noTop, limit}
-use Rattle.encoding.specs.Write.{Out, out, stop, next, Given, noFormat, formatOf, rowAt, tableRules, early, unless, rowsGiven, judgeAll, judge, State, Reached, prepend, stillDue, reach, given, partOf, above, begin, gathered, message, bounded, writing}
+use Rattle.encoding.specs.Write.{Out, out, stop, next, Given, noFormat, formatOfNumber, rowAt, tableRules, early, stoppedFirst, rowsGiven, judgeAll, judge, State, Reached, prepend, stillDue, reach, given, partOf, above, begin, gathered, message, bounded, writing}
 use Rattle.laws.specs.Demands.{rowList}
 use Rattle.laws.specs.PlanLaws.{out≢stop, next-ok}
 use Rattle.laws.specs.PlanRules.{judging}
@@ -31,7 +31,7 @@ pub record Composed (T : List ℕ) (type format count : ℕ) (rs buffer m : List
   pub enough : 12 * count ≤ length rs
   pub given : List Given
   pub judged : judging T type buffer (rowList count rs) ≡ out given
-  pub made : m ≡ encapsulate (encode (formatOf format) (gathered T type given))
+  pub made : m ≡ encapsulate (encode (formatOfNumber format) (gathered T type given))
 
 tableRules-ok : (T : List ℕ) → {u : Unit {0}} → tableRules T ≡ out u → faults T ≡ fine
 unfolding tableRules
@@ -41,8 +41,8 @@ tableRules-ok T {u} h = go (faults T) refl
     go fine e = e
     go (fault c p) e = let g : stop (ruleNumber c) p ≡ out u = rw e at h in absurd (out≢stop g refl)
 
-unless-ok : (n : ℕ) {u : Unit {0}} → unless n ≡ out u → n ≡ 0
-unfolding unless
+unless-ok : (n : ℕ) {u : Unit {0}} → stoppedFirst n ≡ out u → n ≡ 0
+unfolding stoppedFirst
 unless-ok zero h = refl
 unless-ok (suc n) h = absurd (out≢stop h refl)
 
@@ -59,7 +59,7 @@ module _ (T : List ℕ) (type format count : ℕ) (rs buffer : List ℕ) where
   unfolding message early
   message-ok {m} h =
       let A = next-ok (tableRules T) _ h in
-      let B = next-ok (unless (early T type format buffer)) _ (A .2) in
+      let B = next-ok (stoppedFirst (early T type format buffer)) _ (A .2) in
       let C = next-ok (rowsGiven count rs) _ (B .2) in
       let D = next-ok (judgeAll T buffer (begin T type (above (chain T type))) 0 (C .0)) _ (C .2) in
       let R = rowsGiven-ok count rs (C .1) in
@@ -78,7 +78,7 @@ module _ (T : List ℕ) (type format count : ℕ) (rs buffer : List ℕ) where
       }
 
   pub message-step : {m : List ℕ} → Composed T type format count rs buffer m → message T type format count rs buffer ≡ out m
-  unfolding message early tableRules unless rowsGiven next firstOf
+  unfolding message early tableRules stoppedFirst rowsGiven next firstOf
   message-step C =
       rw (C .table, C .there, C .formed, le-ltb limit (length buffer) (C .short), le-leb (12 * count) (length rs) (C .enough), C .judged) (ap out (sym (C .made)))
 
@@ -138,10 +138,10 @@ others-judge T buffer (r ∷ rs) s i =
 
 module _ (T : List ℕ) (type format count : ℕ) (rs buffer : List ℕ) where
   others-message : Others (message T type format count rs buffer)
-  unfolding message rowsGiven tableRules ruleNumber unless early firstOf
+  unfolding message rowsGiven tableRules ruleNumber stoppedFirst early firstOf
   others-message =
       others-next (tableRules T) _ (table (faults T) refl)
-      (λ _. others-next (unless (early T type format buffer)) _ (first (noTop T type) (noFormat (kind T type) format) (ltb limit (length buffer)))
+      (λ _. others-next (stoppedFirst (early T type format buffer)) _ (first (noTop T type) (noFormat (kind T type) format) (ltb limit (length buffer)))
       (λ _. others-next (rowsGiven count rs) _ (given (leb (12 * count) (length rs)))
       (λ l. others-next (judgeAll T buffer (begin T type (above (chain T type))) 0 l) _ (others-judge T buffer l (begin T type (above (chain T type))) 0) (λ gs. tt))))
     where
@@ -149,7 +149,7 @@ module _ (T : List ℕ) (type format count : ℕ) (rs buffer : List ℕ) where
       table fine e = rw e tt
       table (fault c p) e = rw e (λ (q : ruleNumber c ≡ 22). omega arith)
 
-      first : (a b c : Bool) → Others (unless (firstOf ((2, a) ∷ (23, b) ∷ (3, c) ∷ [])))
+      first : (a b c : Bool) → Others (stoppedFirst (firstOf ((2, a) ∷ (23, b) ∷ (3, c) ∷ [])))
       first true b c = λ e. omega arith
       first false true c = λ e. omega arith
       first false false true = λ e. omega arith

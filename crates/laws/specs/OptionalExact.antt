@@ -32,7 +32,7 @@ use Rattle.encoding.specs.Value.{value}
 use Rattle.encoding.specs.ValueLaws.{framed-value, exact-ok, exact-step, eats-value}
 use Rattle.encoding.specs.Table.{Member, lookup}
 use Rattle.encoding.specs.Table
-use Rattle.encoding.specs.Optional.{Piece, required, optional, skipped, Header, firstForm, headerTail, wrongType, headerForm, header, extent, part, content, optionalOf, optionals, requireds, headerBytes, lengthBytes, frontBytes, contentBytes, pieceBytes, isOptional}
+use Rattle.encoding.specs.Optional.{Piece, required, optional, skipped, Header, firstForm, headerTail, wrongType, headerForm, header, extent, part, content, nextOptional, optionals, requireds, headerBytes, lengthBytes, frontBytes, contentBytes, pieceBytes, isOptional}
 use Rattle.encoding.specs.OptionalLaws.{framed-extent, Sound, held-content, held-header, eats-optional, formOf-sound, part-canonical}
 use Rattle.encoding.specs.Slice
 use Rattle.encoding.specs.Slice.{dataBytes, anyOptional, someForm, fields}
@@ -274,8 +274,8 @@ abbrev continue : List Member → Header → Parser (Piece × ℕ)
 continue ms h = mapc (λ p _. (p, suc (h .tag))) (content (lookup (h .tag) ms) h)
 
 known-written : (ms : List Member) (least t : ℕ) (f : Form) (b r : List ℕ) → Known ms least t f b
-    → optionalOf ms least (pieceBytes (optional t f b) ++ r) ≡ ok (optional t f b, suc t) (length (pieceBytes (optional t f b)))
-unfolding optionalOf pieceBytes frontBytes contentBytes content headerOf wrongType
+    → nextOptional ms least (pieceBytes (optional t f b) ++ r) ≡ ok (optional t f b, suc t) (length (pieceBytes (optional t f b)))
+unfolding nextOptional pieceBytes frontBytes contentBytes content headerOf wrongType
 known-written ms least t f b r K = rw (K .form, append-assoc hb (lengthBytes g b) b) (bind-written (header ms least) (continue ms) hb w r first next)
   where
     g : Form
@@ -303,8 +303,8 @@ known-written ms least t f b r K = rw (K .form, append-assoc hb (lengthBytes g b
         (inside-step (part g) (bytes (value (K .member .ty))) (w ++ r) (part-written (K .member .ty) b r (K .one) (K .length-short)) one)))
 
 unknown-written : (ms : List Member) (least t : ℕ) (k : Bits) (b r : List ℕ) → Unknown ms least t k b
-    → optionalOf ms least (pieceBytes (skipped t k b) ++ r) ≡ ok (skipped t k b, suc t) (length (pieceBytes (skipped t k b)))
-unfolding optionalOf pieceBytes frontBytes contentBytes content headerOf wrongType
+    → nextOptional ms least (pieceBytes (skipped t k b) ++ r) ≡ ok (skipped t k b, suc t) (length (pieceBytes (skipped t k b)))
+unfolding nextOptional pieceBytes frontBytes contentBytes content headerOf wrongType
 unknown-written ms least t k b r K = bind-written (header ms least) (continue ms) (headerBytes t k) b r first next
   where
     typed : wrongType k (lookup t ms) ≡ false
@@ -319,7 +319,7 @@ unknown-written ms least t k b r K = bind-written (header ms least) (continue ms
         (rw (K .absent) (mapc-step _ (b ++ r) (λ b _. skipped t k b)
         (bytes-step (extent k) (b ++ r) (mapc-ok (extent k) (b ++ r) (λ _ _. tt) (takes-extent k .written tt b (K .whole) r) .1) ∙ ap (λ (y : List ℕ). ok y (length b)) (take-at b r (length b) refl))))
 
-pub optional-written : {ms : List Member} {least : ℕ} {p : Piece} {s : ℕ} → Told ms least p s → (r : List ℕ) → optionalOf ms least (pieceBytes p ++ r) ≡ ok (p, s) (length (pieceBytes p))
+pub optional-written : {ms : List Member} {least : ℕ} {p : Piece} {s : ℕ} → Told ms least p s → (r : List ℕ) → nextOptional ms least (pieceBytes p ++ r) ≡ ok (p, s) (length (pieceBytes p))
 optional-written {ms = ms} {least = least} (known {t = t} {f = f} {b = b} K) r = known-written ms least t f b r K
 optional-written {ms = ms} {least = least} (unknown {t = t} {k = k} {b = b} K) r = unknown-written ms least t k b r K
 
@@ -361,8 +361,8 @@ abbrev Good : List Member → ℕ → List ℕ → Piece × ℕ → Type 0
 Good ms least z r = Told ms least (r .0) (r .1) × (z ≡ pieceBytes (r .0))
 
 pub optional-canonical : (ms : List Member) (least : ℕ) (xs : List ℕ) → Bytes xs → Short (length xs) → {p : Piece} {s n : ℕ}
-    → optionalOf ms least xs ≡ ok (p, s) n → Told ms least p s × (take n xs ≡ pieceBytes p)
-unfolding optionalOf pieceBytes frontBytes contentBytes
+    → nextOptional ms least xs ≡ ok (p, s) n → Told ms least p s × (take n xs ≡ pieceBytes p)
+unfolding nextOptional pieceBytes frontBytes contentBytes
 optional-canonical ms least xs y sh {p} {s} {n} e = top (bind-ok (header ms least) (continue ms) xs e)
   where
     go : (h : Header) (k m : ℕ) (q : Piece) → Headed ms least xs h k → k ≤ length xs → (o : Option Member) → lookup (h .tag) ms ≡ o
@@ -450,7 +450,7 @@ level-none os least (optional t f b ∷ ps) L e = absurd (true≢false e)
 level-none os least (skipped t k b ∷ ps) L e = absurd (true≢false e)
 
 run-canonical : (stop : List ℕ → Option ℕ) (close : List ℕ) → Closes stop close → (ms : List Member) {f s : ℕ} {xs : List ℕ} {ps : List Piece} {n : ℕ}
-    → Run stop (optionalOf ms) f s xs ps n → Bytes xs → Short (length xs) → Level [] ms s ps × (take n xs ≡ concat pieceBytes ps ++ close)
+    → Run stop (nextOptional ms) f s xs ps n → Bytes xs → Short (length xs) → Level [] ms s ps × (take n xs ≡ concat pieceBytes ps ++ close)
 unfolding concat
 run-canonical stop close C ms (end {xs = xs} {k = k} e) y sh = (tt, C xs k e)
 run-canonical stop close C ms (step {s = s} {xs = xs} {a = a} {s′ = s′} {n = n} {l = l} {m = m} e h r) y sh =
@@ -461,7 +461,7 @@ run-canonical stop close C ms (step {s = s} {xs = xs} {a = a} {s′ = s′} {n =
 pub optionals-canonical : (stop : List ℕ → Option ℕ) (close : List ℕ) → Closes stop close → (ms : List Member) (xs : List ℕ) → Bytes xs → Short (length xs) → {ps : List Piece} {n : ℕ}
     → optionals stop ms xs ≡ ok ps n → Level [] ms 0 ps × (take n xs ≡ concat pieceBytes ps ++ close)
 unfolding optionals
-optionals-canonical stop close C ms xs y sh h = run-canonical stop close C ms (run-of stop (optionalOf ms) (length xs) 0 xs h) y sh
+optionals-canonical stop close C ms xs y sh h = run-canonical stop close C ms (run-of stop (nextOptional ms) (length xs) 0 xs h) y sh
 
 -- a header is where no stop is
 abbrev pub Opens : (List ℕ → Option ℕ) → Type 0
@@ -491,17 +491,17 @@ told-opens stop O (unknown {t = t} {k = k} {b = b} K) r = ap stop (append-assoc 
 
 -- one more optional in front
 run-step : (stop : List ℕ → Option ℕ) → Opens stop → (ms : List Member) (r : List ℕ) (k least s : ℕ) (p : Piece) (ps : List Piece) → Told ms least p s
-    → Run stop (optionalOf ms) (length ps) s (concat pieceBytes ps ++ r) ps (length (concat pieceBytes ps) + k)
-    → Run stop (optionalOf ms) (length (p ∷ ps)) least (concat pieceBytes (p ∷ ps) ++ r) (p ∷ ps) (length (concat pieceBytes (p ∷ ps)) + k)
+    → Run stop (nextOptional ms) (length ps) s (concat pieceBytes ps ++ r) ps (length (concat pieceBytes ps) + k)
+    → Run stop (nextOptional ms) (length (p ∷ ps)) least (concat pieceBytes (p ∷ ps) ++ r) (p ∷ ps) (length (concat pieceBytes (p ∷ ps)) + k)
 unfolding concat
 run-step stop O ms r k least s p ps t ih =
     let w : List ℕ = concat pieceBytes ps in
     let l : length (pieceBytes p ++ w) + k ≡ length (pieceBytes p) + (length w + k) = omega (arith, length-append (pieceBytes p) w) in
-    let tail : Run stop (optionalOf ms) (length ps) s (drop (length (pieceBytes p)) (pieceBytes p ++ (w ++ r))) ps (length w + k) = rw (drop-at (pieceBytes p) (w ++ r) (length (pieceBytes p)) refl) ih in
+    let tail : Run stop (nextOptional ms) (length ps) s (drop (length (pieceBytes p)) (pieceBytes p ++ (w ++ r))) ps (length w + k) = rw (drop-at (pieceBytes p) (w ++ r) (length (pieceBytes p)) refl) ih in
     rw (append-assoc (pieceBytes p) w r, l) (step (told-opens stop O t (w ++ r)) (optional-written t (w ++ r)) tail)
 
 run-written : (stop : List ℕ → Option ℕ) → Opens stop → (ms : List Member) (r : List ℕ) (k : ℕ) → stop r ≡ some k → (ps : List Piece) (least : ℕ) → Level [] ms least ps
-    → Run stop (optionalOf ms) (length ps) least (concat pieceBytes ps ++ r) ps (length (concat pieceBytes ps) + k)
+    → Run stop (nextOptional ms) (length ps) least (concat pieceBytes ps ++ r) ps (length (concat pieceBytes ps) + k)
 unfolding concat
 run-written stop O ms r k e [] least L = rw zero-add (end e)
 run-written stop O ms r k e (required i b ∷ ps) least L = absurd L
@@ -512,7 +512,7 @@ pub optionals-written : (stop : List ℕ → Option ℕ) → Opens stop → (ms 
     → optionals stop ms (concat pieceBytes ps ++ r) ≡ ok ps (length (concat pieceBytes ps) + k)
 unfolding optionals
 optionals-written stop O ms ps r k e l L =
-    of-run stop (optionalOf ms) (run-fuel stop (optionalOf ms) (eats-optional ms) (run-written stop O ms r k e ps 0 L) (length (concat pieceBytes ps ++ r)) (omega (arith, length-append (concat pieceBytes ps) r)))
+    of-run stop (nextOptional ms) (run-fuel stop (nextOptional ms) (eats-optional ms) (run-written stop O ms r k e ps 0 L) (length (concat pieceBytes ps ++ r)) (omega (arith, length-append (concat pieceBytes ps) r)))
 
 -- ---- required members
 
@@ -581,90 +581,90 @@ level-parts (m ∷ ms) os (required i b ∷ ps) L =
 module _ (T : List ℕ) (t : ℕ) where
   pub parameters-canonical : (xs : List ℕ) → Bytes xs → Short (length xs) → {ps : List Piece} {n : ℕ} → parameters T t xs ≡ ok ps n → Owned T t ps × (take n xs ≡ concat pieceBytes ps)
   unfolding parameters
-  parameters-canonical xs y sh {ps} {n} h = go (bind-ok (requireds (Table.required T t)) next xs h)
+  parameters-canonical xs y sh {ps} {n} h = go (bind-ok (requireds (Table.requiredMembers T t)) next xs h)
     where
       next : List Piece → Parser (List Piece)
-      next a = mapc (λ ps _. a ++ ps) (optionals atEnd (Table.optional T t))
+      next a = mapc (λ ps _. a ++ ps) (optionals atEnd (Table.optionalMembers T t))
 
-      go : Bound (requireds (Table.required T t)) next xs ps n → Owned T t ps × (take n xs ≡ concat pieceBytes ps)
+      go : Bound (requireds (Table.requiredMembers T t)) next xs ps n → Owned T t ps × (take n xs ≡ concat pieceBytes ps)
       go B =
-          let F = requireds-canonical (Table.required T t) xs (B .first) in
-          let M = mapc-ok (optionals atEnd (Table.optional T t)) (drop (B .n) xs) (λ ps _. B .fst ++ ps) (B .next) in
-          let O = optionals-canonical atEnd [] atEnd-closes (Table.optional T t) (drop (B .n) xs) (bytes-drop (B .n) xs y) (omega (arith, length-drop (B .n) xs)) (M .1) in
+          let F = requireds-canonical (Table.requiredMembers T t) xs (B .first) in
+          let M = mapc-ok (optionals atEnd (Table.optionalMembers T t)) (drop (B .n) xs) (λ ps _. B .fst ++ ps) (B .next) in
+          let O = optionals-canonical atEnd [] atEnd-closes (Table.optionalMembers T t) (drop (B .n) xs) (bytes-drop (B .n) xs y) (omega (arith, length-drop (B .n) xs)) (M .1) in
           subst (λ (z : List Piece). Owned T t z × (take n xs ≡ concat pieceBytes z)) (sym (M .2))
-          (F .level (Table.optional T t) (M .0) (O .0), bind-take (requireds (Table.required T t)) next xs B ∙ ap₂ _++_ (F .spelt) (O .1 ∙ append-nil _) ∙ sym (concat-append (B .fst) (M .0)))
+          (F .level (Table.optionalMembers T t) (M .0) (O .0), bind-take (requireds (Table.requiredMembers T t)) next xs B ∙ ap₂ _++_ (F .spelt) (O .1 ∙ append-nil _) ∙ sym (concat-append (B .fst) (M .0)))
 
   pub parameters-written : (ps : List Piece) → Owned T t ps → parameters T t (concat pieceBytes ps) ≡ ok ps (length (concat pieceBytes ps))
   unfolding parameters
-  parameters-written ps L = go (level-parts (Table.required T t) (Table.optional T t) ps L)
+  parameters-written ps L = go (level-parts (Table.requiredMembers T t) (Table.optionalMembers T t) ps L)
     where
-      go : Parts (Table.required T t) (Table.optional T t) ps → parameters T t (concat pieceBytes ps) ≡ ok ps (length (concat pieceBytes ps))
+      go : Parts (Table.requiredMembers T t) (Table.optionalMembers T t) ps → parameters T t (concat pieceBytes ps) ≡ ok ps (length (concat pieceBytes ps))
       go P =
           let w : List ℕ = concat pieceBytes (P .back) in
-          let O : optionals atEnd (Table.optional T t) (w ++ []) ≡ ok (P .back) (length w) =
-          optionals-written atEnd atEnd-opens (Table.optional T t) (P .back) [] 0 end-there (omega arith) (P .rest) ∙ ap (ok (P .back)) (add-zero (length w)) in
-          let R = bind-written (requireds (Table.required T t)) (λ a. mapc (λ ps _. a ++ ps) (optionals atEnd (Table.optional T t))) (concat pieceBytes (P .front)) w []
+          let O : optionals atEnd (Table.optionalMembers T t) (w ++ []) ≡ ok (P .back) (length w) =
+          optionals-written atEnd atEnd-opens (Table.optionalMembers T t) (P .back) [] 0 end-there (omega arith) (P .rest) ∙ ap (ok (P .back)) (add-zero (length w)) in
+          let R = bind-written (requireds (Table.requiredMembers T t)) (λ a. mapc (λ ps _. a ++ ps) (optionals atEnd (Table.optionalMembers T t))) (concat pieceBytes (P .front)) w []
           (P .read (w ++ []))
-          (mapc-step (optionals atEnd (Table.optional T t)) (w ++ []) (λ ps _. P .front ++ ps) O) in
+          (mapc-step (optionals atEnd (Table.optionalMembers T t)) (w ++ []) (λ ps _. P .front ++ ps) O) in
           rw (P .joined, concat-append (P .front) (P .back)) (rw append-nil at R)
 
   -- bit 2 of the flags is set exactly if there is an optional
   pub fields-canonical : (o : List ℕ) (opt : Bool) (xs : List ℕ) → Bytes xs → Short (length xs) → {ps : List Piece} {n : ℕ} → fields T t opt xs ≡ ok ps n
       → Owned T t ps × (anyOptional ps ≡ opt) × (take n xs ≡ dataBytes (Slice.known o ps))
   unfolding fields dataBytes
-  fields-canonical o opt xs y sh {ps} {n} h = go opt (bind-ok (requireds (Table.required T t)) (next opt) xs h)
+  fields-canonical o opt xs y sh {ps} {n} h = go opt (bind-ok (requireds (Table.requiredMembers T t)) (next opt) xs h)
     where
       next : Bool → List Piece → Parser (List Piece)
-      next q a = pick q (mapc (λ ps _. a ++ ps) (must someForm (optionals atMark (Table.optional T t)))) (pure a)
+      next q a = pick q (mapc (λ ps _. a ++ ps) (must someForm (optionals atMark (Table.optionalMembers T t)))) (pure a)
 
-      go : (q : Bool) → Bound (requireds (Table.required T t)) (next q) xs ps n → Owned T t ps × (anyOptional ps ≡ q) × (take n xs ≡ concat pieceBytes ps ++ pick (anyOptional ps) (255 ∷ []) [])
+      go : (q : Bool) → Bound (requireds (Table.requiredMembers T t)) (next q) xs ps n → Owned T t ps × (anyOptional ps ≡ q) × (take n xs ≡ concat pieceBytes ps ++ pick (anyOptional ps) (255 ∷ []) [])
       go true B =
-          let F = requireds-canonical (Table.required T t) xs (B .first) in
+          let F = requireds-canonical (Table.requiredMembers T t) xs (B .first) in
           let M = mapc-ok _ (drop (B .n) xs) (λ ps _. B .fst ++ ps) (B .next) in
-          let S = must-ok (optionals atMark (Table.optional T t)) (drop (B .n) xs) someForm (M .1) in
-          let O = optionals-canonical atMark (255 ∷ []) atMark-closes (Table.optional T t) (drop (B .n) xs) (bytes-drop (B .n) xs y) (omega (arith, length-drop (B .n) xs)) (S .0) in
+          let S = must-ok (optionals atMark (Table.optionalMembers T t)) (drop (B .n) xs) someForm (M .1) in
+          let O = optionals-canonical atMark (255 ∷ []) atMark-closes (Table.optionalMembers T t) (drop (B .n) xs) (bytes-drop (B .n) xs y) (omega (arith, length-drop (B .n) xs)) (S .0) in
           let some : anyOptional (B .fst ++ M .0) ≡ true =
-          anyOptional-append (B .fst) (M .0) (F .none) ∙ level-some (Table.optional T t) 0 (M .0) (O .0) (someForm-ok (M .0) (S .1)) in
+          anyOptional-append (B .fst) (M .0) (F .none) ∙ level-some (Table.optionalMembers T t) 0 (M .0) (O .0) (someForm-ok (M .0) (S .1)) in
           subst (λ (z : List Piece). Owned T t z × (anyOptional z ≡ true) × (take n xs ≡ concat pieceBytes z ++ pick (anyOptional z) (255 ∷ []) [])) (sym (M .2)) (
-            F .level (Table.optional T t) (M .0) (O .0),
+            F .level (Table.optionalMembers T t) (M .0) (O .0),
             some,
-            bind-take (requireds (Table.required T t)) (next true) xs B ∙ ap₂ _++_ (F .spelt) (O .1) ∙ sym (append-assoc (concat pieceBytes (B .fst)) (concat pieceBytes (M .0)) (255 ∷ []))
+            bind-take (requireds (Table.requiredMembers T t)) (next true) xs B ∙ ap₂ _++_ (F .spelt) (O .1) ∙ sym (append-assoc (concat pieceBytes (B .fst)) (concat pieceBytes (M .0)) (255 ∷ []))
                 ∙ ap₂ (λ (z : List ℕ) (q : Bool). z ++ pick q (255 ∷ []) []) (sym (concat-append (B .fst) (M .0))) (sym some),
           )
       go false B =
-          let F = requireds-canonical (Table.required T t) xs (B .first) in
+          let F = requireds-canonical (Table.requiredMembers T t) xs (B .first) in
           let P = pure-ok (B .fst) (drop (B .n) xs) (B .next) in
           let e : n ≡ B .n = omega (arith, B .sum, P .1) in
           subst (λ (z : List Piece). Owned T t z × (anyOptional z ≡ false) × (take n xs ≡ concat pieceBytes z ++ pick (anyOptional z) (255 ∷ []) [])) (sym (P .0)) (
-            subst (λ (z : List Piece). Owned T t z) (append-nil (B .fst)) (F .level (Table.optional T t) [] tt),
+            subst (λ (z : List Piece). Owned T t z) (append-nil (B .fst)) (F .level (Table.optionalMembers T t) [] tt),
             F .none,
             ap (λ (i : ℕ). take i xs) e ∙ F .spelt ∙ sym (append-nil (concat pieceBytes (B .fst))) ∙ ap (λ (q : Bool). concat pieceBytes (B .fst) ++ pick q (255 ∷ []) []) (sym (F .none)),
           )
 
   pub fields-written : (o : List ℕ) (ps : List Piece) → Owned T t ps → (r : List ℕ) → fields T t (anyOptional ps) (dataBytes (Slice.known o ps) ++ r) ≡ ok ps (length (dataBytes (Slice.known o ps)))
   unfolding fields dataBytes pure
-  fields-written o ps L r = top (level-parts (Table.required T t) (Table.optional T t) ps L)
+  fields-written o ps L r = top (level-parts (Table.requiredMembers T t) (Table.optionalMembers T t) ps L)
     where
       next : Bool → List Piece → Parser (List Piece)
-      next q a = pick q (mapc (λ ps _. a ++ ps) (must someForm (optionals atMark (Table.optional T t)))) (pure a)
+      next q a = pick q (mapc (λ ps _. a ++ ps) (must someForm (optionals atMark (Table.optionalMembers T t)))) (pure a)
 
-      go : (P : Parts (Table.required T t) (Table.optional T t) ps) (b : List Piece) → Level [] (Table.optional T t) 0 b → (q : Bool) → anyOptional b ≡ q
+      go : (P : Parts (Table.requiredMembers T t) (Table.optionalMembers T t) ps) (b : List Piece) → Level [] (Table.optionalMembers T t) 0 b → (q : Bool) → anyOptional b ≡ q
           → fields T t q (concat pieceBytes (P .front ++ b) ++ pick q (255 ∷ []) [] ++ r) ≡ ok (P .front ++ b) (length (concat pieceBytes (P .front ++ b) ++ pick q (255 ∷ []) []))
       go P b K true e =
           let w : List ℕ = concat pieceBytes b in
-          let O : optionals atMark (Table.optional T t) (w ++ (255 ∷ []) ++ r) ≡ ok b (length (w ++ (255 ∷ []))) =
-          ap (optionals atMark (Table.optional T t)) (append-assoc w (255 ∷ []) r) ∙ optionals-written atMark atMark-opens (Table.optional T t) b (255 ∷ r) 1 (mark-there r) (omega arith) K
+          let O : optionals atMark (Table.optionalMembers T t) (w ++ (255 ∷ []) ++ r) ≡ ok b (length (w ++ (255 ∷ []))) =
+          ap (optionals atMark (Table.optionalMembers T t)) (append-assoc w (255 ∷ []) r) ∙ optionals-written atMark atMark-opens (Table.optionalMembers T t) b (255 ∷ r) 1 (mark-there r) (omega arith) K
           ∙ ap (ok b) (sym (length-append w (255 ∷ []))) in
           let some : someForm b ≡ 0 = someForm-step b (some-there b e) in
           rw (concat-append (P .front) b, append-assoc (concat pieceBytes (P .front)) w (255 ∷ []))
-          (bind-written (requireds (Table.required T t)) (next true) (concat pieceBytes (P .front)) (w ++ (255 ∷ [])) r
+          (bind-written (requireds (Table.requiredMembers T t)) (next true) (concat pieceBytes (P .front)) (w ++ (255 ∷ [])) r
           (P .read (w ++ (255 ∷ []) ++ r))
-          (mapc-step _ (w ++ (255 ∷ []) ++ r) (λ ps _. P .front ++ ps) (must-step (optionals atMark (Table.optional T t)) (w ++ (255 ∷ []) ++ r) someForm O some)))
+          (mapc-step _ (w ++ (255 ∷ []) ++ r) (λ ps _. P .front ++ ps) (must-step (optionals atMark (Table.optionalMembers T t)) (w ++ (255 ∷ []) ++ r) someForm O some)))
       go P b K false e =
-          rw (level-none (Table.optional T t) 0 b K e, append-nil (P .front))
-          (bind-written (requireds (Table.required T t)) (next false) (concat pieceBytes (P .front)) [] r {b = P .front} (P .read r) refl)
+          rw (level-none (Table.optionalMembers T t) 0 b K e, append-nil (P .front))
+          (bind-written (requireds (Table.requiredMembers T t)) (next false) (concat pieceBytes (P .front)) [] r {b = P .front} (P .read r) refl)
 
-      top : Parts (Table.required T t) (Table.optional T t) ps
+      top : Parts (Table.requiredMembers T t) (Table.optionalMembers T t) ps
           → fields T t (anyOptional ps) (concat pieceBytes ps ++ pick (anyOptional ps) (255 ∷ []) [] ++ r) ≡ ok ps (length (concat pieceBytes ps ++ pick (anyOptional ps) (255 ∷ []) []))
       top P =
           let e : anyOptional ps ≡ anyOptional (P .back) = ap anyOptional (P .joined) ∙ anyOptional-append (P .front) (P .back) (P .none) in

@@ -18,7 +18,7 @@ use Rattle.encoding.specs.ResultLaws.{some≢none}
 use Rattle.encoding.specs.Number.{Short}
 use Rattle.encoding.specs.Types.{Ty, Bits, Form, bitsOf, formOf}
 use Rattle.encoding.specs.Grammar.{IsValue, IsExtent}
-use Rattle.encoding.specs.Table.{Member, lookup, mark, requiredOf}
+use Rattle.encoding.specs.Table.{Member, lookup, mark, requiredsIn}
 use Rattle.encoding.specs.Table
 use Rattle.encoding.specs.Optional.{Piece, required, optional, skipped, part, lengthBytes}
 use Rattle.encoding.specs.OptionalLaws.{part-extent}
@@ -56,13 +56,13 @@ abbrev pub Positions : ℕ → List Member → Type 0
 Positions i [] = Unit {0}
 Positions i (m ∷ ms) = (m .key ≡ i) × Positions (suc i) ms
 
-pub required-positions : (T : List ℕ) (l : List Ty) (i : ℕ) (rs : List ℕ) → Positions i (requiredOf T l i rs)
-unfolding requiredOf
+pub required-positions : (T : List ℕ) (l : List Ty) (i : ℕ) (rs : List ℕ) → Positions i (requiredsIn T l i rs)
+unfolding requiredsIn
 required-positions T l i [] = tt
 required-positions T l i (m ∷ rs) = go (eqb (mark T m) 0) (required-positions T l (suc i) rs) (required-positions T l i rs)
   where
-    go : (b : Bool) → Positions (suc i) (requiredOf T l (suc i) rs) → Positions i (requiredOf T l i rs)
-        → Positions i (pick b (record { row = m; key = i; ty = Table.memberTy T l m } ∷ requiredOf T l (suc i) rs) (requiredOf T l i rs))
+    go : (b : Bool) → Positions (suc i) (requiredsIn T l (suc i) rs) → Positions i (requiredsIn T l i rs)
+        → Positions i (pick b (record { row = m; key = i; ty = Table.memberTy T l m } ∷ requiredsIn T l (suc i) rs) (requiredsIn T l i rs))
     go true p q = (refl, p)
     go false p q = q
 
@@ -142,11 +142,11 @@ module _ (ms ns : List Member) (match : OptionalsMatch ms ns) where
 
 -- what owner t of the old table makes of pieces
 abbrev pub loseAll : List ℕ → ℕ → List Piece → List Piece
-loseAll old t = map (losePiece (Table.optional old t))
+loseAll old t = map (losePiece (Table.optionalMembers old t))
 
 -- pieces of an owner are, to the owner that it matches, pieces too
 pub owned-newer : (old new : List ℕ) (t u : ℕ) → OwnersMatch old new t u → (ps : List Piece) → Owned new u ps → Owned old t (loseAll old t ps)
-unfolding Table.required
+unfolding Table.requiredMembers
 owned-newer old new t u M ps L =
-    level-newer (Table.optional old t) (Table.optional new u) (M .optional-ones) 0 (Table.required old t) (Table.required new u)
+    level-newer (Table.optionalMembers old t) (Table.optionalMembers new u) (M .optional-ones) 0 (Table.requiredMembers old t) (Table.requiredMembers new u)
     (required-positions old (Table.trees old) 0 (Table.ownRows old t)) (required-positions new (Table.trees new) 0 (Table.ownRows new u)) (M .required-ones) 0 ps L

@@ -29,11 +29,11 @@ use Rattle.encoding.specs.Result.{pick}
 use Rattle.encoding.specs.ResultLaws.{some≢none, both-true, either-false}
 use Rattle.encoding.specs.Types.{formOf}
 use Rattle.encoding.specs.Value.{exact}
-use Rattle.encoding.specs.Table.{Member, lookup, required, optional, any}
+use Rattle.encoding.specs.Table.{Member, lookup, requiredMembers, optionalMembers, any}
 use Rattle.encoding.specs.Optional
 use Rattle.encoding.specs.Message.{Row}
 use Rattle.encoding.specs.Write
-use Rattle.encoding.specs.Write.{Slot, Chosen, chosen, left, Within, insert, rising, slot, slots, planOf, Out, out, stop, next, State, Reached, reachDue, optionalRow, orAbove, entered, reachMay, reach, anyOf, stillDue, Given, given, partOf, judge, prepend, judgeAll}
+use Rattle.encoding.specs.Write.{Slot, Chosen, chosen, left, RowsWithin, insert, rising, slot, slots, planOf, Out, out, stop, next, State, Reached, reachDue, optionalRow, orAbove, entered, reachMay, reach, anyOf, stillDue, Given, given, partOf, judge, prepend, judgeAll}
 use Rattle.laws.specs.Demands.{All, end, more}
 use Rattle.laws.specs.RowsExact.{all-append, all-map, lookup-all}
 
@@ -267,7 +267,7 @@ least-zero (d ∷ ds) = refl
 -- required members still due, the owner's optionals of tags that may come, the slots of the owners above
 unfoldable pub future : List ℕ → State → List Slot
 future T s =
-    map (slot (s .owner) true) (s .due) ++ map (slot (s .owner) false) (from (leastOf (s .due) (s .least)) (rising (optional T (s .owner)))) ++ planOf T (s .above)
+    map (slot (s .owner) true) (s .due) ++ map (slot (s .owner) false) (from (leastOf (s .due) (s .least)) (rising (optionalMembers T (s .owner)))) ++ planOf T (s .above)
 
 -- what a row reaches, as the slot that it chooses and those behind it
 unfoldable spot : List ℕ → Reached → Spot
@@ -276,8 +276,8 @@ spot T z = record { slot = slot (z .state .owner) (z .required-one) (z .member);
 module _ (T : List ℕ) where
   -- the optionals of an owner differ in row, and in tag
   pub record Ordered (t : ℕ) : Type 0 where
-    pub rows : Pairs RowsDiffer (optional T t)
-    pub keys : Pairs KeysRise (rising (optional T t))
+    pub rows : Pairs RowsDiffer (optionalMembers T t)
+    pub keys : Pairs KeysRise (rising (optionalMembers T t))
 
   -- neither slot nor member, or both, and the owners to come are still right
   data Same : Option Spot → Option Reached → Type 0 where
@@ -285,12 +285,12 @@ module _ (T : List ℕ) where
     both : (z : Reached) → All Ordered (z .state .owner ∷ z .state .above) → Same (some (spot T z)) (some z)
 
   due-same : (m o : ℕ) (ts : List ℕ) (d : Member) (ds : List Member) → All Ordered (o ∷ ts)
-      → Same (find m (map (slot o true) (d ∷ ds) ++ map (slot o false) (from 0 (rising (optional T o))) ++ planOf T ts)) (reachDue o ts m d ds)
+      → Same (find m (map (slot o true) (d ∷ ds) ++ map (slot o false) (from 0 (rising (optionalMembers T o))) ++ planOf T ts)) (reachDue o ts m d ds)
   unfolding find reachDue slot spot future
   due-same m o ts d ds O = go (eqb m (d .row))
     where
       behind : ℕ → List Slot
-      behind n = map (slot o true) ds ++ map (slot o false) (from n (rising (optional T o))) ++ planOf T ts
+      behind n = map (slot o true) ds ++ map (slot o false) (from n (rising (optionalMembers T o))) ++ planOf T ts
 
       state : State
       state = record { owner = o; due = ds; least = 0; above = ts }
@@ -301,28 +301,28 @@ module _ (T : List ℕ) where
 
   -- an optional of the owner, or what comes behind its slots
   or-same : (m o least : ℕ) (ts : List ℕ) (r : Option Reached) → All Ordered (o ∷ ts) → Same (find m (planOf T ts)) r
-      → Same (find m (map (slot o false) (from least (rising (optional T o))) ++ planOf T ts)) (orAbove o ts r (optionalRow m least (optional T o)))
+      → Same (find m (map (slot o false) (from least (rising (optionalMembers T o))) ++ planOf T ts)) (orAbove o ts r (optionalRow m least (optionalMembers T o)))
   unfolding orRest orAbove spot future leastOf
   or-same m o least ts r (more x O) S =
-      subst (λ (f : Option Spot). Same f (orAbove o ts r (optionalRow m least (optional T o))))
-      (sym (optional-find o m least (rising (optional T o)) (planOf T ts) (x .keys) ∙ ap (orRest o (rising (optional T o)) (planOf T ts) (find m (planOf T ts))) (row-rising m least (x .rows))))
-      (go (optionalRow m least (optional T o)))
+      subst (λ (f : Option Spot). Same f (orAbove o ts r (optionalRow m least (optionalMembers T o))))
+      (sym (optional-find o m least (rising (optionalMembers T o)) (planOf T ts) (x .keys) ∙ ap (orRest o (rising (optionalMembers T o)) (planOf T ts) (find m (planOf T ts))) (row-rising m least (x .rows))))
+      (go (optionalRow m least (optionalMembers T o)))
     where
-      go : (d : Option Member) → Same (orRest o (rising (optional T o)) (planOf T ts) (find m (planOf T ts)) d) (orAbove o ts r d)
+      go : (d : Option Member) → Same (orRest o (rising (optionalMembers T o)) (planOf T ts) (find m (planOf T ts)) d) (orAbove o ts r d)
       go none = S
       go (some d) = both _ (more x O)
 
   may-same : (m o least : ℕ) (ts : List ℕ) → All Ordered (o ∷ ts)
-      → Same (find m (map (slot o false) (from least (rising (optional T o))) ++ planOf T ts)) (reachMay T m o least ts)
+      → Same (find m (map (slot o false) (from least (rising (optionalMembers T o))) ++ planOf T ts)) (reachMay T m o least ts)
   unfolding reachMay find planOf entered slots
   may-same m o least [] O = or-same m o least [] none O neither
-  may-same m o least (t ∷ ts) (more x O) = or-same m o least (t ∷ ts) _ (more x O) (go (required T t) (may-same m t 0 ts O))
+  may-same m o least (t ∷ ts) (more x O) = or-same m o least (t ∷ ts) _ (more x O) (go (requiredMembers T t) (may-same m t 0 ts O))
     where
-      go : (ds : List Member) → Same (find m (map (slot t false) (from 0 (rising (optional T t))) ++ planOf T ts)) (reachMay T m t 0 ts)
-          → Same (find m (map (slot t true) ds ++ map (slot t false) (rising (optional T t)) ++ planOf T ts)) (entered t ts m (reachMay T m t 0 ts) ds)
-      go [] ih = subst (λ (l : List Member). Same (find m (map (slot t false) l ++ planOf T ts)) (reachMay T m t 0 ts)) (from-zero (rising (optional T t))) ih
+      go : (ds : List Member) → Same (find m (map (slot t false) (from 0 (rising (optionalMembers T t))) ++ planOf T ts)) (reachMay T m t 0 ts)
+          → Same (find m (map (slot t true) ds ++ map (slot t false) (rising (optionalMembers T t)) ++ planOf T ts)) (entered t ts m (reachMay T m t 0 ts) ds)
+      go [] ih = subst (λ (l : List Member). Same (find m (map (slot t false) l ++ planOf T ts)) (reachMay T m t 0 ts)) (from-zero (rising (optionalMembers T t))) ih
       go (d ∷ ds) ih =
-          subst (λ (l : List Member). Same (find m (map (slot t true) (d ∷ ds) ++ map (slot t false) l ++ planOf T ts)) (reachDue t ts m d ds)) (from-zero (rising (optional T t)))
+          subst (λ (l : List Member). Same (find m (map (slot t true) (d ∷ ds) ++ map (slot t false) l ++ planOf T ts)) (reachDue t ts m d ds)) (from-zero (rising (optionalMembers T t)))
           (due-same m t ts d ds O)
 
   reach-same : (m : ℕ) (s : State) → All Ordered (s .owner ∷ s .above) → Same (find m (future T s)) (reach T m s)
@@ -330,7 +330,7 @@ module _ (T : List ℕ) where
   reach-same m s O = go (s .due)
     where
       go : (ds : List Member)
-          → Same (find m (map (slot (s .owner) true) ds ++ map (slot (s .owner) false) (from (leastOf ds (s .least)) (rising (optional T (s .owner)))) ++ planOf T (s .above)))
+          → Same (find m (map (slot (s .owner) true) ds ++ map (slot (s .owner) false) (from (leastOf ds (s .least)) (rising (optionalMembers T (s .owner)))) ++ planOf T (s .above)))
           (entered (s .owner) (s .above) m (reachMay T m (s .owner) (s .least) (s .above)) ds)
       go [] = may-same m (s .owner) (s .least) (s .above) O
       go (d ∷ ds) = due-same m (s .owner) (s .above) d ds O
@@ -379,15 +379,15 @@ module _ (T : List ℕ) where
   due-required t [] (o ∷ os) = due-required t [] os
   due-required t (m ∷ ms) os = refl
 
-  due-plan : (ts : List ℕ) → anyDue (planOf T ts) ≡ any (λ t. anyOf (required T t)) ts
+  due-plan : (ts : List ℕ) → anyDue (planOf T ts) ≡ any (λ t. anyOf (requiredMembers T t)) ts
   unfolding planOf slots any anyDue
   due-plan [] = refl
-  due-plan (t ∷ ts) = due-append (slots T t) (planOf T ts) ∙ ap₂ _||_ (due-required t (required T t) (rising (optional T t))) (due-plan ts)
+  due-plan (t ∷ ts) = due-append (slots T t) (planOf T ts) ∙ ap₂ _||_ (due-required t (requiredMembers T t) (rising (optionalMembers T t))) (due-plan ts)
 
   due-future : (s : State) → stillDue T s ≡ anyDue (future T s)
   unfolding stillDue future
   due-future s =
-      let os : List Member = from (leastOf (s .due) (s .least)) (rising (optional T (s .owner))) in
+      let os : List Member = from (leastOf (s .due) (s .least)) (rising (optionalMembers T (s .owner))) in
       sym (due-append (map (slot (s .owner) true) (s .due) ++ map (slot (s .owner) false) os) (planOf T (s .above)) ∙ ap₂ _||_ (due-required (s .owner) (s .due) os) (due-plan (s .above)))
 
   pub judge-slots : (buffer : List ℕ) (rs : List Row) (i : ℕ) (s : State) → All (Ordered T) (s .owner ∷ s .above) → judgeAll T buffer s i rs ≡ judgeSlots buffer (future T s) i rs
@@ -495,7 +495,7 @@ judged-chosen over = Write.end
 judged-chosen (taken e i x K) = chosen e (judged-chosen K)
 judged-chosen (missed d K) = left d (judged-chosen K)
 
-pub judged-within : {buffer : List ℕ} {ss : List Slot} {rs : List Row} {gs : List Given} → Judged buffer ss rs gs → Within (length buffer) rs
+pub judged-within : {buffer : List ℕ} {ss : List Slot} {rs : List Row} {gs : List Given} → Judged buffer ss rs gs → RowsWithin (length buffer) rs
 judged-within over = tt
 judged-within (taken e i x K) = (i, judged-within K)
 judged-within (missed d K) = judged-within K

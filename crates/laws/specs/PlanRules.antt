@@ -24,12 +24,12 @@ use borrow.Author.Tests.{leb-false, eqb-true, eqb-false, eq-eqb, ne-eqb, lt-leb,
 use Rattle.encoding.specs.Result.{pick}
 use Rattle.encoding.specs.Number.{Short, negative}
 use Rattle.encoding.specs.Types.{Ty}
-use Rattle.encoding.specs.Table.{types, kind, field, mark, tag, isRecord, owns, range, fine, faults, great, memberRules, Member, memberTy, trees, ownRows, requiredOf, optionalOf, required, optional, lookup, base, upward, chain, any}
+use Rattle.encoding.specs.Table.{types, kind, field, mark, tag, isRecord, owns, range, fine, faults, great, memberRules, Member, memberTy, trees, ownRows, requiredsIn, optionalsIn, requiredMembers, optionalMembers, lookup, base, upward, chain, any}
 use Rattle.encoding.specs.RuleLaws.{member-test, kind-known, record-kind, base-right, chain-node, Own, own-later, rows-apart, rows-there, mark-known, tags-differ}
 use Rattle.encoding.specs.Message.{Row, noTop}
 use Rattle.encoding.specs.MessageLaws.{top-there}
 use Rattle.encoding.specs.Write.{Slot, rising, slot, slots, planOf, plan, Out, Given, above, begin, judgeAll}
-use Rattle.laws.specs.Demands.{All, end, more, Below}
+use Rattle.laws.specs.Demands.{All, end, more, UnderTop}
 use Rattle.laws.specs.RowsExact.{all-append, all-map, Found, required-found, required-typed, optional-typed}
 use Rattle.laws.specs.PlanLaws.{Pairs, alone, before, all-mapped, pairs-mapped, pairs-append, pairs-with, RowsDiffer, KeysDiffer, all-rising, rises-rising, differ-rising, from, from-zero, Ordered, future, least-zero, SlotsDiffer, judgeSlots, judge-slots}
 
@@ -56,54 +56,54 @@ abbrev RowsRise : Member → Member → Type 0
 RowsRise a b = a .row < b .row
 
 module _ (T : List ℕ) (l : List Ty) where
-  required-placed : (i a b : ℕ) → All (Own T a b true) (requiredOf T l i (range a b))
-  unfolding requiredOf range
+  required-placed : (i a b : ℕ) → All (Own T a b true) (requiredsIn T l i (range a b))
+  unfolding requiredsIn range
   required-placed i a zero = end
   required-placed i a (suc b) = go (eqb (mark T a) 0) refl (all-map (λ m O. own-later O) (required-placed (suc i) (suc a) b)) (all-map (λ m O. own-later O) (required-placed i (suc a) b))
     where
       this : Member
       this = record { row = a; key = i; ty = memberTy T l a }
 
-      go : (q : Bool) → eqb (mark T a) 0 ≡ q → All (Own T a (suc b) true) (requiredOf T l (suc i) (range (suc a) b)) → All (Own T a (suc b) true) (requiredOf T l i (range (suc a) b))
-          → All (Own T a (suc b) true) (pick q (this ∷ requiredOf T l (suc i) (range (suc a) b)) (requiredOf T l i (range (suc a) b)))
+      go : (q : Bool) → eqb (mark T a) 0 ≡ q → All (Own T a (suc b) true) (requiredsIn T l (suc i) (range (suc a) b)) → All (Own T a (suc b) true) (requiredsIn T l i (range (suc a) b))
+          → All (Own T a (suc b) true) (pick q (this ∷ requiredsIn T l (suc i) (range (suc a) b)) (requiredsIn T l i (range (suc a) b)))
       go true e K L = more {a = this} (record { from = omega arith; to = omega arith; marked = e; tagged = λ f. absurd (true≢false f) }) K
       go false e K L = L
 
-  optional-placed : (a b : ℕ) → All (Own T a b false) (optionalOf T l (range a b))
-  unfolding optionalOf range
+  optional-placed : (a b : ℕ) → All (Own T a b false) (optionalsIn T l (range a b))
+  unfolding optionalsIn range
   optional-placed a zero = end
   optional-placed a (suc b) = go (eqb (mark T a) 0) refl (all-map (λ m O. own-later O) (optional-placed (suc a) b))
     where
       this : Member
       this = record { row = a; key = tag T a; ty = memberTy T l a }
 
-      go : (q : Bool) → eqb (mark T a) 0 ≡ q → All (Own T a (suc b) false) (optionalOf T l (range (suc a) b))
-          → All (Own T a (suc b) false) (pick q (optionalOf T l (range (suc a) b)) (this ∷ optionalOf T l (range (suc a) b)))
+      go : (q : Bool) → eqb (mark T a) 0 ≡ q → All (Own T a (suc b) false) (optionalsIn T l (range (suc a) b))
+          → All (Own T a (suc b) false) (pick q (optionalsIn T l (range (suc a) b)) (this ∷ optionalsIn T l (range (suc a) b)))
       go true e L = L
       go false e L = more {a = this} (record { from = omega arith; to = omega arith; marked = e; tagged = λ f. refl }) L
 
-  required-rise : (i a b : ℕ) → Pairs RowsRise (requiredOf T l i (range a b))
-  unfolding requiredOf range
+  required-rise : (i a b : ℕ) → Pairs RowsRise (requiredsIn T l i (range a b))
+  unfolding requiredsIn range
   required-rise i a zero = alone
   required-rise i a (suc b) = go (eqb (mark T a) 0) (required-rise (suc i) (suc a) b) (required-rise i (suc a) b)
     where
       this : Member
       this = record { row = a; key = i; ty = memberTy T l a }
 
-      go : (q : Bool) → Pairs RowsRise (requiredOf T l (suc i) (range (suc a) b)) → Pairs RowsRise (requiredOf T l i (range (suc a) b))
-          → Pairs RowsRise (pick q (this ∷ requiredOf T l (suc i) (range (suc a) b)) (requiredOf T l i (range (suc a) b)))
+      go : (q : Bool) → Pairs RowsRise (requiredsIn T l (suc i) (range (suc a) b)) → Pairs RowsRise (requiredsIn T l i (range (suc a) b))
+          → Pairs RowsRise (pick q (this ∷ requiredsIn T l (suc i) (range (suc a) b)) (requiredsIn T l i (range (suc a) b)))
       go true K L = before {a = this} (all-map (λ (m : Member) (O : Own T (suc a) b true m). O .from) (required-placed (suc i) (suc a) b)) K
       go false K L = L
 
-  optional-rise : (a b : ℕ) → Pairs RowsRise (optionalOf T l (range a b))
-  unfolding optionalOf range
+  optional-rise : (a b : ℕ) → Pairs RowsRise (optionalsIn T l (range a b))
+  unfolding optionalsIn range
   optional-rise a zero = alone
   optional-rise a (suc b) = go (eqb (mark T a) 0) (optional-rise (suc a) b)
     where
       this : Member
       this = record { row = a; key = tag T a; ty = memberTy T l a }
 
-      go : (q : Bool) → Pairs RowsRise (optionalOf T l (range (suc a) b)) → Pairs RowsRise (pick q (optionalOf T l (range (suc a) b)) (this ∷ optionalOf T l (range (suc a) b)))
+      go : (q : Bool) → Pairs RowsRise (optionalsIn T l (range (suc a) b)) → Pairs RowsRise (pick q (optionalsIn T l (range (suc a) b)) (this ∷ optionalsIn T l (range (suc a) b)))
       go true L = L
       go false L = before {a = this} (all-map (λ (m : Member) (O : Own T (suc a) b false m). O .from) (optional-placed (suc a) b)) L
 
@@ -125,32 +125,32 @@ pub record Fit (T : List ℕ) (s : Slot) : Type 0 where
   pub owner-right : Owner T (s .owner)
   pub place : Own T (field T (s .owner) 0) (field T (s .owner) 1) (s .due) (s .member)
   pub typed : s .member .ty ≡ memberTy T (trees T) (s .member .row)
-  pub finds : lookup (s .member .key) (pick (s .due) (required T (s .owner)) (optional T (s .owner))) ≡ some (s .member)
+  pub finds : lookup (s .member .key) (pick (s .due) (requiredMembers T (s .owner)) (optionalMembers T (s .owner))) ≡ some (s .member)
   pub short : s .due ≡ false → Short (s .member .key)
 
 module _ (T : List ℕ) (t : ℕ) where
   pub slots-owner : All (λ (s : Slot). s .owner ≡ t) (slots T t)
   unfolding slots slot
-  slots-owner = all-append (all-mapped (slot t true) (all-any (λ m. refl) (required T t))) (all-mapped (slot t false) (all-any (λ m. refl) (rising (optional T t))))
+  slots-owner = all-append (all-mapped (slot t true) (all-any (λ m. refl) (requiredMembers T t))) (all-mapped (slot t false) (all-any (λ m. refl) (rising (optionalMembers T t))))
 
   module _ (right : faults T ≡ fine) (O : Owner T t) where
     abbrev Mine : Bool → Member → Type 0
     Mine q m = Own T (field T t 0) (field T t 1) q m
 
-    required-mine : All (Mine true) (required T t)
-    unfolding required ownRows
+    required-mine : All (Mine true) (requiredMembers T t)
+    unfolding requiredMembers ownRows
     required-mine = required-placed T (trees T) 0 (field T t 0) (field T t 1)
 
-    optional-mine : All (Mine false) (optional T t)
-    unfolding optional ownRows
+    optional-mine : All (Mine false) (optionalMembers T t)
+    unfolding optionalMembers ownRows
     optional-mine = optional-placed T (trees T) (field T t 0) (field T t 1)
 
-    rows-required : Pairs RowsRise (required T t)
-    unfolding required ownRows
+    rows-required : Pairs RowsRise (requiredMembers T t)
+    unfolding requiredMembers ownRows
     rows-required = required-rise T (trees T) 0 (field T t 0) (field T t 1)
 
-    rows-optional : Pairs RowsRise (optional T t)
-    unfolding optional ownRows
+    rows-optional : Pairs RowsRise (optionalMembers T t)
+    unfolding optionalMembers ownRows
     rows-optional = optional-rise T (trees T) (field T t 0) (field T t 1)
 
     rise-differ : (a b : Member) → RowsRise a b → RowsDiffer a b
@@ -159,7 +159,7 @@ module _ (T : List ℕ) (t : ℕ) where
     mine-mark : (m : Member) → Mine false m → mark T (m .row) ≡ 1
     mine-mark m P = omega (arith, eqb-false (mark T (m .row)) 0 (P .marked), mark-known T right t (m .row) (O .below) (O .own) (P .from) (P .to))
 
-    keys-optional : Pairs KeysDiffer (optional T t)
+    keys-optional : Pairs KeysDiffer (optionalMembers T t)
     keys-optional = pairs-with differ optional-mine rows-optional
       where
         differ : (a b : Member) → Mine false a → Mine false b → RowsRise a b → KeysDiffer a b
@@ -171,7 +171,7 @@ module _ (T : List ℕ) (t : ℕ) where
     pub owner-ordered : Ordered T t
     owner-ordered = record { rows = pairs-with (λ a b A B r. rise-differ a b r) optional-mine rows-optional; keys = rises-rising keys-optional }
 
-    optional-found : All (Found (optional T t)) (optional T t)
+    optional-found : All (Found (optionalMembers T t)) (optionalMembers T t)
     optional-found = found-keys keys-optional
 
     mine-short : (m : Member) → Mine false m → Short (m .key)
@@ -181,17 +181,17 @@ module _ (T : List ℕ) (t : ℕ) where
         let l : tag T (m .row) < 2147483648 = leb-false _ (tag T (m .row)) h in
         omega (arith, P .tagged refl)
 
-    required-fit : All (λ (m : Member). Fit T (slot t true m)) (required T t)
-    unfolding required slot
+    required-fit : All (λ (m : Member). Fit T (slot t true m)) (requiredMembers T t)
+    unfolding requiredMembers slot
     required-fit =
-        all-with (λ (m : Member) (P : Mine true m) (F : (m .ty ≡ memberTy T (trees T) (m .row)) × Found (required T t) m).
+        all-with (λ (m : Member) (P : Mine true m) (F : (m .ty ≡ memberTy T (trees T) (m .row)) × Found (requiredMembers T t) m).
         record { owner-right = O; place = P; typed = F .0; finds = F .1; short = λ e. absurd (true≢false e) })
         required-mine (all-with (λ m a b. (a, b)) (required-typed T (trees T) 0 (ownRows T t)) (required-found T t))
 
-    pub optional-fit : All (λ (m : Member). Fit T (slot t false m)) (optional T t)
-    unfolding optional slot
+    pub optional-fit : All (λ (m : Member). Fit T (slot t false m)) (optionalMembers T t)
+    unfolding optionalMembers slot
     optional-fit =
-        all-with (λ (m : Member) (P : Mine false m) (F : (m .ty ≡ memberTy T (trees T) (m .row)) × Found (optional T t) m).
+        all-with (λ (m : Member) (P : Mine false m) (F : (m .ty ≡ memberTy T (trees T) (m .row)) × Found (optionalMembers T t) m).
         record { owner-right = O; place = P; typed = F .0; finds = F .1; short = λ e. mine-short m P })
         optional-mine (all-with (λ m a b. (a, b)) (optional-typed T (trees T) (ownRows T t)) optional-found)
 
@@ -328,7 +328,7 @@ module _ (T : List ℕ) where
       plan-differ = planOf-differ (chain T type) chain-owners chain-falls
 
       -- a row of the chain, by the test that descends
-      pub chain-top : (top : ℕ) → Below T top type → Rung type top
+      pub chain-top : (top : ℕ) → UnderTop T top type → Rung type top
       chain-top top h = any-among top chain-rungs h
 
       pub chain-above : chain T type ≡ type ∷ above (chain T type)
@@ -338,8 +338,8 @@ module _ (T : List ℕ) where
       begin-future : (ts : List ℕ) → future T (begin T type ts) ≡ planOf T (type ∷ ts)
       unfolding begin future planOf slots
       begin-future ts =
-          ap (λ (l : List Member). map (slot type true) (required T type) ++ map (slot type false) l ++ planOf T ts)
-          (ap (λ (n : ℕ). from n (rising (optional T type))) (least-zero (required T type)) ∙ from-zero (rising (optional T type)))
+          ap (λ (l : List Member). map (slot type true) (requiredMembers T type) ++ map (slot type false) l ++ planOf T ts)
+          (ap (λ (n : ℕ). from n (rising (optionalMembers T type))) (least-zero (requiredMembers T type)) ∙ from-zero (rising (optionalMembers T type)))
 
       pub judging-slots : (buffer : List ℕ) (rs : List Row) → judging T type buffer rs ≡ judgeSlots buffer (plan T type) 0 rs
       unfolding plan begin

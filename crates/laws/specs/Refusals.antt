@@ -21,7 +21,7 @@ use Rattle.encoding.specs.ResultLaws.{ofContents, ok≢bad, both-true, Lies}
 use Rattle.encoding.specs.Number.{val, number}
 use Rattle.encoding.specs.Table.{Fault, fine, fault, faults, ruleNumber}
 use Rattle.encoding.specs.RuleLaws.{fault-place}
-use Rattle.encoding.specs.Message.{Read, contents, ended, sizeForm, versionForm, body, noTop, limit, afterRules, unless, rules, rows, greatest, Answer, numbers, refused, accepted, answer, room, within, reading, listed, readingOf, readingNumbers}
+use Rattle.encoding.specs.Message.{Read, contents, ended, outerForm, versionForm, body, noTop, limit, afterRules, refusedFirst, rules, rows, greatest, Answer, numbers, refused, accepted, answer, room, within, reading, listed, readingOf, readingNumbers}
 use Rattle.encoding.specs.MessageLaws.{held-rest}
 use Rattle.encoding.specs.RefusalLaws.{Told, refuses-rest}
 use Rattle.laws.specs.Demands.{Admissible, Sized, Refusal, broken-table, no-top, too-great, no-size, wrong-size, wrong-version, cut-off, misread, ReaderRefusal, by-rules, short-list, NothingElse, ReaderRefuses, NumbersTold}
@@ -50,7 +50,7 @@ module _ (T : List ℕ) (top : ℕ) (m : List ℕ) where
   ]
 
   body-refused : Admissible T top m → {n p : ℕ} → body T top m ≡ bad n p → Refusal T top m n p
-  unfolding body _>>=_ after shift must judged number chunk sizeForm versionForm val
+  unfolding body _>>=_ after shift must judged number chunk outerForm versionForm val
   body-refused A {n} {p} h = cut (leb 4 (length m)) refl h
     where
       rest : Parser Read
@@ -90,16 +90,16 @@ module _ (T : List ℕ) (top : ℕ) (m : List ℕ) where
 
   -- each refusal by the rules
   pub rules-refused : {n p : ℕ} → rules T top m ≡ bad n p → Refusal T top m n p
-  unfolding rules afterRules unless firstOf ruleNumber
+  unfolding rules afterRules refusedFirst firstOf ruleNumber
   rules-refused {n} {p} h = table (faults T) refl h
     where
       early : faults T ≡ fine → (a : Bool) → noTop T top ≡ a → (b : Bool) → ltb limit (length m) ≡ b
-          → unless (firstOf ((2, a) ∷ (3, b) ∷ [])) (body T top m) ≡ bad n p → Refusal T top m n p
+          → refusedFirst (firstOf ((2, a) ∷ (3, b) ∷ [])) (body T top m) ≡ bad n p → Refusal T top m n p
       early F true e b f h = same (no-top F e) h
       early F false e true f h = same (too-great F e (ltb-true limit (length m) f)) h
       early F false e false f h = body-refused (record { table = F; top-there = e; short = ltb-false limit (length m) f }) h
 
-      table : (f : Fault) → faults T ≡ f → afterRules f (unless (firstOf ((2, noTop T top) ∷ (3, ltb limit (length m)) ∷ [])) (body T top m)) ≡ bad n p → Refusal T top m n p
+      table : (f : Fault) → faults T ≡ f → afterRules f (refusedFirst (firstOf ((2, noTop T top) ∷ (3, ltb limit (length m)) ∷ [])) (body T top m)) ≡ bad n p → Refusal T top m n p
       table fine e h = early e (noTop T top) refl (ltb limit (length m)) refl h
       table (fault c q) e h = same (broken-table (table-place T q .0 c e)) h
 

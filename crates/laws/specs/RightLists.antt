@@ -28,7 +28,7 @@ use Rattle.encoding.specs.Value.{exact}
 use Rattle.encoding.specs.Grammar.{IsValue}
 use Rattle.encoding.specs.Table.{fine, faults, memberTy, trees}
 use Rattle.encoding.specs.Message.{Row, noTop}
-use Rattle.encoding.specs.Write.{Right, Slot, plan, Chosen, chosen, left, Within, Out, out, stop, next, Given, partOf, prepend}
+use Rattle.encoding.specs.Write.{Right, Slot, plan, Chosen, chosen, left, RowsWithin, Out, out, stop, next, Given, partOf, prepend}
 use Rattle.encoding.specs.Write
 use Rattle.encoding.specs.ExactLaws.{exact-is, is-exact}
 use Rattle.laws.specs.Demands.{All, end, more, BeginsRight, RowFits, NoneRight, at-row, at-count, TwentyOne}
@@ -56,7 +56,7 @@ not-exact t b n = go (exact t b) refl
 
 pub record Rightly (buffer : List ℕ) (ss : List Slot) (rs : List Row) : Type 0 where
   pub order : Chosen ss rs
-  pub within : Within (length buffer) rs
+  pub within : RowsWithin (length buffer) rs
 
 -- some list is right
 pub record Some (buffer : List ℕ) (ss : List Slot) : Type 0 where

@@ -20,7 +20,7 @@ use Rattle.encoding.specs.Number.{leBytes}
 use Rattle.encoding.specs.NumberLaws.{length-leBytes}
 use Rattle.encoding.specs.Types.{Ty}
 use Rattle.encoding.specs.Grammar.{IsValue}
-use Rattle.encoding.specs.Table.{mark, Member, memberTy, trees, ownRows, requiredOf, optionalOf, lookup, chain}
+use Rattle.encoding.specs.Table.{mark, Member, memberTy, trees, ownRows, requiredsIn, optionalsIn, lookup, chain}
 use Rattle.encoding.specs.Table
 use Rattle.encoding.specs.Optional.{Piece, required, optional, skipped, frontBytes, contentBytes, pieceBytes}
 use Rattle.encoding.specs.Slice.{Format, Slice, known, passed, Stand, first, later, isLast, sliceFront, dataBytes, slicesBytes}
@@ -94,23 +94,23 @@ module _ (T : List ℕ) (l : List Ty) where
   abbrev pub Typed : Member → Type 0
   Typed m = m .ty ≡ memberTy T l (m .row)
 
-  pub required-typed : (i : ℕ) (ms : List ℕ) → All Typed (requiredOf T l i ms)
-  unfolding requiredOf
+  pub required-typed : (i : ℕ) (ms : List ℕ) → All Typed (requiredsIn T l i ms)
+  unfolding requiredsIn
   required-typed i [] = end
   required-typed i (m ∷ ms) = go (eqb (mark T m) 0) (required-typed (suc i) ms) (required-typed i ms)
     where
-      go : (t : Bool) → All Typed (requiredOf T l (suc i) ms) → All Typed (requiredOf T l i ms)
-          → All Typed (pick t (record { row = m; key = i; ty = memberTy T l m } ∷ requiredOf T l (suc i) ms) (requiredOf T l i ms))
+      go : (t : Bool) → All Typed (requiredsIn T l (suc i) ms) → All Typed (requiredsIn T l i ms)
+          → All Typed (pick t (record { row = m; key = i; ty = memberTy T l m } ∷ requiredsIn T l (suc i) ms) (requiredsIn T l i ms))
       go true K L = more refl K
       go false K L = L
 
-  pub optional-typed : (ms : List ℕ) → All Typed (optionalOf T l ms)
-  unfolding optionalOf
+  pub optional-typed : (ms : List ℕ) → All Typed (optionalsIn T l ms)
+  unfolding optionalsIn
   optional-typed [] = end
   optional-typed (m ∷ ms) = go (eqb (mark T m) 0) (optional-typed ms)
     where
-      go : (t : Bool) → All Typed (optionalOf T l ms)
-          → All Typed (pick t (optionalOf T l ms) (record { row = m; key = Table.tag T m; ty = memberTy T l m } ∷ optionalOf T l ms))
+      go : (t : Bool) → All Typed (optionalsIn T l ms)
+          → All Typed (pick t (optionalsIn T l ms) (record { row = m; key = Table.tag T m; ty = memberTy T l m } ∷ optionalsIn T l ms))
       go true L = L
       go false L = more refl L
 
@@ -121,8 +121,8 @@ module _ (T : List ℕ) (l : List Ty) where
   abbrev Each : ℕ → List Member → Type 0
   Each i os = All (From i os) os
 
-  required-from : (i : ℕ) (ms : List ℕ) → Each i (requiredOf T l i ms)
-  unfolding requiredOf lookup
+  required-from : (i : ℕ) (ms : List ℕ) → Each i (requiredsIn T l i ms)
+  unfolding requiredsIn lookup
   required-from i [] = end
   required-from i (m ∷ ms) = go (eqb (mark T m) 0) (required-from (suc i) ms) (required-from i ms)
     where
@@ -135,26 +135,26 @@ module _ (T : List ℕ) (l : List Ty) where
       behind : (os : List Member) (x : Member) → From (suc i) os x → From i (this ∷ os) x
       behind os x F = (omega (arith, F .0), rw (ne-eqb (x .key) i (λ q. omega (arith, F .0))) (F .1))
 
-      go : (t : Bool) → Each (suc i) (requiredOf T l (suc i) ms) → Each i (requiredOf T l i ms) → Each i (pick t (this ∷ requiredOf T l (suc i) ms) (requiredOf T l i ms))
-      go true K L = more (ahead (requiredOf T l (suc i) ms)) (all-map (behind (requiredOf T l (suc i) ms)) K)
+      go : (t : Bool) → Each (suc i) (requiredsIn T l (suc i) ms) → Each i (requiredsIn T l i ms) → Each i (pick t (this ∷ requiredsIn T l (suc i) ms) (requiredsIn T l i ms))
+      go true K L = more (ahead (requiredsIn T l (suc i) ms)) (all-map (behind (requiredsIn T l (suc i) ms)) K)
       go false K L = L
 
 module _ (T : List ℕ) (t k : ℕ) {x : Member} where
   -- a member that is found has the type of its row
-  required-ty : lookup k (Table.required T t) ≡ some x → x .ty ≡ memberTy T (trees T) (x .row)
-  unfolding Table.required
+  required-ty : lookup k (Table.requiredMembers T t) ≡ some x → x .ty ≡ memberTy T (trees T) (x .row)
+  unfolding Table.requiredMembers
   required-ty h = lookup-all k (required-typed T (trees T) 0 (ownRows T t)) h
 
-  optional-ty : lookup k (Table.optional T t) ≡ some x → x .ty ≡ memberTy T (trees T) (x .row)
-  unfolding Table.optional
+  optional-ty : lookup k (Table.optionalMembers T t) ≡ some x → x .ty ≡ memberTy T (trees T) (x .row)
+  unfolding Table.optionalMembers
   optional-ty h = lookup-all k (optional-typed T (trees T) (ownRows T t)) h
 
 -- a required member is found by its key
 abbrev pub Found : List Member → Member → Type 0
 Found ms x = lookup (x .key) ms ≡ some x
 
-pub required-found : (T : List ℕ) (t : ℕ) → All (Found (Table.required T t)) (Table.required T t)
-unfolding Table.required
+pub required-found : (T : List ℕ) (t : ℕ) → All (Found (Table.requiredMembers T t)) (Table.requiredMembers T t)
+unfolding Table.requiredMembers
 required-found T t = all-map (λ x F. F .1) (required-from T (trees T) 0 (ownRows T t))
 
 -- ---- the rows of one owner
@@ -178,8 +178,8 @@ module _ (T m : List ℕ) where
     unfolding concat
     others-stand = stands-next (pieceBytes p) (concat pieceBytes ps) S _ refl
 
-  pieceRows-exact : (t : ℕ) (ms : List Member) → All (Found (Table.required T t)) ms → (least : ℕ) (ps : List Piece)
-      → Level ms (Table.optional T t) least ps → (at : ℕ) → Stands m at (concat pieceBytes ps) → All (RowExact T m) (pieceRows T t at ps)
+  pieceRows-exact : (t : ℕ) (ms : List Member) → All (Found (Table.requiredMembers T t)) ms → (least : ℕ) (ps : List Piece)
+      → Level ms (Table.optionalMembers T t) least ps → (at : ℕ) → Stands m at (concat pieceBytes ps) → All (RowExact T m) (pieceRows T t at ps)
   unfolding pieceRows pieceMember contentBytes listRow
   pieceRows-exact t [] F least [] L at S = end
   pieceRows-exact t [] F least (required i b ∷ ps) L at S = absurd L
@@ -189,14 +189,14 @@ module _ (T m : List ℕ) where
   pieceRows-exact t [] F least (skipped k f b ∷ ps) (U, L) at S = pieceRows-exact t [] F (suc k) ps L _ (others-stand (skipped k f b) ps at S)
   pieceRows-exact t (x ∷ ms) F least [] L at S = absurd L
   pieceRows-exact t (x ∷ ms) (more q F) least (required i b ∷ ps) (e, h, L) at S =
-      let f : lookup i (Table.required T t) ≡ some x = rw e q in
+      let f : lookup i (Table.requiredMembers T t) ≡ some x = rw e q in
       listed-exact _ b f (required-ty T t i f) h (content-stands (required i b) ps at S)
       (pieceRows-exact t ms F least ps L _ (others-stand (required i b) ps at S))
   pieceRows-exact t (x ∷ ms) F least (optional k f b ∷ ps) L at S = absurd L
   pieceRows-exact t (x ∷ ms) F least (skipped k f b ∷ ps) L at S = absurd L
 
   owned-exact : (t : ℕ) (ps : List Piece) → Owned T t ps → (at : ℕ) → Stands m at (concat pieceBytes ps) → All (RowExact T m) (pieceRows T t at ps)
-  owned-exact t ps L at S = pieceRows-exact t (Table.required T t) (required-found T t) 0 ps L at S
+  owned-exact t ps L at S = pieceRows-exact t (Table.requiredMembers T t) (required-found T t) 0 ps L at S
 
   -- ---- the rows of slices
 

@@ -26,8 +26,8 @@ module _ (T m : List ℕ) where
   row-of : (d : Member) (at : ℕ) (b : List ℕ) → Stands m at b → RowOf m d b (record { member = d .row; place = at; len = length b })
   row-of d at b S = record { member = refl; bytes = stands-there b S; len = refl }
 
-  level-listed : (t : ℕ) (ms : List Member) → All (Found (Table.required T t)) ms → (least : ℕ) (ps : List Piece)
-      → Level ms (Table.optional T t) least ps → (at : ℕ) → Stands m at (concat pieceBytes ps) → ListedOf T m t ps (pieceRows T t at ps)
+  level-listed : (t : ℕ) (ms : List Member) → All (Found (Table.requiredMembers T t)) ms → (least : ℕ) (ps : List Piece)
+      → Level ms (Table.optionalMembers T t) least ps → (at : ℕ) → Stands m at (concat pieceBytes ps) → ListedOf T m t ps (pieceRows T t at ps)
   unfolding pieceRows pieceMember contentBytes listRow
   level-listed t [] F least [] L at S = ListedOf.none-left
   level-listed t [] F least (required i b ∷ ps) L at S = absurd L
@@ -40,14 +40,14 @@ module _ (T m : List ℕ) where
   level-listed t (d ∷ ms) F least [] L at S = absurd L
   level-listed t (d ∷ ms) (more q F) least (required i b ∷ ps) (e, h, L) at S =
       let p : Piece = required i b in
-      let found : lookup i (Table.required T t) ≡ some d = rw e q in
+      let found : lookup i (Table.requiredMembers T t) ≡ some d = rw e q in
       subst (λ (o : Option Member). ListedOf T m t (p ∷ ps) (listRow o (at + length (frontBytes p)) b (pieceRows T t (at + length (pieceBytes p)) ps))) (sym found)
       (a-required found (row-of d (at + length (frontBytes p)) b (content-stands T m p ps at S)) (level-listed t ms F least ps L (at + length (pieceBytes p)) (others-stand T m p ps at S)))
   level-listed t (d ∷ ms) F least (optional k f b ∷ ps) L at S = absurd L
   level-listed t (d ∷ ms) F least (skipped k f b ∷ ps) L at S = absurd L
 
   owned-listed : (t : ℕ) (ps : List Piece) → Owned T t ps → (at : ℕ) → Stands m at (concat pieceBytes ps) → ListedOf T m t ps (pieceRows T t at ps)
-  owned-listed t ps L at S = level-listed t (Table.required T t) (required-found T t) 0 ps L at S
+  owned-listed t ps L at S = level-listed t (Table.requiredMembers T t) (required-found T t) 0 ps L at S
 
   -- ---- slices
 

@@ -72,28 +72,28 @@ listRow-most none at b rs = omega arith
 listRow-most (some m) at b rs = omega arith
 
 module _ (T : List ℕ) where
-  level-most : (t : ℕ) (ms : List Member) (least : ℕ) (ps : List Piece) → Level ms (Table.optional T t) least ps → (at : ℕ)
-      → length (pieceRows T t at ps) ≤ length ms + above least (Table.optional T t)
+  level-most : (t : ℕ) (ms : List Member) (least : ℕ) (ps : List Piece) → Level ms (Table.optionalMembers T t) least ps → (at : ℕ)
+      → length (pieceRows T t at ps) ≤ length ms + above least (Table.optionalMembers T t)
   unfolding pieceRows pieceMember listRow contentBytes
   level-most t [] least [] L at = omega arith
   level-most t [] least (required i b ∷ ps) L at = absurd L
   level-most t [] least (optional k f b ∷ ps) (K, L) at =
       let one : length (pieceRows T t at (optional k f b ∷ ps)) ≤ suc (length (pieceRows T t (at + length (pieceBytes (optional k f b))) ps)) =
-      listRow-most (lookup k (Table.optional T t)) (at + length (frontBytes (optional k f b))) b (pieceRows T t (at + length (pieceBytes (optional k f b))) ps) in
-      omega (arith, above-found least k (K .rises) (Table.optional T t) (K .found), level-most t [] (suc k) ps L (at + length (pieceBytes (optional k f b))))
+      listRow-most (lookup k (Table.optionalMembers T t)) (at + length (frontBytes (optional k f b))) b (pieceRows T t (at + length (pieceBytes (optional k f b))) ps) in
+      omega (arith, above-found least k (K .rises) (Table.optionalMembers T t) (K .found), level-most t [] (suc k) ps L (at + length (pieceBytes (optional k f b))))
   level-most t [] least (skipped k f b ∷ ps) (U, L) at =
       let none : length (pieceRows T t at (skipped k f b ∷ ps)) ≡ length (pieceRows T t (at + length (pieceBytes (skipped k f b))) ps) = refl in
-      omega (arith, above-less least (suc k) (omega (arith, U .rises)) (Table.optional T t), level-most t [] (suc k) ps L (at + length (pieceBytes (skipped k f b))))
+      omega (arith, above-less least (suc k) (omega (arith, U .rises)) (Table.optionalMembers T t), level-most t [] (suc k) ps L (at + length (pieceBytes (skipped k f b))))
   level-most t (x ∷ ms) least [] L at = absurd L
   level-most t (x ∷ ms) least (required i b ∷ ps) (e, h, L) at =
       let one : length (pieceRows T t at (required i b ∷ ps)) ≤ suc (length (pieceRows T t (at + length (pieceBytes (required i b))) ps)) =
-      listRow-most (lookup i (Table.required T t)) (at + length (frontBytes (required i b))) b (pieceRows T t (at + length (pieceBytes (required i b))) ps) in
+      listRow-most (lookup i (Table.requiredMembers T t)) (at + length (frontBytes (required i b))) b (pieceRows T t (at + length (pieceBytes (required i b))) ps) in
       omega (arith, level-most t ms least ps L (at + length (pieceBytes (required i b))))
   level-most t (x ∷ ms) least (optional k f b ∷ ps) L at = absurd L
   level-most t (x ∷ ms) least (skipped k f b ∷ ps) L at = absurd L
 
   pub pieceRows-most : (t : ℕ) (ps : List Piece) → Owned T t ps → (at : ℕ) → length (pieceRows T t at ps) ≤ field T t 1
-  pieceRows-most t ps L at = omega (arith, level-most t (Table.required T t) 0 ps L at, above-most 0 (Table.optional T t), own-sum T t)
+  pieceRows-most t ps L at = omega (arith, level-most t (Table.requiredMembers T t) 0 ps L at, above-most 0 (Table.optionalMembers T t), own-sum T t)
 
 -- ---- a chain, and a message
 

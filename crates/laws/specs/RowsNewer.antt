@@ -72,7 +72,7 @@ module _ (old new : List ℕ) (X : Extends old new) (top top′ : ℕ) (top-ther
       go (as-tops e f k k′) = record-list (kind new u) r k′
 
   -- nor has an optional whose tag the old owner does not know
-  lost-optional : (t u : ℕ) → Owners old new top top′ t u → (k : ℕ) (n : Member) → lookup k (Table.optional new u) ≡ some n → lookup k (Table.optional old t) ≡ none
+  lost-optional : (t u : ℕ) → Owners old new top top′ t u → (k : ℕ) (n : Member) → lookup k (Table.optionalMembers new u) ≡ some n → lookup k (Table.optionalMembers old t) ≡ none
       → (m : ℕ) → Counterpart old new top top′ m (n .row) → ⊥
   lost-optional t u W k n e z m C = go (C .match) (counterpart-owner u (W .inside) (W .own) false n (optional-own new u k n e) m C)
     where
@@ -84,9 +84,9 @@ module _ (old new : List ℕ) (X : Extends old new) (top top′ : ℕ) (top-ther
           true≢false (sym (required-own new u (C .member .key) (C .member′) b .marked) ∙ ap (λ (x : ℕ). eqb (mark new x) 0) (C .there) ∙ O .marked)
       go₂ (both-optional a b) =
           let same : C .member .key ≡ k =
-          lookup-key (C .member .key) (Table.optional new u) (C .member′) b ∙ optional-own new u (C .member .key) (C .member′) b .tagged refl
-          ∙ ap (tag new) (C .there) ∙ sym (O .tagged refl) ∙ sym (lookup-key k (Table.optional new u) n e) in
-          some≢none (ap (λ (x : ℕ). lookup x (Table.optional old t)) (sym same) ∙ a) z
+          lookup-key (C .member .key) (Table.optionalMembers new u) (C .member′) b ∙ optional-own new u (C .member .key) (C .member′) b .tagged refl
+          ∙ ap (tag new) (C .there) ∙ sym (O .tagged refl) ∙ sym (lookup-key k (Table.optionalMembers new u) n e) in
+          some≢none (ap (λ (x : ℕ). lookup x (Table.optionalMembers old t)) (sym same) ∙ a) z
 
       go : MembersMatch old new (C .owner) (C .owner′) (C .member) (C .member′) → C .owner′ ≡ u → ⊥
       go M f =
@@ -96,30 +96,30 @@ module _ (old new : List ℕ) (X : Extends old new) (top top′ : ℕ) (top-ther
   -- ---- the rows of one owner
 
   module _ (t u : ℕ) (W : Owners old new top top′ t u) where
-    counterpart-required : (i : ℕ) (m n : Member) → lookup i (Table.required old t) ≡ some m → lookup i (Table.required new u) ≡ some n → Counterpart old new top top′ (m .row) (n .row)
+    counterpart-required : (i : ℕ) (m n : Member) → lookup i (Table.requiredMembers old t) ≡ some m → lookup i (Table.requiredMembers new u) ≡ some n → Counterpart old new top top′ (m .row) (n .row)
     counterpart-required i m n e f =
-        let k = lookup-key i (Table.required old t) m e in
+        let k = lookup-key i (Table.requiredMembers old t) m e in
         record {
           owner = t;
           owner′ = u;
           member = m;
           member′ = n;
           owners = W .owners;
-          match = both-required (ap (λ (x : ℕ). lookup x (Table.required old t)) (sym k) ∙ e) (ap (λ (x : ℕ). lookup x (Table.required new u)) (sym k) ∙ f);
+          match = both-required (ap (λ (x : ℕ). lookup x (Table.requiredMembers old t)) (sym k) ∙ e) (ap (λ (x : ℕ). lookup x (Table.requiredMembers new u)) (sym k) ∙ f);
           here = refl;
           there = refl;
         }
 
-    counterpart-optional : (i : ℕ) (m n : Member) → lookup i (Table.optional old t) ≡ some m → lookup i (Table.optional new u) ≡ some n → Counterpart old new top top′ (m .row) (n .row)
+    counterpart-optional : (i : ℕ) (m n : Member) → lookup i (Table.optionalMembers old t) ≡ some m → lookup i (Table.optionalMembers new u) ≡ some n → Counterpart old new top top′ (m .row) (n .row)
     counterpart-optional i m n e f =
-        let k = lookup-key i (Table.optional old t) m e in
+        let k = lookup-key i (Table.optionalMembers old t) m e in
         record {
           owner = t;
           owner′ = u;
           member = m;
           member′ = n;
           owners = W .owners;
-          match = both-optional (ap (λ (x : ℕ). lookup x (Table.optional old t)) (sym k) ∙ e) (ap (λ (x : ℕ). lookup x (Table.optional new u)) (sym k) ∙ f);
+          match = both-optional (ap (λ (x : ℕ). lookup x (Table.optionalMembers old t)) (sym k) ∙ e) (ap (λ (x : ℕ). lookup x (Table.optionalMembers new u)) (sym k) ∙ f);
           here = refl;
           there = refl;
         }
@@ -127,34 +127,34 @@ module _ (old new : List ℕ) (X : Extends old new) (top top′ : ℕ) (top-ther
     -- the row of one piece, before the others
     piece-kept : (p : Piece) (at : ℕ) (rs rs′ : List Row) → Kept old new top top′ rs rs′
         → Kept old new top top′ (listRow (pieceMember new u p) (at + length (frontBytes p)) (contentBytes p) rs)
-        (listRow (pieceMember old t (losePiece (Table.optional old t) p)) (at + length (frontBytes (losePiece (Table.optional old t) p))) (contentBytes (losePiece (Table.optional old t) p)) rs′)
-    unfolding listRow pieceMember losePiece keepOr contentBytes typeOf Table.required
-    piece-kept (required i b) at rs rs′ K = go (lookup i (Table.required old t)) refl (lookup i (Table.required new u)) refl
+        (listRow (pieceMember old t (losePiece (Table.optionalMembers old t) p)) (at + length (frontBytes (losePiece (Table.optionalMembers old t) p))) (contentBytes (losePiece (Table.optionalMembers old t) p)) rs′)
+    unfolding listRow pieceMember losePiece keepOr contentBytes typeOf Table.requiredMembers
+    piece-kept (required i b) at rs rs′ K = go (lookup i (Table.requiredMembers old t)) refl (lookup i (Table.requiredMembers new u)) refl
       where
-        same : typeOf (lookup i (Table.required old t)) ≡ typeOf (lookup i (Table.required new u))
+        same : typeOf (lookup i (Table.requiredMembers old t)) ≡ typeOf (lookup i (Table.requiredMembers new u))
         same =
-            lookup-same 0 i (Table.required old t) (Table.required new u) (required-positions old (trees old) 0 (ownRows old t)) (required-positions new (trees new) 0 (ownRows new u))
+            lookup-same 0 i (Table.requiredMembers old t) (Table.requiredMembers new u) (required-positions old (trees old) 0 (ownRows old t)) (required-positions new (trees new) 0 (ownRows new u))
             (W .match .required-ones)
 
         front : ℕ
         front = at + length (frontBytes (required i b))
 
-        go : (a : Option Member) → lookup i (Table.required old t) ≡ a → (c : Option Member) → lookup i (Table.required new u) ≡ c
+        go : (a : Option Member) → lookup i (Table.requiredMembers old t) ≡ a → (c : Option Member) → lookup i (Table.requiredMembers new u) ≡ c
             → Kept old new top top′ (listRow c front b rs) (listRow a front b rs′)
         go none e none f = K
         go none e (some n) f = absurd (some≢none (ap typeOf f) (sym same ∙ ap typeOf e))
         go (some m) e none f = absurd (some≢none (sym same ∙ ap typeOf e) (ap typeOf f))
         go (some m) e (some n) f = kept (counterpart-required i m n e f) refl refl K
-    piece-kept (optional k f b) at rs rs′ K = go (lookup k (Table.optional old t)) refl (lookup k (Table.optional new u)) refl
+    piece-kept (optional k f b) at rs rs′ K = go (lookup k (Table.optionalMembers old t)) refl (lookup k (Table.optionalMembers new u)) refl
       where
         lose : Option Member → Piece
         lose o = keepOr k f b o
 
-        go : (a : Option Member) → lookup k (Table.optional old t) ≡ a → (c : Option Member) → lookup k (Table.optional new u) ≡ c
+        go : (a : Option Member) → lookup k (Table.optionalMembers old t) ≡ a → (c : Option Member) → lookup k (Table.optionalMembers new u) ≡ c
             → Kept old new top top′ (listRow c (at + length (frontBytes (optional k f b))) b rs) (listRow (pieceMember old t (lose a)) (at + length (frontBytes (lose a))) (contentBytes (lose a)) rs′)
         go none e none g = K
         go none e (some n) g = lost (lost-optional t u W k n g e) K
-        go (some m) e none g = absurd (some≢none (optionals-match k (Table.optional old t) (Table.optional new u) m (W .match .optional-ones) e) (ap typeOf g))
+        go (some m) e none g = absurd (some≢none (optionals-match k (Table.optionalMembers old t) (Table.optionalMembers new u) m (W .match .optional-ones) e) (ap typeOf g))
         go (some m) e (some n) g =
             subst (λ (o : Option Member). Kept old new top top′ (listRow (some n) (at + length (frontBytes (optional k f b))) b rs) (listRow o (at + length (frontBytes (optional k f b))) b rs′)) (sym e)
             (kept (counterpart-optional k m n e g) refl refl K)
@@ -165,7 +165,7 @@ module _ (old new : List ℕ) (X : Extends old new) (top top′ : ℕ) (top-ther
     pieces-kept at [] = ended
     pieces-kept at (p ∷ ps) =
         piece-kept p at _ _ (subst (λ (b : List ℕ). Kept old new top top′ (pieceRows new u (at + length (pieceBytes p)) ps) (pieceRows old t (at + length b) (loseAll old t ps)))
-        (sym (losePiece-bytes (Table.optional old t) p)) (pieces-kept (at + length (pieceBytes p)) ps))
+        (sym (losePiece-bytes (Table.optionalMembers old t) p)) (pieces-kept (at + length (pieceBytes p)) ps))
 
   -- of a record that the old table does not know no row is kept
   pieces-lost : (u : ℕ) → u < types new → isRecord (kind new u) ≡ true → named old (nameOf new u) ≡ none → (at : ℕ) (ps : List Piece) → Kept old new top top′ (pieceRows new u at ps) []

@@ -26,7 +26,7 @@ use Rattle.encoding.specs.NumberLaws.{bytes-end, bytes-take, bytes-drop, byte-w
 use Rattle.encoding.specs.Table.{nameOf, named, base, upward, chain, any}
 use Rattle.encoding.specs.RuleLaws.{named-ok, chain-node}
 use Rattle.encoding.specs.Optional.{Piece}
-use Rattle.encoding.specs.Slice.{Format, compact, sliced, isSliced, Slice, known, passed, bit, formatOf, Stand, first, later, mixed, due, flagForm, Head, head, fields, knownData, wrongLast, Stage, seek, follow, standOf, finished, Meaning, skip, row, wrong, knownMeaning, seekMeaning, meaning, isNone, idForm, meaningForm, enterSlice, slice, Chain, ahead, walk, slices, anyOptional, worth, hasOptionals, idOf, dataBytes, flagBits, sliceFront, isLast, slicesBytes}
+use Rattle.encoding.specs.Slice.{Format, compact, sliced, isSliced, Slice, known, passed, bit, formatOfFlags, Stand, first, later, mixed, due, flagForm, Head, head, fields, knownData, wrongLast, Stage, seek, follow, standOf, finished, Meaning, skip, row, wrong, knownMeaning, seekMeaning, meaning, isNone, idForm, meaningForm, enterSlice, slice, Chain, ahead, walk, slices, anyOptional, worth, hasOptionals, idOf, dataBytes, flagBits, sliceFront, isLast, slicesBytes}
 use Rattle.encoding.specs.SliceLaws.{walk-ended, walk-on}
 use Rattle.encoding.specs.WalkLaws
 use Rattle.encoding.specs.WalkLaws.{Heads, head-ok, heads-later, Sliced, slice-ok, slice-step, Walk, walk-of}
@@ -43,7 +43,7 @@ Agrees (later h) g = h ≡ g
 
 -- a flags byte that is right there, and its bits
 abbrev Flags : Stand → Format → Bool → Bool → ℕ → Type 0
-Flags s g opt last f = (flagForm s f ≡ 0) × (formatOf f ≡ g) × (bit f 4 ≡ opt) × (bit f 32 ≡ last)
+Flags s g opt last f = (flagForm s f ≡ 0) × (formatOfFlags f ≡ g) × (bit f 4 ≡ opt) × (bit f 32 ≡ last)
 
 flags-written : (s : Stand) (g : Format) (opt last : Bool) → Agrees s g → Flags s g opt last (flagBits g (due s g) opt last)
 unfolding flagForm flagBits due mixed firstOf
@@ -96,17 +96,17 @@ id-worth false zero h l = refl
 id-worth false (suc zero) h l = absurd (true≢false h)
 id-worth q (suc (suc n)) h l = absurd (omega arith)
 
-flags-canonical : (s : Stand) (f : ℕ) → flagForm s f ≡ 0 → f ≡ flagBits (formatOf f) (due s (formatOf f)) (bit f 4) (bit f 32)
+flags-canonical : (s : Stand) (f : ℕ) → flagForm s f ≡ 0 → f ≡ flagBits (formatOfFlags f) (due s (formatOfFlags f)) (bit f 4) (bit f 32)
 unfolding flagForm flagBits
 flags-canonical s f h =
     let a = firstOf-ok 13 (ltb 63 f) _ h in
     let b = firstOf-ok 13 (mixed s f) _ (a .1) in
-    let c = firstOf-ok 13 (Bool·beq (due s (formatOf f)) (eqb (f % 4) 0)) _ (b .1) in
+    let c = firstOf-ok 13 (Bool·beq (due s (formatOfFlags f)) (eqb (f % 4) 0)) _ (b .1) in
     let d = firstOf-ok 12 (bit f 8) _ (c .1) in
     let e = firstOf-ok 12 (ltb 1 (f % 4)) _ (d .1) in
-    let id : f % 4 ≡ worth (due s (formatOf f)) 1 = id-worth (due s (formatOf f)) (f % 4) (c .0) (ltb-false 1 (f % 4) (e .0)) in
+    let id : f % 4 ≡ worth (due s (formatOfFlags f)) 1 = id-worth (due s (formatOfFlags f)) (f % 4) (c .0) (ltb-false 1 (f % 4) (e .0)) in
     let opt : 4 * (f / 4 % 2) ≡ worth (bit f 4) 4 = bit-worth (f / 4 % 2) 4 (omega arith) in
-    let fmt : 16 * (f / 16 % 2) ≡ worth (isSliced (formatOf f)) 16 = bit-worth (f / 16 % 2) 16 (omega arith) ∙ ap (λ (q : Bool). worth q 16) (sym (format-bit (bit f 16))) in
+    let fmt : 16 * (f / 16 % 2) ≡ worth (isSliced (formatOfFlags f)) 16 = bit-worth (f / 16 % 2) 16 (omega arith) ∙ ap (λ (q : Bool). worth q 16) (sym (format-bit (bit f 16))) in
     let last : 32 * (f / 32 % 2) ≡ worth (bit f 32) 32 = bit-worth (f / 32 % 2) 32 (omega arith) in
     let three : f / 8 % 2 ≡ 0 = zero-bit (f / 8 % 2) (omega arith) (eqb-false (f / 8 % 2) 1 (d .0)) in
     bits-of f (omega (arith, ltb-false 63 f (a .0))) three ∙ ap₂ _+_ (ap₂ _+_ (ap₂ _+_ id opt) fmt) last
@@ -151,10 +151,10 @@ module _ (s : Stand) (form : Format → List ℕ → ℕ) where
       let f : ℕ = flagBits g (due s g) opt last in
       let w : List ℕ = pick (due s g) (stringBytes nm) [] in
       let F : Flags s g opt last f = flags-written s g opt last a in
-      let next : idP (formatOf f) (bit f 4) (bit f 32) (w ++ r) ≡ ok (headOf g opt last (pick (due s g) nm [])) (length w) =
+      let next : idP (formatOfFlags f) (bit f 4) (bit f 32) (w ++ r) ≡ ok (headOf g opt last (pick (due s g) nm [])) (length w) =
       ap (λ (g : Format). idP g (bit f 4) (bit f 32) (w ++ r)) (F .1) ∙ ap₂ (λ (o l : Bool). idP g o l (w ++ r)) (F .2) (F .3)
       ∙ mapc-step (pick (due s g) (must (form g) string) (pure [])) (w ++ r) (λ nm _. headOf g opt last nm) (id-written (due s g) g nm r G) in
-      bind-step (must (flagForm s) byte) (λ f. idP (formatOf f) (bit f 4) (bit f 32)) (f ∷ (w ++ r)) (must-step byte (f ∷ (w ++ r)) (flagForm s) (byte-written f (w ++ r)) (F .0)) next
+      bind-step (must (flagForm s) byte) (λ f. idP (formatOfFlags f) (bit f 4) (bit f 32)) (f ∷ (w ++ r)) (must-step byte (f ∷ (w ++ r)) (flagForm s) (byte-written f (w ++ r)) (F .0)) next
       ∙ ap (ok (headOf g opt last (pick (due s g) nm []))) (omega arith)
 
   pub record Fronted (h : Head) (z : List ℕ) : Type 0 where

@@ -24,7 +24,7 @@ use Rattle.encoding.specs.Optional.{Piece, required, optional, skipped, pieceBy
 use Rattle.encoding.specs.Slice.{Format, compact, sliced, formatNumber, Slice, known, passed, Stand, first, later, slicesBytes, dataBytes, sliceFront, isLast}
 use Rattle.encoding.specs.Message.{Pieces, list, exception, class, encode, encapsulate, noTop, Row, listRow, pieceMember, pieceRows, sliceRows, orZero, firstIn, firstKnown, rows, rowBytes, skippedPieces, skippedIn, passedIn, optionalsSkipped, slicesSkipped}
 use Rattle.encoding.specs.MessageLaws.{length-rows}
-use Rattle.encoding.specs.Write.{Slot, rising, slot, slots, planOf, plan, out, Given, partOf, piecesOf, slicesOf, gathered, noFormat, formatOf}
+use Rattle.encoding.specs.Write.{Slot, rising, slot, slots, planOf, plan, out, Given, partOf, piecesOf, slicesOf, gathered, noFormat, formatOfNumber}
 use Rattle.encoding.specs.Conform.{Level, Owned, Follow, Slices, Conform}
 use Rattle.encoding.specs.ExactLaws.{is-exact}
 use Rattle.laws.specs.Demands.{Follows, All, more, SameMembers, same-member, Complete, WriteAgain, WriteSame, OneMessage}
@@ -123,30 +123,30 @@ module _ (T m : List ℕ) (t : ℕ) where
       go false e true f K ih = absurd (omega (arith, leb-false least (d .key) e, leb-true n (d .key) f))
       go false e false f K ih = ih K
 
-  level-judged : Ordered T t → (ms : List Member) → All (Found (Table.required T t)) ms → (least : ℕ) (ps : List Piece) → Level ms (Table.optional T t) least ps
+  level-judged : Ordered T t → (ms : List Member) → All (Found (Table.requiredMembers T t)) ms → (least : ℕ) (ps : List Piece) → Level ms (Table.optionalMembers T t) least ps
       → (at : ℕ) → Stands m at (concat pieceBytes ps)
-      → Judged m (map (slot t true) ms ++ map (slot t false) (from least (rising (Table.optional T t)))) (pieceRows T t at ps) (map (givenTo t) (keptPieces ps))
+      → Judged m (map (slot t true) ms ++ map (slot t false) (from least (rising (Table.optionalMembers T t)))) (pieceRows T t at ps) (map (givenTo t) (keptPieces ps))
   unfolding pieceRows pieceMember listRow contentBytes keptPieces givenOf slot
-  level-judged O [] F least [] L at S = missed-optionals (from least (rising (Table.optional T t)))
+  level-judged O [] F least [] L at S = missed-optionals (from least (rising (Table.optionalMembers T t)))
   level-judged O [] F least (required i b ∷ ps) L at S = absurd L
   level-judged O [] F least (optional k f b ∷ ps) (K, L) at S =
       let d : Member = K .member in
-      let key : k ≡ d .key = lookup-key k (Table.optional T t) d (K .found) in
+      let key : k ≡ d .key = lookup-key k (Table.optionalMembers T t) d (K .found) in
       let p : Piece = optional k f b in
       let ih = level-judged O [] F (suc k) ps L (at + length (pieceBytes p)) (others-stand T m p ps at S) in
-      subst (λ (o : Option Member). Judged m (map (slot t false) (from least (rising (Table.optional T t)))) (listRow o (at + length (frontBytes p)) b (pieceRows T t (at + length (pieceBytes p)) ps)) (map (givenTo t) (p ∷ keptPieces ps)))
+      subst (λ (o : Option Member). Judged m (map (slot t false) (from least (rising (Table.optionalMembers T t)))) (listRow o (at + length (frontBytes p)) b (pieceRows T t (at + length (pieceBytes p)) ps)) (map (givenTo t) (p ∷ keptPieces ps)))
       (sym (K .found))
-      (find-judged (map (slot t false) (from least (rising (Table.optional T t)))) _ (optional-spot t k least (O .rows) (O .keys) (K .found) (K .rises))
+      (find-judged (map (slot t false) (from least (rising (Table.optionalMembers T t)))) _ (optional-spot t k least (O .rows) (O .keys) (K .found) (K .rises))
       (row-taken (slot t false d) (givenTo t p) (at + length (frontBytes p)) b (ap₂ (λ (n : ℕ) (x : Form). givenTo t (optional n x b)) (sym key) (sym (K .form))) (K .one) (content-stands T m p ps at S)
-      (subst (λ (n : ℕ). Judged m (map (slot t false) (from (suc n) (rising (Table.optional T t)))) (pieceRows T t (at + length (pieceBytes p)) ps) (map (givenTo t) (keptPieces ps))) key ih)))
+      (subst (λ (n : ℕ). Judged m (map (slot t false) (from (suc n) (rising (Table.optionalMembers T t)))) (pieceRows T t (at + length (pieceBytes p)) ps) (map (givenTo t) (keptPieces ps))) key ih)))
   level-judged O [] F least (skipped k f b ∷ ps) (U, L) at S =
-      judged-earlier least (suc k) (omega (arith, U .rises)) (rising (Table.optional T t))
+      judged-earlier least (suc k) (omega (arith, U .rises)) (rising (Table.optionalMembers T t))
       (level-judged O [] F (suc k) ps L (at + length (pieceBytes (skipped k f b))) (others-stand T m (skipped k f b) ps at S))
   level-judged O (d ∷ ds) F least [] L at S = absurd L
   level-judged O (d ∷ ds) (more q F) least (required i b ∷ ps) (e, x, L) at S =
       let p : Piece = required i b in
-      let found : lookup i (Table.required T t) ≡ some d = rw e q in
-      subst (λ (o : Option Member). Judged m (map (slot t true) (d ∷ ds) ++ map (slot t false) (from least (rising (Table.optional T t)))) (listRow o (at + length (frontBytes p)) b (pieceRows T t (at + length (pieceBytes p)) ps)) (map (givenTo t) (p ∷ keptPieces ps)))
+      let found : lookup i (Table.requiredMembers T t) ≡ some d = rw e q in
+      subst (λ (o : Option Member). Judged m (map (slot t true) (d ∷ ds) ++ map (slot t false) (from least (rising (Table.optionalMembers T t)))) (listRow o (at + length (frontBytes p)) b (pieceRows T t (at + length (pieceBytes p)) ps)) (map (givenTo t) (p ∷ keptPieces ps)))
       (sym found)
       (row-taken (slot t true d) (givenTo t p) (at + length (frontBytes p)) b (ap (λ (n : ℕ). givenTo t (required n b)) (sym e)) x (content-stands T m p ps at S)
       (level-judged O ds F least ps L (at + length (pieceBytes p)) (others-stand T m p ps at S)))
@@ -156,8 +156,8 @@ module _ (T m : List ℕ) (t : ℕ) where
   owned-judged : Ordered T t → (ps : List Piece) → Owned T t ps → (at : ℕ) → Stands m at (concat pieceBytes ps) → Judged m (slots T t) (pieceRows T t at ps) (map (givenTo t) (keptPieces ps))
   unfolding slots
   owned-judged O ps L at S =
-      subst (λ (l : List Member). Judged m (map (slot t true) (Table.required T t) ++ map (slot t false) l) (pieceRows T t at ps) (map (givenTo t) (keptPieces ps))) (from-zero (rising (Table.optional T t)))
-      (level-judged O (Table.required T t) (required-found T t) 0 ps L at S)
+      subst (λ (l : List Member). Judged m (map (slot t true) (Table.requiredMembers T t) ++ map (slot t false) l) (pieceRows T t at ps) (map (givenTo t) (keptPieces ps))) (from-zero (rising (Table.optionalMembers T t)))
+      (level-judged O (Table.requiredMembers T t) (required-found T t) 0 ps L at S)
 
 -- ---- the rows of a chain
 
@@ -263,8 +263,8 @@ module _ (T : List ℕ) (right : faults T ≡ fine) (top : ℕ) where
 
 -- ---- written again
 
-pub format-again : (f : Format) → formatOf (formatNumber f) ≡ f
-unfolding formatOf
+pub format-again : (f : Format) → formatOfNumber (formatNumber f) ≡ f
+unfolding formatOfNumber
 format-again compact = refl
 format-again sliced = refl
 

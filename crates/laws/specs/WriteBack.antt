@@ -23,10 +23,10 @@ use Rattle.encoding.specs.Optional.{Piece, pieceBytes, frontBytes, contentBytes
 use Rattle.encoding.specs.Slice.{Format, compact, sliced, formatNumber, Slice, known, Stand, first, later, slicesBytes, dataBytes, sliceFront, isLast}
 use Rattle.encoding.specs.Message.{Pieces, list, exception, class, encode, encapsulate, noTop, limit, Row, listRow, pieceRows, sliceRows, orZero, firstIn, firstKnown, rows, skippedPieces, skippedIn, passedIn, optionalsSkipped, slicesSkipped}
 use Rattle.encoding.specs.Write
-use Rattle.encoding.specs.Write.{Slot, rising, slot, slots, planOf, plan, Given, partOf, piecesOf, slicesOf, gathered, noFormat, formatOf}
+use Rattle.encoding.specs.Write.{Slot, rising, slot, slots, planOf, plan, Given, partOf, piecesOf, slicesOf, gathered, noFormat, formatOfNumber}
 use Rattle.encoding.specs.Conform.{Level, Owned, Follow, Slices, Conform}
 use Rattle.encoding.specs.ExactLaws.{exact-is}
-use Rattle.laws.specs.Demands.{readAs, All, end, more, SameMembers, no-members, same-member, Below, rowList, Complete, ReadBack}
+use Rattle.laws.specs.Demands.{readAs, All, end, more, SameMembers, no-members, same-member, UnderTop, rowList, Complete, ReadBack}
 use Rattle.laws.specs.RowsExact.{Stands, stands-first, stands-next, stands-there, stands-encapsulated, content-stands, others-stand, data-stand, slices-stand}
 use Rattle.laws.specs.RecordNewer.{Line, here, above, descends-ok}
 use Rattle.laws.specs.MessageExact.{rules-written}
@@ -39,7 +39,7 @@ use Rattle.laws.specs.MessageWritten.{writing-ok}
 
 module _ (T : List ℕ) (t : ℕ) (buffer : List ℕ) where
   judged-level : length buffer ≤ limit → (ms os : List Member) (least : ℕ) → Pairs KeysRise os → All (λ (d : Member). least ≤ d .key) os → All (λ (d : Member). Fit T (slot t false d)) os
-      → {rs : List Row} {gs : List Given} → Judged buffer (map (slot t true) ms ++ map (slot t false) os) rs gs → Level ms (Table.optional T t) least (piecesIn gs)
+      → {rs : List Row} {gs : List Given} → Judged buffer (map (slot t true) ms ++ map (slot t false) os) rs gs → Level ms (Table.optionalMembers T t) least (piecesIn gs)
   unfolding slot givenOf
   judged-level h [] [] least P L F over = tt
   judged-level h [] (d ∷ os) least (before p P) (more l L) (more f F) (taken {r = r} e i x K) = (
@@ -94,7 +94,7 @@ pub record Carries (T buffer ts : List ℕ) (rs : List Row) (ss : List Slice) : 
 module _ (T buffer : List ℕ) (right : faults T ≡ fine) (short : length buffer ≤ limit) where
   judged-owned : (t : ℕ) → Owner T t → {rs : List Row} {gs : List Given} → Judged buffer (slots T t) rs gs → Owned T t (piecesIn gs)
   unfolding slots
-  judged-owned t O K = judged-level T t buffer short (Table.required T t) (rising (Table.optional T t)) 0 (owner-ordered T t right O .keys) (all-any (λ d. omega arith) _) (all-rising (optional-fit T t right O)) K
+  judged-owned t O K = judged-level T t buffer short (Table.requiredMembers T t) (rising (Table.optionalMembers T t)) 0 (owner-ordered T t right O .keys) (all-any (λ d. omega arith) _) (all-rising (optional-fit T t right O)) K
 
   listed-owned : (m : List ℕ) (t : ℕ) → Owner T t → {rs : List Row} {gs : List Given} → Judged buffer (slots T t) rs gs
       → (at : ℕ) → Stands m at (concat pieceBytes (piecesIn gs)) → SameMembers buffer m rs (pieceRows T t at (piecesIn gs))
@@ -133,7 +133,7 @@ pub record Gathers (T buffer : List ℕ) (top type : ℕ) (f : Format) (rs : Lis
   pub of-type : firstKnown T top p ≡ type
   pub listed : SameMembers buffer (encapsulate (encode f p)) rs (rows T top f p)
 
-module _ (T buffer : List ℕ) (right : faults T ≡ fine) (short : length buffer ≤ limit) (type : ℕ) (there : noTop T type ≡ false) (top : ℕ) (below : Below T top type)
+module _ (T buffer : List ℕ) (right : faults T ≡ fine) (short : length buffer ≤ limit) (type : ℕ) (there : noTop T type ≡ false) (top : ℕ) (below : UnderTop T top type)
     {rs : List Row} {gs : List Given} (K : Judged buffer (plan T type) rs gs) where
   abbrev pub Makes : Format → Pieces → Type 0
   Makes f p = Gathers T buffer top type f rs p
@@ -198,8 +198,8 @@ module _ (T buffer : List ℕ) (right : faults T ≡ fine) (short : length buffe
             (carries .listed _ f first 6 (stands-encapsulated _));
       }
 
-  pub gathers : (format : ℕ) → noFormat (kind T type) format ≡ false → Makes (formatOf format) (gathered T type gs) × (formatNumber (formatOf format) ≡ format)
-  unfolding gathered noFormat formatOf
+  pub gathers : (format : ℕ) → noFormat (kind T type) format ≡ false → Makes (formatOfNumber format) (gathered T type gs) × (formatNumber (formatOfNumber format) ≡ format)
+  unfolding gathered noFormat formatOfNumber
   gathers format h =
       let s = either-false (ltb 1 format) (eqb format 0 && eqb (kind T type) 15) h in
       let l = ltb-false 1 format (s .0) in
@@ -228,11 +228,11 @@ read-back T top type format count rs buffer room m h below =
     let R = chain-top T (C .table) type (C .there) top below in
     let there : noTop T top ≡ false = top-step T top (R .below) (omega (arith, R .alike, top-there T type (C .there) .1)) in
     record {
-      read = readAs (formatOf format) p;
+      read = readAs (formatOfNumber format) p;
       taken = length m;
-      accepted = rules-written T top m (formatOf format) p (record { table = C .table; top-there = there; short = W .short; conforms = G .0 .conforms; encoded = C .made });
+      accepted = rules-written T top m (formatOfNumber format) p (record { table = C .table; top-there = there; short = W .short; conforms = G .0 .conforms; encoded = C .made });
       of-type = G .0 .of-type;
       in-format = G .1;
       complete = G .0 .complete;
-      members = subst (λ (z : List ℕ). SameMembers buffer z (rowList count rs) (rows T top (formatOf format) p)) (sym (C .made)) (G .0 .listed);
+      members = subst (λ (z : List ℕ). SameMembers buffer z (rowList count rs) (rows T top (formatOfNumber format) p)) (sym (C .made)) (G .0 .listed);
     }

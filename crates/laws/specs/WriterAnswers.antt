@@ -19,9 +19,9 @@ use Rattle.encoding.specs.Result.{pick, firstOf}
 use Rattle.encoding.specs.Table.{kind, Fault, fine, fault, faults, ruleNumber, any}
 use Rattle.encoding.specs.Slice.{Format, formatNumber}
 use Rattle.encoding.specs.Message.{Pieces, Row, encode, encapsulate, noTop, limit, rows}
-use Rattle.encoding.specs.Write.{Out, out, stop, next, Given, noFormat, formatOf, tableRules, early, unless, rowsGiven, gathered, plan, message, bounded, writing}
+use Rattle.encoding.specs.Write.{Out, out, stop, next, Given, noFormat, formatOfNumber, tableRules, early, stoppedFirst, rowsGiven, gathered, plan, message, bounded, writing}
 use Rattle.encoding.specs.Conform.{Conform}
-use Rattle.laws.specs.Demands.{readAs, SameMembers, no-members, same-member, Below, rowList, Ready, Early, table-refused, type-refused, format-refused, buffer-refused, EarlyRefused, Twenty, too-few, none-right, RightLists, TwentyOne, WrongBytes, Writable, MessageOf, RightMakes, TwentyTwo, TooLong, WrittenAs, RightWritten}
+use Rattle.laws.specs.Demands.{readAs, SameMembers, no-members, same-member, UnderTop, rowList, Ready, Early, table-refused, type-refused, format-refused, buffer-refused, EarlyRefused, Twenty, too-few, none-right, RightLists, TwentyOne, WrongBytes, Writable, MessageOf, RightMakes, TwentyTwo, TooLong, WrittenAs, RightWritten}
 use Rattle.laws.specs.PlanLaws.{out≢stop, judged-ok}
 use Rattle.laws.specs.PlanRules.{chain-above, judging, judging-slots}
 use Rattle.laws.specs.MessageWritten.{Composed, message-ok, message-step, writing-ok, writing-step, too-long}
@@ -39,7 +39,7 @@ module _ (T : List ℕ) (type format count : ℕ) (rs buffer : List ℕ) where
     at-rows : Ready T type format buffer → 12 * count ≤ length rs → judging T type buffer (rowList count rs) ≡ stop n i → Ends n i
 
   ends-message : {n i : ℕ} → Ends n i → message T type format count rs buffer ≡ stop n i
-  unfolding message tableRules ruleNumber early unless firstOf rowsGiven next
+  unfolding message tableRules ruleNumber early stoppedFirst firstOf rowsGiven next
   ends-message (before (table-refused e)) = rw e
   ends-message (before (type-refused e a)) = rw (e, a)
   ends-message (before (format-refused e a b)) = rw (e, a, b)
@@ -71,7 +71,7 @@ module _ (T : List ℕ) (type format count : ℕ) (rs buffer : List ℕ) where
           rows false ed o eo R = same (few R (leb-false (12 * count) (length rs) ed) refl refl)
           rows true ed (stop k p) eo R = same (at-rows R (leb-true (12 * count) (length rs) ed) eo)
           rows true ed (out gs) eo R =
-              let C : Composed T type format count rs buffer (encapsulate (encode (formatOf format) (gathered T type gs))) =
+              let C : Composed T type format count rs buffer (encapsulate (encode (formatOfNumber format) (gathered T type gs))) =
               record { table = R .table; there = R .there; formed = R .formed; short = R .short; enough = leb-true (12 * count) (length rs) ed; given = gs; judged = eo; made = refl } in
               absurd (out≢stop (message-step T type format count rs buffer C) h)
 
@@ -132,7 +132,7 @@ wrong-bytes T type format count rs buffer room i = (
 
 -- ---- the message
 
-below-itself : (T : List ℕ) → faults T ≡ fine → (type : ℕ) → noTop T type ≡ false → Below T type type
+below-itself : (T : List ℕ) → faults T ≡ fine → (type : ℕ) → noTop T type ≡ false → UnderTop T type type
 unfolding any
 below-itself T right type there = rw (chain-above T right type there, eq-eqb type type refl)
 
@@ -148,20 +148,20 @@ module _ (T : List ℕ) (type format count : ℕ) (rs buffer : List ℕ) where
       let G = gathers T buffer (C .table) (C .short) type (C .there) type (below-itself T (C .table) type (C .there)) K format (C .formed) in
       let p : Pieces = gathered T type (C .given) in
       record {
-        read = readAs (formatOf format) p;
+        read = readAs (formatOfNumber format) p;
         in-format = G .1;
         conforms = G .0 .conforms;
         of-type = G .0 .of-type;
         complete = G .0 .complete;
         encoded = C .made;
-        members = subst (λ (z : List ℕ). SameMembers buffer z (rowList count rs) (rows T type (formatOf format) p)) (sym (C .made)) (G .0 .listed);
+        members = subst (λ (z : List ℕ). SameMembers buffer z (rowList count rs) (rows T type (formatOfNumber format) p)) (sym (C .made)) (G .0 .listed);
       }
 
   writable-composed : Writable T type format count rs buffer → (m : List ℕ) × Composed T type format count rs buffer m
   writable-composed W =
       let R = W .ready in
       let J = judging-right T type buffer (rowList count rs) (R .table) (R .there) (W .right) (W .fits) in (
-        encapsulate (encode (formatOf format) (gathered T type (J .0))),
+        encapsulate (encode (formatOfNumber format) (gathered T type (J .0))),
         record { table = R .table; there = R .there; formed = R .formed; short = R .short; enough = W .enough; given = J .0; judged = J .1; made = refl },
       )
 
@@ -171,7 +171,7 @@ same-across (same-member e p l M) (same-member f q k O) = same-member (sym e ∙
 
 -- formats of one number are one
 format-one : (f g : Format) → formatNumber f ≡ formatNumber g → f ≡ g
-format-one f g e = sym (format-again f) ∙ ap formatOf e ∙ format-again g
+format-one f g e = sym (format-again f) ∙ ap formatOfNumber e ∙ format-again g
 
 -- rows have one message
 message-one : (T : List ℕ) (type format : ℕ) (rs : List Row) (buffer m o : List ℕ) → faults T ≡ fine → noTop T type ≡ false

@@ -18,7 +18,7 @@ use Rattle.encoding.specs.Types.{Bits, bits, bitsAt, Form, formOf, Ty}
 use Rattle.encoding.specs.TypesLaws.{bits-back}
 use Rattle.encoding.specs.Value.{value}
 use Rattle.encoding.specs.Table.{tyOf, Member, lookup}
-use Rattle.encoding.specs.Optional.{optional, skipped, Header, header, extent, part, content, optionalOf}
+use Rattle.encoding.specs.Optional.{optional, skipped, Header, header, extent, part, content, nextOptional}
 use Rattle.encoding.specs.OptionalLaws.{held-header, held-extent}
 use Rattle.shapes.specs.Shapes.{shapesOf, formIn}
 use Rattle.table.specs.Tags.{optionalFrom}
@@ -93,8 +93,8 @@ module _ (T : List ℕ) (end from least : ℕ) (s : List ℕ) (h : Head) (e : h 
       go (ok x l) f z = by-member x l f (lookup (x .tag) (optionalFrom T end from)) refl z
       go (bad c p) f z = let w : _≡_ {A = ℕ} 0 1 = cc in absurd (omega arith)
 
-  pub next-wrong : (c p : ℕ) → h ≡ Errs c p → Wrong c p ≡ optionalAnswer (optionalFrom T end from) (optionalOf (optionalFrom T end from) least s)
-  unfolding headOf headFor optionalOf _>>=_ after optionalAnswer
+  pub next-wrong : (c p : ℕ) → h ≡ Errs c p → Wrong c p ≡ optionalAnswer (optionalFrom T end from) (nextOptional (optionalFrom T end from) least s)
+  unfolding headOf headFor nextOptional _>>=_ after optionalAnswer
   next-wrong c p q = go (header (optionalFrom T end from) least s) refl (sym q ∙ e)
     where
       by-member : (x : Header) (l : ℕ) (o : Option Member) → Errs c p ≡ headFor T o x l → _≡_ {A = ℕ} 0 1
@@ -102,7 +102,7 @@ module _ (T : List ℕ) (end from least : ℕ) (s : List ℕ) (h : Head) (e : h 
       by-member x l (some m) z = cc
 
       go : (x : Res Header) → header (optionalFrom T end from) least s ≡ x → Errs c p ≡ headOf T (optionalFrom T end from) x
-          → Wrong c p ≡ optionalAnswer (optionalFrom T end from) (optionalOf (optionalFrom T end from) least s)
+          → Wrong c p ≡ optionalAnswer (optionalFrom T end from) (nextOptional (optionalFrom T end from) least s)
       go (ok x l) f z = let w = by-member x l (lookup (x .tag) (optionalFrom T end from)) z in absurd (omega arith)
       go (bad d y) f z = let g : header (optionalFrom T end from) least s ≡ bad c p = f ∙ cc in rw g
 
@@ -122,9 +122,9 @@ module _ (T : List ℕ) (end from least : ℕ) (s : List ℕ) (h : Head) (e : h 
         ep ∙ ap₂ (λ (a : Form) (b : Ty). bytesOf (inside (part a) (bytes (value b)) (take (length s - n) (drop n s)))) f (K .type)
         ∙ ap (λ (l : List ℕ). bytesOf (inside (part (formOf (K .member .ty))) (bytes (value (K .member .ty))) l)) (rest-is s n)
 
-    known-is : (K : HeadKnown T end from least s row ty tag n g) → optionalOf (optionalFrom T end from) least s
+    known-is : (K : HeadKnown T end from least s row ty tag n g) → nextOptional (optionalFrom T end from) least s
         ≡ shift n (made (λ x _. (x, suc (K .head .tag))) (made (λ b _. optional (K .head .tag) (formOf (K .member .ty)) b) (inside (part (formOf (K .member .ty))) (bytes (value (K .member .ty))) (drop n s))))
-    unfolding optionalOf _>>=_ after mapc content
+    unfolding nextOptional _>>=_ after mapc content
     known-is K = rw (K .is, K .there)
 
     module _ (l j : ℕ) (z : p ≡ Is l j) where
@@ -150,15 +150,15 @@ module _ (T : List ℕ) (end from least : ℕ) (s : List ℕ) (h : Head) (e : h 
       pub known-from : Fits w64 (length s) → Fits w64 (n + (j - l))
       known-from f = omega (arith, known-end f)
 
-      pub next-known : Known row tag (n + (j - l)) (n + j) ≡ optionalAnswer (optionalFrom T end from) (optionalOf (optionalFrom T end from) least s)
+      pub next-known : Known row tag (n + (j - l)) (n + j) ≡ optionalAnswer (optionalFrom T end from) (nextOptional (optionalFrom T end from) least s)
       unfolding shift made optionalAnswer pieceAnswer rowOr
       next-known = go (head-known row ty tag n g q)
         where
-          go : HeadKnown T end from least s row ty tag n g → Known row tag (n + (j - l)) (n + j) ≡ optionalAnswer (optionalFrom T end from) (optionalOf (optionalFrom T end from) least s)
+          go : HeadKnown T end from least s row ty tag n g → Known row tag (n + (j - l)) (n + j) ≡ optionalAnswer (optionalFrom T end from) (nextOptional (optionalFrom T end from) least s)
           go K = more (known-read K)
             where
               more : (d : List ℕ) × (inside (part (formOf (K .member .ty))) (bytes (value (K .member .ty))) (drop n s) ≡ ok d j) × (l ≡ length d)
-                  → Known row tag (n + (j - l)) (n + j) ≡ optionalAnswer (optionalFrom T end from) (optionalOf (optionalFrom T end from) least s)
+                  → Known row tag (n + (j - l)) (n + j) ≡ optionalAnswer (optionalFrom T end from) (nextOptional (optionalFrom T end from) least s)
               more D =
                   let w : n + j - length (D .0) ≡ n + (j - l) = omega (arith, D .2, known-sum K) in
                   sym (ap (optionalAnswer (optionalFrom T end from)) (known-is K) ∙ rw (D .1, K .there, K .row-is, K .tag-is, w))
@@ -171,11 +171,11 @@ module _ (T : List ℕ) (end from least : ℕ) (s : List ℕ) (h : Head) (e : h 
             let D = bytes-isnt (inside (part (formOf (K .member .ty))) (bytes (value (K .member .ty))) (drop n s)) c k (sym z ∙ known-part K) in
             omega (arith, used-placed (formOf (K .member .ty)) (K .member .ty) (drop n s) c k D, length-drop n s, head-fits row ty tag n g q)
 
-    pub next-refused : (c k : ℕ) → p ≡ Isnt c k → Wrong c (n + k) ≡ optionalAnswer (optionalFrom T end from) (optionalOf (optionalFrom T end from) least s)
+    pub next-refused : (c k : ℕ) → p ≡ Isnt c k → Wrong c (n + k) ≡ optionalAnswer (optionalFrom T end from) (nextOptional (optionalFrom T end from) least s)
     unfolding shift made optionalAnswer
     next-refused c k z = go (head-known row ty tag n g q)
       where
-        go : HeadKnown T end from least s row ty tag n g → Wrong c (n + k) ≡ optionalAnswer (optionalFrom T end from) (optionalOf (optionalFrom T end from) least s)
+        go : HeadKnown T end from least s row ty tag n g → Wrong c (n + k) ≡ optionalAnswer (optionalFrom T end from) (nextOptional (optionalFrom T end from) least s)
         go K =
             sym (ap (optionalAnswer (optionalFrom T end from)) (known-is K)
             ∙ rw (bytes-isnt (inside (part (formOf (K .member .ty))) (bytes (value (K .member .ty))) (drop n s)) c k (sym z ∙ known-part K)))
@@ -188,9 +188,9 @@ module _ (T : List ℕ) (end from least : ℕ) (s : List ℕ) (h : Head) (e : h 
         ep ∙ ap (λ (l : List ℕ). bytesOf (extent (bitsAt k) l)) (rest-is s n)
         ∙ ap (λ (b : Bits). bytesOf (extent b (drop n s))) (ap bitsAt (sym (L .bits-is)) ∙ bits-back (L .head .type))
 
-    skipped-is : (L : HeadLost T end from least s tag k n) → optionalOf (optionalFrom T end from) least s
+    skipped-is : (L : HeadLost T end from least s tag k n) → nextOptional (optionalFrom T end from) least s
         ≡ shift n (made (λ x _. (x, suc (L .head .tag))) (made (λ b _. skipped (L .head .tag) (L .head .type) b) (bytes (extent (L .head .type)) (drop n s))))
-    unfolding optionalOf _>>=_ after mapc content
+    unfolding nextOptional _>>=_ after mapc content
     skipped-is L = rw (L .is, L .there)
 
     pub skipped-end : (l e : ℕ) → p ≡ Is l e → Fits w64 (length s) → Fits w64 (n + e)
@@ -209,21 +209,21 @@ module _ (T : List ℕ) (end from least : ℕ) (s : List ℕ) (h : Head) (e : h 
             let D = bytes-isnt (extent (L .head .type) (drop n s)) c y (sym z ∙ skipped-part L) in
             omega (arith, held-refused (extent (L .head .type)) (held-extent (L .head .type)) (drop n s) D, length-drop n s, lost-fits tag k n q)
 
-    pub next-skipped : (l e : ℕ) → p ≡ Is l e → Skipped tag (n + e) ≡ optionalAnswer (optionalFrom T end from) (optionalOf (optionalFrom T end from) least s)
+    pub next-skipped : (l e : ℕ) → p ≡ Is l e → Skipped tag (n + e) ≡ optionalAnswer (optionalFrom T end from) (nextOptional (optionalFrom T end from) least s)
     unfolding shift made bytes optionalAnswer pieceAnswer
     next-skipped l e z = go (head-lost tag k n q)
       where
-        go : HeadLost T end from least s tag k n → Skipped tag (n + e) ≡ optionalAnswer (optionalFrom T end from) (optionalOf (optionalFrom T end from) least s)
+        go : HeadLost T end from least s tag k n → Skipped tag (n + e) ≡ optionalAnswer (optionalFrom T end from) (nextOptional (optionalFrom T end from) least s)
         go L = more (bytes-is (extent (L .head .type) (drop n s)) l e (sym z ∙ skipped-part L))
           where
-            more : (d : List ℕ) × (extent (L .head .type) (drop n s) ≡ ok d e) × (l ≡ length d) → Skipped tag (n + e) ≡ optionalAnswer (optionalFrom T end from) (optionalOf (optionalFrom T end from) least s)
+            more : (d : List ℕ) × (extent (L .head .type) (drop n s) ≡ ok d e) × (l ≡ length d) → Skipped tag (n + e) ≡ optionalAnswer (optionalFrom T end from) (nextOptional (optionalFrom T end from) least s)
             more D = sym (ap (optionalAnswer (optionalFrom T end from)) (skipped-is L) ∙ rw (D .1, L .tag-is))
 
-    pub next-cut : (c y : ℕ) → p ≡ Isnt c y → Wrong c (n + y) ≡ optionalAnswer (optionalFrom T end from) (optionalOf (optionalFrom T end from) least s)
+    pub next-cut : (c y : ℕ) → p ≡ Isnt c y → Wrong c (n + y) ≡ optionalAnswer (optionalFrom T end from) (nextOptional (optionalFrom T end from) least s)
     unfolding shift made bytes optionalAnswer
     next-cut c y z = go (head-lost tag k n q)
       where
-        go : HeadLost T end from least s tag k n → Wrong c (n + y) ≡ optionalAnswer (optionalFrom T end from) (optionalOf (optionalFrom T end from) least s)
+        go : HeadLost T end from least s tag k n → Wrong c (n + y) ≡ optionalAnswer (optionalFrom T end from) (nextOptional (optionalFrom T end from) least s)
         go L =
             sym (ap (optionalAnswer (optionalFrom T end from)) (skipped-is L)
             ∙ rw (bytes-isnt (extent (L .head .type) (drop n s)) c y (sym z ∙ skipped-part L)))

@@ -23,7 +23,7 @@ use Rattle.encoding.specs.Result.{Res, ok, bad, pick, shift, _>>=_, pure, made,
 use Rattle.encoding.specs.ResultLaws.{ok≢bad, Bound, bind-ok, bind-next, bind-bad, bytes-step, mapc-ok, held-took, held-refused}
 use Rattle.encoding.specs.Value.{value}
 use Rattle.encoding.specs.ValueLaws.{held-value}
-use Rattle.encoding.specs.Table.{field, mark, range, tyOf, memberTy, ownRows, trees, Member, requiredOf}
+use Rattle.encoding.specs.Table.{field, mark, range, tyOf, memberTy, ownRows, trees, Member, requiredsIn}
 use Rattle.encoding.specs.Table
 use Rattle.encoding.specs.Optional.{Piece, required, requireds}
 use Rattle.encoding.specs.Message.{Row, rowBytes, pieceRows}
@@ -60,9 +60,9 @@ pub record Due (T : List ℕ) (t at count : ℕ) (s out₀ : List ℕ) (m left p
   pub low : k + left < count + 65536
   pub same : length out ≡ length out₀
   pub ahead : Ahead T t seen (range m left)
-  pub says : membersOf count (optionalStart T t) (requireds (Table.required T t) s) ≡ membersOf k (optionalStart T t) (shift pos (requireds (requiredOf T (trees T) seen (range m left)) (drop pos s)))
-  gives : (ps : List Piece) (n : ℕ) → requireds (Table.required T t) s ≡ ok ps n
-      → Later T t at s (requiredOf T (trees T) seen (range m left)) pos k (fill count (pieceRows T t at ps) out₀) out
+  pub says : membersOf count (optionalStart T t) (requireds (Table.requiredMembers T t) s) ≡ membersOf k (optionalStart T t) (shift pos (requireds (requiredsIn T (trees T) seen (range m left)) (drop pos s)))
+  gives : (ps : List Piece) (n : ℕ) → requireds (Table.requiredMembers T t) s ≡ ok ps n
+      → Later T t at s (requiredsIn T (trees T) seen (range m left)) pos k (fill count (pieceRows T t at ps) out₀) out
 
 shift-none : {A : Type 0} (r : Res A) → r ≡ shift 0 r
 unfolding shift
@@ -94,7 +94,7 @@ one-more k i pos n p (bad c q) = ap (Refused c) (sym (add-assoc pos n q))
 
 pub due-begin : (T : List ℕ) (t at count : ℕ) (s out : List ℕ) (m left : ℕ) → m ≡ field T t 0 → left ≡ field T t 1 → m < 65536 → left < 65536
     → Due T t at count s out m left 0 count (m + left) out
-unfolding ownRows Table.required optionalStart
+unfolding ownRows Table.requiredMembers optionalStart
 due-begin T t at count s out m left em el hm hl =
     let e : range m left ≡ ownRows T t = rw (em, el) in
     record {
@@ -107,7 +107,7 @@ due-begin T t at count s out m left em el hm hl =
       low = omega arith;
       same = refl;
       ahead = rw e (ahead-begin T t);
-      says = rw e (ap (membersOf count (optionalStart T t)) (shift-none (requireds (Table.required T t) s)));
+      says = rw e (ap (membersOf count (optionalStart T t)) (shift-none (requireds (Table.requiredMembers T t) s)));
       gives = λ ps n h. record {
         pieces = ps;
         taken = n;
@@ -118,18 +118,18 @@ due-begin T t at count s out m left em el hm hl =
 
 module _ (T : List ℕ) (t at count : ℕ) (s out₀ : List ℕ) (m left pos k next : ℕ) (out : List ℕ) (D : Due T t at count s out₀ m left pos k next out) where
   -- ---- the end
-  pub due-says : left ≤ 0 → Read pos k next ≡ membersOf count (optionalStart T t) (requireds (Table.required T t) s)
-  unfolding requiredOf requireds pure shift membersOf firstOptional
+  pub due-says : left ≤ 0 → Read pos k next ≡ membersOf count (optionalStart T t) (requireds (Table.requiredMembers T t) s)
+  unfolding requiredsIn requireds pure shift membersOf firstOptional
   due-says h =
       let z : left ≡ 0 = omega arith in
       let i : optionalStart T t ≡ next = D .start ∙ rw z (omega (arith, D .ends, D .most)) in
       sym (D .says ∙ rw (range-empty m left h, add-zero pos, add-zero k, i))
 
-  pub due-gives : left ≤ 0 → (ps : List Piece) (n : ℕ) → requireds (Table.required T t) s ≡ ok ps n → out ≡ fill count (pieceRows T t at ps) out₀
-  unfolding requiredOf requireds pure pieceRows fill
+  pub due-gives : left ≤ 0 → (ps : List Piece) (n : ℕ) → requireds (Table.requiredMembers T t) s ≡ ok ps n → out ≡ fill count (pieceRows T t at ps) out₀
+  unfolding requiredsIn requireds pure pieceRows fill
   due-gives h ps n e = go (D .gives ps n e)
     where
-      go : Later T t at s (requiredOf T (trees T) (D .seen) (range m left)) pos k (fill count (pieceRows T t at ps) out₀) out → out ≡ fill count (pieceRows T t at ps) out₀
+      go : Later T t at s (requiredsIn T (trees T) (D .seen) (range m left)) pos k (fill count (pieceRows T t at ps) out₀) out → out ≡ fill count (pieceRows T t at ps) out₀
       go L =
           let r : ok [] 0 ≡ ok (L .pieces) (L .taken) = rw (range-empty m left h) at (L .read) in
           let z : L .pieces ≡ [] = cc in
@@ -152,8 +152,8 @@ module _ (T : List ℕ) (t at count : ℕ) (s out₀ : List ℕ) (m left pos k n
         → {pos′ k′ next′ : ℕ} {out′ : List ℕ} → out′ ≡ out → pos′ ≡ pos → k′ ≡ k → next′ ≡ i → Due T t at count s out₀ (m + 1) (left - 1) pos′ k′ next′ out′
     due-past g eg z i ei eo ep ek en = rw (eo, ep, ek, en)
         (let y : mark T m ≡ 0 → ⊥ = λ q. z (eg ∙ q) in
-        let e : requiredOf T (trees T) (D .seen) (range m left) ≡ requiredOf T (trees T) (D .seen) (range (m + 1) (left - 1)) =
-        ap (requiredOf T (trees T) (D .seen)) split ∙ required-past T (D .seen) m (range (m + 1) (left - 1)) y in
+        let e : requiredsIn T (trees T) (D .seen) (range m left) ≡ requiredsIn T (trees T) (D .seen) (range (m + 1) (left - 1)) =
+        ap (requiredsIn T (trees T) (D .seen)) split ∙ required-past T (D .seen) m (range (m + 1) (left - 1)) y in
         record {
           seen = D .seen;
           inside = D .inside;
@@ -173,15 +173,15 @@ module _ (T : List ℕ) (t at count : ℕ) (s out₀ : List ℕ) (m left pos k n
     module _ (g : ℕ) (eg : g ≡ mark T m) (z : g ≡ 0) (ty : ℕ) (et : ty ≡ typeRow T m)
         (r : Step) (er : r ≡ stepOf (value (tyOf T ty) (take (length s - pos) (drop pos s)))) where
       abbrev rest : List Member
-      rest = requiredOf T (trees T) (suc (D .seen)) (range (m + 1) (left - 1))
+      rest = requiredsIn T (trees T) (suc (D .seen)) (range (m + 1) (left - 1))
 
       abbrev cont : List ℕ → List ℕ → Res (List Piece)
       cont b = mapc (λ ps _. required (D .seen) b ∷ ps) (requireds rest)
 
-      ms-split : requiredOf T (trees T) (D .seen) (range m left) ≡ memberAt T (D .seen) m ∷ rest
-      ms-split = ap (requiredOf T (trees T) (D .seen)) split ∙ required-next T (D .seen) m (range (m + 1) (left - 1)) (sym eg ∙ z)
+      ms-split : requiredsIn T (trees T) (D .seen) (range m left) ≡ memberAt T (D .seen) m ∷ rest
+      ms-split = ap (requiredsIn T (trees T) (D .seen)) split ∙ required-next T (D .seen) m (range (m + 1) (left - 1)) (sym eg ∙ z)
 
-      requireds-split : requireds (requiredOf T (trees T) (D .seen) (range m left)) (drop pos s) ≡ (bytes (value (memberTy T (trees T) m)) >>= cont) (drop pos s)
+      requireds-split : requireds (requiredsIn T (trees T) (D .seen) (range m left)) (drop pos s) ≡ (bytes (value (memberTy T (trees T) m)) >>= cont) (drop pos s)
       unfolding requireds
       requireds-split = ap (λ (l : List Member). requireds l (drop pos s)) ms-split
 
@@ -200,7 +200,7 @@ module _ (T : List ℕ) (t at count : ℕ) (s out₀ : List ℕ) (m left pos k n
       value-bad c p q = rw (step-fault (value (memberTy T (trees T) m) (drop pos s)) c p (sym q ∙ answer))
 
       next-later : (n : ℕ) → r ≡ Took n → (o : List ℕ) → o ≡ put (12 * k) (rowBytes (record { member = m; place = at + pos; len = n })) out → (last : List ℕ)
-          → Later T t at s (requiredOf T (trees T) (D .seen) (range m left)) pos k last out → Later T t at s rest (pos + n) (k + 1) last o
+          → Later T t at s (requiredsIn T (trees T) (D .seen) (range m left)) pos k last out → Later T t at s rest (pos + n) (k + 1) last o
       unfolding fill
       next-later n q o eo last L = go (bind-ok (bytes (value (memberTy T (trees T) m))) cont (drop pos s) (sym requireds-split ∙ L .read))
         where
@@ -245,13 +245,13 @@ module _ (T : List ℕ) (t at count : ℕ) (s out₀ : List ℕ) (m left pos k n
           → {pos′ k′ next′ : ℕ} {out′ : List ℕ} → out′ ≡ o → pos′ ≡ pos + n → k′ ≡ k + 1 → next′ ≡ next → Due T t at count s out₀ (m + 1) (left - 1) pos′ k′ next′ out′
       due-next n q o puts fo fp fk fn = rw (fo, fp, fk, fn) (due-step n q o (puts n q))
 
-      pub due-fault : (c p : ℕ) → r ≡ Fault c p → Refused c (pos + p) ≡ membersOf count (optionalStart T t) (requireds (Table.required T t) s)
+      pub due-fault : (c p : ℕ) → r ≡ Fault c p → Refused c (pos + p) ≡ membersOf count (optionalStart T t) (requireds (Table.requiredMembers T t) s)
       unfolding shift membersOf
       due-fault c p q =
           sym (D .says ∙ ap (λ (x : Res (List Piece)). membersOf k (optionalStart T t) (shift pos x)) (requireds-split ∙ bind-bad (bytes (value (memberTy T (trees T) m))) cont (drop pos s) (value-bad c p q)))
 
       -- then nothing is accepted
-      pub due-never : (c p : ℕ) → r ≡ Fault c p → (o : List ℕ) (ps : List Piece) (n : ℕ) → requireds (Table.required T t) s ≡ ok ps n → o ≡ fill count (pieceRows T t at ps) out₀
+      pub due-never : (c p : ℕ) → r ≡ Fault c p → (o : List ℕ) (ps : List Piece) (n : ℕ) → requireds (Table.requiredMembers T t) s ≡ ok ps n → o ≡ fill count (pieceRows T t at ps) out₀
       due-never c p q o ps n h =
           absurd (ok≢bad (D .gives ps n h .read) (requireds-split ∙ bind-bad (bytes (value (memberTy T (trees T) m))) cont (drop pos s) (value-bad c p q)))
 

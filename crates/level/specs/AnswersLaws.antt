@@ -25,7 +25,7 @@ use Rattle.encoding.specs.Types.{Bits, bitsAt, Form, formOf}
 use Rattle.encoding.specs.Value.{value}
 use Rattle.encoding.specs.Table.{Member, lookup}
 use Rattle.encoding.specs.Table
-use Rattle.encoding.specs.Optional.{Piece, optional, skipped, Header, firstForm, headerTail, headerForm, header, extent, part, content, optionalOf, requireds, frontBytes, contentBytes, pieceBytes}
+use Rattle.encoding.specs.Optional.{Piece, optional, skipped, Header, firstForm, headerTail, headerForm, header, extent, part, content, nextOptional, requireds, frontBytes, contentBytes, pieceBytes}
 use Rattle.encoding.specs.OptionalLaws.{held-optional, eats-optional, held-requireds}
 use Rattle.encoding.specs.WeightLaws.{optional-weight}
 use Rattle.encoding.specs.Message.{listRow, pieceMember, pieceRows}
@@ -70,7 +70,7 @@ pub record KnownRead (ms : List Member) (least : ℕ) (s : List ℕ) (m k a n : 
   pub member : Member
   pub form : Form
   pub bytes : List ℕ
-  pub read : optionalOf ms least s ≡ ok (optional k form bytes, suc k) n
+  pub read : nextOptional ms least s ≡ ok (optional k form bytes, suc k) n
   pub found : lookup k ms ≡ some member
   pub row : member .row ≡ m
   pub low : k < 2 ^ 31
@@ -81,7 +81,7 @@ pub record KnownRead (ms : List Member) (least : ℕ) (s : List ℕ) (m k a n : 
 pub record SkippedRead (ms : List Member) (least : ℕ) (s : List ℕ) (k n : ℕ) : Type 0 where
   pub type : Bits
   pub bytes : List ℕ
-  pub read : optionalOf ms least s ≡ ok (skipped k type bytes, suc k) n
+  pub read : nextOptional ms least s ≡ ok (skipped k type bytes, suc k) n
   pub low : k < 2 ^ 31
   pub rises : least ≤ k
 
@@ -90,8 +90,8 @@ data Either (ms : List Member) (least : ℕ) (s : List ℕ) (r : Piece × ℕ) (
   one : (m k a : ℕ) → pieceAnswer ms n (r .0) ≡ Known m k a n → KnownRead ms least s m k a n → Either ms least s r n
   other : (k : ℕ) → pieceAnswer ms n (r .0) ≡ Skipped k n → SkippedRead ms least s k n → Either ms least s r n
 
-either : (ms : List Member) (least : ℕ) (s : List ℕ) (r : Piece × ℕ) (n : ℕ) → optionalOf ms least s ≡ ok r n → Either ms least s r n
-unfolding optionalOf content pieceAnswer rowOr contentBytes pieceBytes
+either : (ms : List Member) (least : ℕ) (s : List ℕ) (r : Piece × ℕ) (n : ℕ) → nextOptional ms least s ≡ ok r n → Either ms least s r n
+unfolding nextOptional content pieceAnswer rowOr contentBytes pieceBytes
 either ms least s r n e = go (bind-ok (header ms least) _ s e)
   where
     weight : n ≡ length (pieceBytes (r .0))
@@ -118,10 +118,10 @@ either ms least s r n e = go (bind-ok (header ms least) _ s e)
         let M = mapc-ok (content (lookup (B .fst .tag) ms) (B .fst)) (drop (B .n) s) (λ p _. (p, suc (B .fst .tag))) (B .next) in
         piece (B .fst) (tag-below ms least s (B .first)) (header-rises ms least s (B .first)) (drop (B .n) s) (M .0) (B .m) (M .2) (lookup (B .fst .tag) ms) refl (M .1)
 
-module _ (ms : List Member) (least : ℕ) (s : List ℕ) (r : Optional) (e : r ≡ optionalAnswer ms (optionalOf ms least s)) where
+module _ (ms : List Member) (least : ℕ) (s : List ℕ) (r : Optional) (e : r ≡ optionalAnswer ms (nextOptional ms least s)) where
   pub known-read : (m k a n : ℕ) → r ≡ Known m k a n → KnownRead ms least s m k a n
   unfolding optionalAnswer
-  known-read m k a n q = go (optionalOf ms least s) refl (sym q ∙ e)
+  known-read m k a n q = go (nextOptional ms least s) refl (sym q ∙ e)
     where
       by-piece : (x : Piece × ℕ) (l : ℕ) → Either ms least s x l → Known m k a n ≡ pieceAnswer ms l (x .0) → KnownRead ms least s m k a n
       by-piece x l (one m′ k′ a′ p K) h =
@@ -132,13 +132,13 @@ module _ (ms : List Member) (least : ℕ) (s : List ℕ) (r : Optional) (e : r �
           rw (em, ek, ea, en) at K
       by-piece x l (other k′ p K) h = let z : _≡_ {A = ℕ} 0 1 = cc in absurd (omega arith)
 
-      go : (x : Res (Piece × ℕ)) → optionalOf ms least s ≡ x → Known m k a n ≡ optionalAnswer ms x → KnownRead ms least s m k a n
+      go : (x : Res (Piece × ℕ)) → nextOptional ms least s ≡ x → Known m k a n ≡ optionalAnswer ms x → KnownRead ms least s m k a n
       go (ok x l) f h = by-piece x l (either ms least s x l f) h
       go (bad c p) f h = let z : _≡_ {A = ℕ} 0 1 = cc in absurd (omega arith)
 
   pub skipped-read : (k n : ℕ) → r ≡ Skipped k n → SkippedRead ms least s k n
   unfolding optionalAnswer
-  skipped-read k n q = go (optionalOf ms least s) refl (sym q ∙ e)
+  skipped-read k n q = go (nextOptional ms least s) refl (sym q ∙ e)
     where
       by-piece : (x : Piece × ℕ) (l : ℕ) → Either ms least s x l → Skipped k n ≡ pieceAnswer ms l (x .0) → SkippedRead ms least s k n
       by-piece x l (one m′ k′ a′ p K) h = let z : _≡_ {A = ℕ} 0 1 = cc in absurd (omega arith)
@@ -147,25 +147,25 @@ module _ (ms : List Member) (least : ℕ) (s : List ℕ) (r : Optional) (e : r �
           let en : l ≡ n = cc in
           rw (ek, en) at K
 
-      go : (x : Res (Piece × ℕ)) → optionalOf ms least s ≡ x → Skipped k n ≡ optionalAnswer ms x → SkippedRead ms least s k n
+      go : (x : Res (Piece × ℕ)) → nextOptional ms least s ≡ x → Skipped k n ≡ optionalAnswer ms x → SkippedRead ms least s k n
       go (ok x l) f h = by-piece x l (either ms least s x l f) h
       go (bad c p) f h = let z : _≡_ {A = ℕ} 0 1 = cc in absurd (omega arith)
 
-  pub wrong-read : (c p : ℕ) → r ≡ Wrong c p → optionalOf ms least s ≡ bad c p
+  pub wrong-read : (c p : ℕ) → r ≡ Wrong c p → nextOptional ms least s ≡ bad c p
   unfolding optionalAnswer
-  wrong-read c p q = go (optionalOf ms least s) refl (sym q ∙ e)
+  wrong-read c p q = go (nextOptional ms least s) refl (sym q ∙ e)
     where
-      by-piece : (x : Piece × ℕ) (l : ℕ) → Either ms least s x l → Wrong c p ≡ pieceAnswer ms l (x .0) → optionalOf ms least s ≡ bad c p
+      by-piece : (x : Piece × ℕ) (l : ℕ) → Either ms least s x l → Wrong c p ≡ pieceAnswer ms l (x .0) → nextOptional ms least s ≡ bad c p
       by-piece x l (one m′ k′ a′ y K) h = let z : _≡_ {A = ℕ} 0 1 = cc in absurd (omega arith)
       by-piece x l (other k′ y K) h = let z : _≡_ {A = ℕ} 0 1 = cc in absurd (omega arith)
 
-      go : (x : Res (Piece × ℕ)) → optionalOf ms least s ≡ x → Wrong c p ≡ optionalAnswer ms x → optionalOf ms least s ≡ bad c p
+      go : (x : Res (Piece × ℕ)) → nextOptional ms least s ≡ x → Wrong c p ≡ optionalAnswer ms x → nextOptional ms least s ≡ bad c p
       go (ok x l) f h = by-piece x l (either ms least s x l f) h
       go (bad d y) f h = f ∙ cc
 
   -- the bytes of a known optional are all there, and its value ends them
   pub known-within : (m k a n : ℕ) → r ≡ Known m k a n → n ≤ length s
-  known-within m k a n q = held-took (optionalOf ms least) (held-optional ms least) s (known-read m k a n q .read)
+  known-within m k a n q = held-took (nextOptional ms least) (held-optional ms least) s (known-read m k a n q .read)
 
   pub known-start : (m k a n : ℕ) → r ≡ Known m k a n → a ≤ n
   known-start m k a n q = let K = known-read m k a n q in omega (arith, K .sum)
@@ -177,32 +177,32 @@ module _ (ms : List Member) (least : ℕ) (s : List ℕ) (r : Optional) (e : r �
   skipped-some k n q = eats-optional ms least s _ n (skipped-read k n q .read)
 
   pub skipped-within : (k n : ℕ) → r ≡ Skipped k n → n ≤ length s
-  skipped-within k n q = held-took (optionalOf ms least) (held-optional ms least) s (skipped-read k n q .read)
+  skipped-within k n q = held-took (nextOptional ms least) (held-optional ms least) s (skipped-read k n q .read)
 
   pub skipped-tag : (k n : ℕ) → r ≡ Skipped k n → k < 2 ^ 31
   skipped-tag k n q = skipped-read k n q .low
 
   pub wrong-within : (c p : ℕ) → r ≡ Wrong c p → p ≤ length s
-  wrong-within c p q = held-refused (optionalOf ms least) (held-optional ms least) s (wrong-read c p q)
+  wrong-within c p q = held-refused (nextOptional ms least) (held-optional ms least) s (wrong-read c p q)
 
 -- ---- rows
 
 module _ (T : List ℕ) (t least : ℕ) (s : List ℕ) (at : ℕ) (ps : List Piece) where
-  pub known-rows : (m k a n : ℕ) (K : KnownRead (Table.optional T t) least s m k a n)
+  pub known-rows : (m k a n : ℕ) (K : KnownRead (Table.optionalMembers T t) least s m k a n)
       → pieceRows T t at (optional k (K .form) (K .bytes) ∷ ps) ≡ record { member = m; place = at + a; len = n - a } ∷ pieceRows T t (at + n) ps
   unfolding pieceRows pieceMember listRow contentBytes pieceBytes
   known-rows m k a n K =
       let p = optional k (K .form) (K .bytes) in
-      let w : n ≡ length (frontBytes p ++ K .bytes) = optional-weight (Table.optional T t) least s (K .read) in
+      let w : n ≡ length (frontBytes p ++ K .bytes) = optional-weight (Table.optionalMembers T t) least s (K .read) in
       let v : length (frontBytes p ++ K .bytes) ≡ length (frontBytes p) + length (K .bytes) = length-append (frontBytes p) (K .bytes) in
       let f : length (frontBytes p) ≡ a = omega (arith, K .sum) in
       let l : length (K .bytes) ≡ n - a = omega (arith, K .sum) in
       rw (K .found, K .row, f, l, ← w)
 
-  pub skipped-rows : (k n : ℕ) (K : SkippedRead (Table.optional T t) least s k n)
+  pub skipped-rows : (k n : ℕ) (K : SkippedRead (Table.optionalMembers T t) least s k n)
       → pieceRows T t at (skipped k (K .type) (K .bytes) ∷ ps) ≡ pieceRows T t (at + n) ps
   unfolding pieceRows pieceMember listRow
-  skipped-rows k n K = ap (λ (i : ℕ). pieceRows T t (at + i) ps) (sym (optional-weight (Table.optional T t) least s (K .read)))
+  skipped-rows k n K = ap (λ (i : ℕ). pieceRows T t (at + i) ps) (sym (optional-weight (Table.optionalMembers T t) least s (K .read)))
 
 -- ---- required members
 

@@ -18,7 +18,7 @@ use Rattle.encoding.specs.Types.{bits, Form, formOf}
 use Rattle.encoding.specs.Value.{value}
 use Rattle.encoding.specs.Table.{field, tag, Member, lookup}
 use Rattle.encoding.specs.Table
-use Rattle.encoding.specs.Optional.{optional, skipped, Header, wrongType, headerForm, header, extent, part, content, optionalOf}
+use Rattle.encoding.specs.Optional.{optional, skipped, Header, wrongType, headerForm, header, extent, part, content, nextOptional}
 use Rattle.table.specs.Tags.{optionalFrom, Passed}
 use Rattle.table.specs.TagsLaws.{optional-own, passed-lookup}
 use Rattle.optional.specs.Answers.{front}
@@ -65,22 +65,22 @@ module _ (ms ns : List Member) (least : ℕ) (alike : (k : ℕ) → least ≤ k 
     content-alike none xs = skipped-alike (bytes (extent (h .type)) xs)
     content-alike (some m) xs = known-alike (formOf (m .ty)) (inside (part (formOf (m .ty))) (bytes (value (m .ty))) xs)
 
-  answer-alike : (s : List ℕ) → optionalAnswer ms (optionalOf ms least s) ≡ optionalAnswer ns (optionalOf ns least s)
-  unfolding optionalOf _>>=_ after optionalAnswer
+  answer-alike : (s : List ℕ) → optionalAnswer ms (nextOptional ms least s) ≡ optionalAnswer ns (nextOptional ns least s)
+  unfolding nextOptional _>>=_ after optionalAnswer
   answer-alike s = go (header ns least s) (header-alike s)
     where
-      go : (r : Res Header) → header ms least s ≡ r → optionalAnswer ms (optionalOf ms least s) ≡ optionalAnswer ns (after r (λ h. mapc (λ p _. (p, suc (h .tag))) (content (lookup (h .tag) ns) h)) s)
+      go : (r : Res Header) → header ms least s ≡ r → optionalAnswer ms (nextOptional ms least s) ≡ optionalAnswer ns (after r (λ h. mapc (λ p _. (p, suc (h .tag))) (content (lookup (h .tag) ns) h)) s)
       go (ok h n) e =
           let l = header-rises ms least s e in
           rw (e, alike (h .tag) l) (content-alike h l n (lookup (h .tag) ns) (drop n s))
       go (bad c p) e = rw e
 
 pub passed-answer : (T : List ℕ) (t end from least : ℕ) → Passed T t end from least → (s : List ℕ)
-    → optionalAnswer (optionalFrom T end from) (optionalOf (optionalFrom T end from) least s) ≡ optionalAnswer (Table.optional T t) (optionalOf (Table.optional T t) least s)
-passed-answer T t end from least P s = sym (answer-alike (Table.optional T t) (optionalFrom T end from) least (passed-lookup T t end from least P) s)
+    → optionalAnswer (optionalFrom T end from) (nextOptional (optionalFrom T end from) least s) ≡ optionalAnswer (Table.optionalMembers T t) (nextOptional (Table.optionalMembers T t) least s)
+passed-answer T t end from least P s = sym (answer-alike (Table.optionalMembers T t) (optionalFrom T end from) least (passed-lookup T t end from least P) s)
 
 -- the member of a known optional
-module _ (T : List ℕ) (t least : ℕ) (s : List ℕ) (m k a n : ℕ) (K : KnownRead (Table.optional T t) least s m k a n) where
+module _ (T : List ℕ) (t least : ℕ) (s : List ℕ) (m k a n : ℕ) (K : KnownRead (Table.optionalMembers T t) least s m k a n) where
   pub member-tag : tag T m ≡ k
   member-tag = ap (tag T) (sym (K .row)) ∙ optional-own T t k (K .member) (K .found) .tag-is
 

@@ -6,7 +6,7 @@ ghost use mathlib.Core.List.{List};
 ghost use Prim.Native.Nat.{ℕ, _+_, _*_, _^_, _<_};
 ghost use lib.ListN.{length};
 ghost use Rattle.encoding.specs.Result.{ok};
-ghost use Rattle.encoding.specs.Table.{tyOf, required};
+ghost use Rattle.encoding.specs.Table.{tyOf, requiredMembers};
 ghost use Rattle.encoding.specs.Value.{value};
 ghost use Rattle.encoding.specs.Optional.{Piece, requireds};
 ghost use Rattle.encoding.specs.Message.{rowBytes, pieceRows};
@@ -70,9 +70,9 @@ pub fn required(
 ) -> Members
     requires { ⌜ now shapes ≡ shapesOf (now table) ⌝ }
     requires { ⌜ (at + length (now s) < 2 ^ 63) × (count < 2 ^ 63) ⌝ }
-    ensures { λ r. ⌜ r ≡ membersOf count (optionalStart (now (table .entry)) t) (requireds (required (now (table .entry)) t) (now (s .entry))) ⌝ }
+    ensures { λ r. ⌜ r ≡ membersOf count (optionalStart (now (table .entry)) t) (requireds (requiredMembers (now (table .entry)) t) (now (s .entry))) ⌝ }
     ensures { λ _. ⌜ length (now (out .exit)) ≡ length (now (out .entry)) ⌝ }
-    ensures { λ _. ⌜ ((ps : List Piece) (n : ℕ) → requireds (required (now (table .entry)) t) (now (s .entry)) ≡ ok ps n → now (out .exit) ≡ fill count (pieceRows (now (table .entry)) t at ps) (now (out .entry))) ⌝ }
+    ensures { λ _. ⌜ ((ps : List Piece) (n : ℕ) → requireds (requiredMembers (now (table .entry)) t) (now (s .entry)) ≡ ok ps n → now (out .exit) ≡ fill count (pieceRows (now (table .entry)) t at ps) (now (out .entry))) ⌝ }
 {
     let all = table::members(table);
     let first = table::members_at(table);

@@ -4,7 +4,7 @@ ghost use Prim.Native.Nat.{_≤_};
 ghost use Rattle.encoding.specs.Result.{bytes, inside};
 ghost use Rattle.encoding.specs.Value.{value};
 ghost use Rattle.encoding.specs.Table.{tyOf};
-ghost use Rattle.encoding.specs.Optional.{part, optionalOf};
+ghost use Rattle.encoding.specs.Optional.{part, nextOptional};
 ghost use Rattle.shapes.specs.Shapes.{shapesOf};
 ghost use Rattle.table.specs.Tags.{optionalFrom};
 ghost use Rattle.optional.specs.Forms.{formNamed};
@@ -63,7 +63,7 @@ pub fn optional(
 ) -> Optional
     requires { ⌜ now shapes ≡ shapesOf (now table) ⌝ }
     requires { ⌜ end ≤ 131072 ⌝ }
-    ensures { λ r. ⌜ r ≡ optionalAnswer (optionalFrom (now (table .entry)) end from) (optionalOf (optionalFrom (now (table .entry)) end from) least (now (s .entry))) ⌝ }
+    ensures { λ r. ⌜ r ≡ optionalAnswer (optionalFrom (now (table .entry)) end from) (nextOptional (optionalFrom (now (table .entry)) end from) least (now (s .entry))) ⌝ }
 {
     let h = optional::headers::header(table, shapes, end, from, least, s);
     match h {

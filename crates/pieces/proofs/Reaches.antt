@@ -15,7 +15,7 @@ use native.Mathlib.Omega.{arith}
 use lib.Dec.{eqb, leb, ltb}
 use borrow.Author.Tests.{le-leb, lt-leb, ltb-true, ltb-false, eq-eqb, ne-eqb}
 use Rattle.encoding.specs.Result.{pick}
-use Rattle.encoding.specs.Table.{field, mark, tag, trees, memberTy, optional}
+use Rattle.encoding.specs.Table.{field, mark, tag, trees, memberTy, optionalMembers}
 use Rattle.encoding.specs.Write.{optionalRow, reachDue, reach, anyOf}
 use Rattle.pieces.specs.declared.Cursor.{Cursor}
 use Rattle.pieces.specs.Cursors.{requiredIn, dueIn, dueFrom, stateOf, mayMember, dueReached, mayReached, Settled, Gone}
@@ -80,7 +80,7 @@ module _ (T : List ℕ) (at : Cursor) (a b k : ℕ) (ea : a ≡ field T (at .own
 
       module _ (l : a ≤ m) (u : m < a + b) (g t : ℕ) (eg : g ≡ mark T m) (et : t ≡ tag T m) where
         -- the test of its mark and tag
-        may-is : (r w : Bool) → eqb (mark T m) 0 ≡ r → leb (at .least) (tag T m) ≡ w → optionalRow m (at .least) (optional T (at .owner)) ≡ pick (not r && w) (some (mayMember T m)) none
+        may-is : (r w : Bool) → eqb (mark T m) 0 ≡ r → leb (at .least) (tag T m) ≡ w → optionalRow m (at .least) (optionalMembers T (at .owner)) ≡ pick (not r && w) (some (mayMember T m)) none
         may-is r w er ew = may-inside T m (at .least) (at .owner) (omega arith) (omega arith) ∙ rw (er, ew)
 
         pub gone-required : g ≡ 0 → Gone T at m

@@ -18,7 +18,7 @@ use mathlib.Core.List.{List, []}
 use Prim.Native.Nat.{ℕ, zero, suc, _+_, _-_, _≤_, _<_}
 use lib.Dec.{eqb}
 use Rattle.encoding.specs.Result.{pick}
-use Rattle.encoding.specs.Table.{field, mark, tag, range, Member, trees, memberTy, requiredOf, optional, base, upward, chain}
+use Rattle.encoding.specs.Table.{field, mark, tag, range, Member, trees, memberTy, requiredsIn, optionalMembers, base, upward, chain}
 use Rattle.encoding.specs.Write.{State, Reached, optionalRow, reach}
 use Rattle.pieces.specs.declared.Cursor.{Cursor}
 use Rattle.pieces.specs.declared.Reach.{Reach}
@@ -31,7 +31,7 @@ requiredIn T a (suc k) = requiredIn T a k + pick (eqb (mark T (a + k)) 0) 1 0
 
 -- of the b member rows from a on
 unfoldable pub dueIn : List ℕ → ℕ → ℕ → ℕ → List Member
-dueIn T a b k = requiredOf T (trees T) (requiredIn T a k) (range (a + k) (b - k))
+dueIn T a b k = requiredsIn T (trees T) (requiredIn T a k) (range (a + k) (b - k))
 
 abbrev pub dueFrom : List ℕ → ℕ → ℕ → List Member
 dueFrom T o k = dueIn T (field T o 0) (field T o 1) k
@@ -69,7 +69,7 @@ pub record Settled (T : List ℕ) (a b k r : ℕ) : Type 0 where
 
 pub record Gone (T : List ℕ) (c : Cursor) (m : ℕ) : Type 0 where
   pub due : dueFrom T (c .owner) (c .passed) ≡ []
-  pub may : optionalRow m (c .least) (optional T (c .owner)) ≡ none
+  pub may : optionalRow m (c .least) (optionalMembers T (c .owner)) ≡ none
 
 -- the cursor after a member is of the same owner, and has passed at most 65,536 rows
 abbrev pub ReachedIn : List ℕ → Cursor → ℕ → Reach → Type 0

@@ -16,7 +16,7 @@ use lib.Dec.{eqb, leb}
 use borrow.Author.Tests.{eqb-true, eqb-false, eq-eqb, ne-eqb}
 use Rattle.encoding.specs.Result.{pick}
 use Rattle.encoding.specs.Types.{Ty}
-use Rattle.encoding.specs.Table.{field, mark, tag, range, Member, ownRows, trees, memberTy, requiredOf, required, optionalOf, optional, any, base, upward}
+use Rattle.encoding.specs.Table.{field, mark, tag, range, Member, ownRows, trees, memberTy, requiredsIn, requiredMembers, optionalsIn, optionalMembers, any, base, upward}
 use Rattle.encoding.specs.TableLaws.{chain-row}
 use Rattle.encoding.specs.Write.{optionalRow, orAbove, entered, reachDue, reachMay, reach, anyOf, stillDue}
 use Rattle.pieces.specs.declared.Cursor.{Cursor}
@@ -25,12 +25,12 @@ use Rattle.pieces.specs.Cursors.{requiredIn, dueIn, dueFrom, bases, star
 -- ---- required members
 
 module _ (T : List ℕ) (l : List Ty) (i m : ℕ) (ms : List ℕ) where
-  required-here : mark T m ≡ 0 → requiredOf T l i (m ∷ ms) ≡ record { row = m; key = i; ty = memberTy T l m } ∷ requiredOf T l (suc i) ms
-  unfolding requiredOf
+  required-here : mark T m ≡ 0 → requiredsIn T l i (m ∷ ms) ≡ record { row = m; key = i; ty = memberTy T l m } ∷ requiredsIn T l (suc i) ms
+  unfolding requiredsIn
   required-here e = rw (eq-eqb (mark T m) 0 e)
 
-  required-over : (mark T m ≡ 0 → ⊥) → requiredOf T l i (m ∷ ms) ≡ requiredOf T l i ms
-  unfolding requiredOf
+  required-over : (mark T m ≡ 0 → ⊥) → requiredsIn T l i (m ∷ ms) ≡ requiredsIn T l i ms
+  unfolding requiredsIn
   required-over e = rw (ne-eqb (mark T m) 0 e)
 
 module _ (T : List ℕ) (a k : ℕ) where
@@ -49,8 +49,8 @@ range-at a b k h =
     let f : suc (a + k) ≡ a + (k + 1) = omega arith in
     rw (e, f)
 
-pub due-begin : (T : List ℕ) (o : ℕ) → dueFrom T o 0 ≡ required T o
-unfolding dueIn requiredIn required ownRows
+pub due-begin : (T : List ℕ) (o : ℕ) → dueFrom T o 0 ≡ requiredMembers T o
+unfolding dueIn requiredIn requiredMembers ownRows
 due-begin T o = let e : field T o 1 - 0 ≡ field T o 1 = omega arith in rw (add-zero, e)
 
 module _ (T : List ℕ) (a b k : ℕ) where
@@ -58,30 +58,30 @@ module _ (T : List ℕ) (a b k : ℕ) where
       → dueIn T a b k ≡ record { row = a + k; key = requiredIn T a k; ty = memberTy T (trees T) (a + k) } ∷ dueIn T a b (k + 1)
   unfolding dueIn
   due-more h e =
-      ap (requiredOf T (trees T) (requiredIn T a k)) (range-at a b k h)
+      ap (requiredsIn T (trees T) (requiredIn T a k)) (range-at a b k h)
       ∙ required-here T (trees T) _ _ _ e
       ∙ rw (count-here T a k e)
 
   pub due-skip : k < b → (mark T (a + k) ≡ 0 → ⊥) → dueIn T a b k ≡ dueIn T a b (k + 1)
   unfolding dueIn
   due-skip h e =
-      ap (requiredOf T (trees T) (requiredIn T a k)) (range-at a b k h)
+      ap (requiredsIn T (trees T) (requiredIn T a k)) (range-at a b k h)
       ∙ required-over T (trees T) _ _ _ e
       ∙ rw (count-over T a k e)
 
   pub due-none : b ≤ k → dueIn T a b k ≡ []
-  unfolding dueIn range requiredOf
+  unfolding dueIn range requiredsIn
   due-none h = let e : b - k ≡ 0 = omega arith in rw e
 
 -- ---- optional members
 
 -- the members of the rows from a on
 abbrev rest : List ℕ → ℕ → ℕ → List Member
-rest T a b = optionalOf T (trees T) (range (suc a) b)
+rest T a b = optionalsIn T (trees T) (range (suc a) b)
 
 module _ (T : List ℕ) (m least : ℕ) where
-  optional-out : (a b : ℕ) → ((i : ℕ) → a ≤ i → i < a + b → m ≡ i → ⊥) → optionalRow m least (optionalOf T (trees T) (range a b)) ≡ none
-  unfolding optionalRow optionalOf range
+  optional-out : (a b : ℕ) → ((i : ℕ) → a ≤ i → i < a + b → m ≡ i → ⊥) → optionalRow m least (optionalsIn T (trees T) (range a b)) ≡ none
+  unfolding optionalRow optionalsIn range
   optional-out a zero f = refl
   optional-out a (suc b) f = go (optional-out (suc a) b (λ i h l. f i (omega arith) (omega arith))) (eqb (mark T a) 0)
     where
@@ -91,8 +91,8 @@ module _ (T : List ℕ) (m least : ℕ) where
       go ih false = rw (ne-eqb m a (f a (omega arith) (omega arith))) ih
 
   -- of the first row, and of the rows after it
-  optional-first : (b : ℕ) → optionalRow m least (optionalOf T (trees T) (range m (suc b))) ≡ pick (not (eqb (mark T m) 0) && leb least (tag T m)) (some (mayMember T m)) none
-  unfolding optionalRow optionalOf range mayMember
+  optional-first : (b : ℕ) → optionalRow m least (optionalsIn T (trees T) (range m (suc b))) ≡ pick (not (eqb (mark T m) 0) && leb least (tag T m)) (some (mayMember T m)) none
+  unfolding optionalRow optionalsIn range mayMember
   optional-first b = go (optional-out (suc m) b (λ i h l e. omega arith)) (eqb (mark T m) 0) (leb least (tag T m)) refl
     where
       go : optionalRow m least (rest T m b) ≡ none → (t u : Bool) → leb least (tag T m) ≡ u
@@ -103,8 +103,8 @@ module _ (T : List ℕ) (m least : ℕ) where
       go ih false false e = rw (eq-eqb m m refl, e) ih
 
   optional-in : (a b : ℕ) → a ≤ m → m < a + b
-      → optionalRow m least (optionalOf T (trees T) (range a b)) ≡ pick (not (eqb (mark T m) 0) && leb least (tag T m)) (some (mayMember T m)) none
-  unfolding optionalRow optionalOf range
+      → optionalRow m least (optionalsIn T (trees T) (range a b)) ≡ pick (not (eqb (mark T m) 0) && leb least (tag T m)) (some (mayMember T m)) none
+  unfolding optionalRow optionalsIn range
   optional-in a zero h l = absurd (omega arith)
   optional-in a (suc b) h l = go (eqb m a) refl (λ q. optional-in (suc a) b (omega arith) (omega arith))
     where
@@ -116,18 +116,18 @@ module _ (T : List ℕ) (m least : ℕ) where
       over true e ih = ih
       over false e ih = rw e ih
 
-      go : (t : Bool) → eqb m a ≡ t → ((m ≡ a → ⊥) → optionalRow m least (rest T a b) ≡ found) → optionalRow m least (optionalOf T (trees T) (range a (suc b))) ≡ found
+      go : (t : Bool) → eqb m a ≡ t → ((m ≡ a → ⊥) → optionalRow m least (rest T a b) ≡ found) → optionalRow m least (optionalsIn T (trees T) (range a (suc b))) ≡ found
       go true e ih = let q : m ≡ a = eqb-true m a e in rw (sym q) (optional-first b)
       go false e ih = over (eqb (mark T a) 0) e (ih (eqb-false m a e))
 
   -- the test is made where the member row is one of the owner's
-  pub may-outside : (o : ℕ) → (field T o 0 ≤ m → m < field T o 0 + field T o 1 → ⊥) → optionalRow m least (optional T o) ≡ none
-  unfolding optional ownRows
+  pub may-outside : (o : ℕ) → (field T o 0 ≤ m → m < field T o 0 + field T o 1 → ⊥) → optionalRow m least (optionalMembers T o) ≡ none
+  unfolding optionalMembers ownRows
   may-outside o f = optional-out (field T o 0) (field T o 1) (λ i h l q. f (omega arith) (omega arith))
 
   pub may-inside : (o : ℕ) → field T o 0 ≤ m → m < field T o 0 + field T o 1
-      → optionalRow m least (optional T o) ≡ pick (not (eqb (mark T m) 0) && leb least (tag T m)) (some (mayMember T m)) none
-  unfolding optional ownRows
+      → optionalRow m least (optionalMembers T o) ≡ pick (not (eqb (mark T m) 0) && leb least (tag T m)) (some (mayMember T m)) none
+  unfolding optionalMembers ownRows
   may-inside o h l = optional-in (field T o 0) (field T o 1) h l
 
 -- ---- what is reached
@@ -142,7 +142,7 @@ module _ (T : List ℕ) (m : ℕ) (c : Cursor) where
   unfolding reach entered stateOf
   reach-free e = rw e
 
-  pub reach-may : (d : Member) → dueFrom T (c .owner) (c .passed) ≡ [] → optionalRow m (c .least) (optional T (c .owner)) ≡ some d
+  pub reach-may : (d : Member) → dueFrom T (c .owner) (c .passed) ≡ [] → optionalRow m (c .least) (optionalMembers T (c .owner)) ≡ some d
       → reach T m (stateOf T c) ≡ some (record { member = d; required-one = false; state = record { owner = c .owner; due = []; least = suc (d .key); above = bases T (c .owner) } })
   unfolding reachMay orAbove
   reach-may d e f = reach-free e ∙ go (bases T (c .owner))
@@ -152,11 +152,11 @@ module _ (T : List ℕ) (m : ℕ) (c : Cursor) where
       go [] = rw f
       go (t ∷ ts) = rw f
 
-  pub reach-end : dueFrom T (c .owner) (c .passed) ≡ [] → optionalRow m (c .least) (optional T (c .owner)) ≡ none → base T (c .owner) ≡ 0 → reach T m (stateOf T c) ≡ none
+  pub reach-end : dueFrom T (c .owner) (c .passed) ≡ [] → optionalRow m (c .least) (optionalMembers T (c .owner)) ≡ none → base T (c .owner) ≡ 0 → reach T m (stateOf T c) ≡ none
   unfolding reachMay orAbove upward
   reach-end e f z = reach-free e ∙ rw (z, f)
 
-  pub reach-above : (t : ℕ) → dueFrom T (c .owner) (c .passed) ≡ [] → optionalRow m (c .least) (optional T (c .owner)) ≡ none → base T (c .owner) ≡ suc t
+  pub reach-above : (t : ℕ) → dueFrom T (c .owner) (c .passed) ≡ [] → optionalRow m (c .least) (optionalMembers T (c .owner)) ≡ none → base T (c .owner) ≡ suc t
       → reach T m (stateOf T c) ≡ reach T m (stateOf T (start t))
   unfolding reachMay orAbove upward reach entered stateOf
   reach-above t e f z = reach-free e ∙ rw (z, chain-row T t, f, due-begin T t)

@@ -16,7 +16,7 @@ use Rattle.encoding.specs.Result.{Res, bad, firstOf}
 use Rattle.encoding.specs.ResultLaws.{firstOf-ok}
 use Rattle.encoding.specs.Table.{kind, Fault, fine, fault, faults, ruleNumber}
 use Rattle.encoding.specs.RuleLaws.{types-most}
-use Rattle.encoding.specs.Message.{Read, body, noTop, limit, afterRules, unless, rules}
+use Rattle.encoding.specs.Message.{Read, body, noTop, limit, afterRules, refusedFirst, rules}
 use Rattle.encoding.specs.MessageLaws.{rules-body, top-there}
 use Rattle.encoding.specs.Write.{noFormat}
 use Rattle.shapes.specs.Shapes.{shapesOf}
@@ -69,16 +69,16 @@ module _ (T : List ℕ) (top : ℕ) (m : List ℕ) (len : ℕ) (el : len ≡ len
   reading-ready e = rules-body T top m (ready-table T top 1 len r er e) (has-top T top 1 len r er e) (omega (arith, ready-short T top 1 len r er e))
 
   pub reading-refused : (c p : ℕ) → r ≡ Refused c p → rules T top m ≡ bad c p
-  unfolding checks checked before rules afterRules unless firstOf noFormat
+  unfolding checks checked before rules afterRules refusedFirst firstOf noFormat
   reading-refused c p e = table (faults T) (sym er ∙ e)
     where
       early : (b d : Bool) → checked fine (firstOf ((2, b) ∷ (23, noFormat (kind T top) 1) ∷ (3, d) ∷ [])) ≡ Refused c p
-          → unless (firstOf ((2, b) ∷ (3, d) ∷ [])) (body T top m) ≡ bad c p
+          → refusedFirst (firstOf ((2, b) ∷ (3, d) ∷ [])) (body T top m) ≡ bad c p
       early true d h = let ec : 2 ≡ c = cc in let ep : 0 ≡ p = cc in rw (ec, ep)
       early false true h = let ec : 3 ≡ c = cc in let ep : 0 ≡ p = cc in rw (ec, ep)
       early false false h = absurd (ready≢refused refl h)
 
-      table : (f : Fault) → checked f (before T top 1 len) ≡ Refused c p → afterRules f (unless (firstOf ((2, noTop T top) ∷ (3, ltb limit (length m)) ∷ [])) (body T top m)) ≡ bad c p
+      table : (f : Fault) → checked f (before T top 1 len) ≡ Refused c p → afterRules f (refusedFirst (firstOf ((2, noTop T top) ∷ (3, ltb limit (length m)) ∷ [])) (body T top m)) ≡ bad c p
       table fine h =
           let g : checked fine (before T top 1 (length m)) ≡ Refused c p = ap (λ (i : ℕ). checked fine (before T top 1 i)) (sym el) ∙ h in
           early (noTop T top) (ltb limit (length m)) g

@@ -22,7 +22,7 @@ use Rattle.encoding.specs.Table.{kind}
 use Rattle.encoding.specs.Table
 use Rattle.encoding.specs.Optional.{Piece}
 use Rattle.encoding.specs.Slice.{sliced, Chain, slices}
-use Rattle.encoding.specs.Message.{list, exception, class, Read, parameters, markerForm, contents, sizeForm, versionForm, body, Row, pieceRows, firstKnown, rows, optionalsSkipped, slicesSkipped}
+use Rattle.encoding.specs.Message.{list, exception, class, Read, parameters, markerForm, contents, outerForm, versionForm, body, Row, pieceRows, firstKnown, rows, optionalsSkipped, slicesSkipped}
 use Rattle.encoding.specs.Message
 use Rattle.encoding.specs.MessageLaws.{ended-ok, held-contents}
 use Rattle.wire.specs.declared.Step.{Step}
@@ -43,16 +43,16 @@ module _ (m : List ℕ) where
 
   module _ (h : 4 ≤ length m) (n : ℕ) (e : n ≡ Table.at m 4 0) where
     pub capsule-low : n < 6 → Fault 5 0 ≡ stepOf (capsule m)
-    unfolding capsule _>>=_ after must judged number chunk sizeForm stepOf Table.at
+    unfolding capsule _>>=_ after must judged number chunk outerForm stepOf Table.at
     capsule-low l = rw (le-leb 4 (length m) h, ← e, lt-ltb n 6 l)
 
     pub capsule-other : 6 ≤ n → (n ≡ length m → ⊥) → Fault 5 0 ≡ stepOf (capsule m)
-    unfolding capsule _>>=_ after must judged number chunk sizeForm stepOf Table.at
+    unfolding capsule _>>=_ after must judged number chunk outerForm stepOf Table.at
     capsule-other l d = rw (le-leb 4 (length m) h, ← e, le-ltb n 6 l, ne-eqb n (length m) d)
 
     module _ (l : 6 ≤ n) (d : n ≡ length m) (v : ℕ) (ev : v ≡ Table.at m 2 4) where
       sized : capsule m ≡ shift 4 (must versionForm (number 2) (drop 4 m))
-      unfolding capsule _>>=_ after must judged number chunk sizeForm Table.at
+      unfolding capsule _>>=_ after must judged number chunk outerForm Table.at
       sized = rw (le-leb 4 (length m) h, ← e, le-ltb n 6 l, eq-eqb n (length m) d)
 
       version : number 2 (drop 4 m) ≡ ok v 2
@@ -221,14 +221,14 @@ module _ (T : List ℕ) (top : ℕ) (m : List ℕ) where
   -- size and version take six bytes, and the contents stand behind them
   body-inside : (v k : ℕ) → capsule m ≡ ok v k → (6 ≤ length m) × (body T top m ≡ shift 6 (after (contents T top (drop 6 m)) Message.ended (drop 6 m)))
   unfolding capsule body versioned held-in sized-in number _>>=_
-  body-inside v k e = go (bind-ok (must (sizeForm (length m)) (number 4)) versioned m e)
+  body-inside v k e = go (bind-ok (must (outerForm (length m)) (number 4)) versioned m e)
     where
-      go : Bound (must (sizeForm (length m)) (number 4)) versioned m v k → (6 ≤ length m) × (body T top m ≡ shift 6 (after (contents T top (drop 6 m)) Message.ended (drop 6 m)))
+      go : Bound (must (outerForm (length m)) (number 4)) versioned m v k → (6 ≤ length m) × (body T top m ≡ shift 6 (after (contents T top (drop 6 m)) Message.ended (drop 6 m)))
       go B =
-          let A = chunk-ok 4 val m (must-ok (number 4) m (sizeForm (length m)) (B .first) .0) in
+          let A = chunk-ok 4 val m (must-ok (number 4) m (outerForm (length m)) (B .first) .0) in
           let W = chunk-ok 2 val (drop (B .n) m) (must-ok (number 2) (drop (B .n) m) versionForm (B .next) .0) in (
             omega (arith, A .0, A .2, W .0, length-drop (B .n) m),
-            bind-next (must (sizeForm (length m)) (number 4)) sized-in m (B .first)
+            bind-next (must (outerForm (length m)) (number 4)) sized-in m (B .first)
                 ∙ ap (shift (B .n)) (bind-next (must versionForm (number 2)) held-in (drop (B .n) m) (B .next))
                 ∙ ap₂ (λ (i j : ℕ). shift i (shift j (held-in v (drop j (drop i m))))) (A .2) (W .2)
                 ∙ ap (λ (l : List ℕ). shift 4 (shift 2 (held-in v l))) (drop-drop 2 4 m)
@@ -237,7 +237,7 @@ module _ (T : List ℕ) (top : ℕ) (m : List ℕ) where
 
   body-outside : (c p : ℕ) → capsule m ≡ bad c p → body T top m ≡ bad c p
   unfolding capsule body versioned held-in sized-in _>>=_ after shift
-  body-outside c p e = go (must (sizeForm (length m)) (number 4) m) refl e
+  body-outside c p e = go (must (outerForm (length m)) (number 4) m) refl e
     where
       go₂ : (k : ℕ) (r : Res ℕ) → versioned 0 (drop k m) ≡ r → shift k r ≡ bad c p → shift k (sized-in 0 (drop k m)) ≡ bad c p
       go₂ k (ok v n) f h = let z : _≡_ {A = ℕ} 0 1 = cc in absurd (omega arith)
@@ -246,7 +246,7 @@ module _ (T : List ℕ) (top : ℕ) (m : List ℕ) where
           let ep : k + q ≡ p = cc in
           ap (shift k) (bind-bad (must versionForm (number 2)) held-in (drop k m) f) ∙ rw (ec, ep)
 
-      go : (r : Res ℕ) → must (sizeForm (length m)) (number 4) m ≡ r → after r versioned m ≡ bad c p → after r sized-in m ≡ bad c p
+      go : (r : Res ℕ) → must (outerForm (length m)) (number 4) m ≡ r → after r versioned m ≡ bad c p → after r sized-in m ≡ bad c p
       go (ok v k) f h = go₂ k (versioned 0 (drop k m)) refl h
       go (bad d q) f h = let ec : d ≡ c = cc in let ep : q ≡ p = cc in rw (ec, ep)
 

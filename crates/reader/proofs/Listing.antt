@@ -19,7 +19,7 @@ use mir.Syntax.{w64}
 use mir.Val.{Fits}
 use Rattle.encoding.specs.Result.{Res, ok, bad, atEnd}
 use Rattle.encoding.specs.Table
-use Rattle.encoding.specs.Optional.{Piece, requireds, optionalOf}
+use Rattle.encoding.specs.Optional.{Piece, requireds, nextOptional}
 use Rattle.encoding.specs.Message.{rowBytes, pieceRows, parameters}
 use Rattle.wire.specs.Put.{put}
 use Rattle.wire.specs.StepLaws.{rest-is}
@@ -93,56 +93,56 @@ list-asks m start h l = omega (arith, ap length (rest-is m start), length-drop s
 
 -- the required members
 module _ (T : List ℕ) (top : ℕ) (m : List ℕ) (start : ℕ) (h : start ≤ length m) (ms : Members)
-    (em : ms ≡ membersOf 0 (optionalStart T top) (requireds (Table.required T top) (take (length m - start) (drop start m)))) where
-  reads : ms ≡ membersOf 0 (optionalStart T top) (requireds (Table.required T top) (drop start m))
-  reads = em ∙ ap (λ (l : List ℕ). membersOf 0 (optionalStart T top) (requireds (Table.required T top) l)) (rest-is m start)
+    (em : ms ≡ membersOf 0 (optionalStart T top) (requireds (Table.requiredMembers T top) (take (length m - start) (drop start m)))) where
+  reads : ms ≡ membersOf 0 (optionalStart T top) (requireds (Table.requiredMembers T top) (drop start m))
+  reads = em ∙ ap (λ (l : List ℕ). membersOf 0 (optionalStart T top) (requireds (Table.requiredMembers T top) l)) (rest-is m start)
 
   list-refused : (c p : ℕ) → ms ≡ Refused c p → (out out′ : List ℕ) → Ends (inList T top start out (parameters T top (drop start m))) (Stop c (start + p)) out′
   list-refused c p q out out′ =
       ends-refused _ c (start + p) (Stop c (start + p)) out′
-      (parameters-refused T top (listClose top) refused (drop start m) c p (members-refused (Table.required T top) 0 (optionalStart T top) (drop start m) ms reads c p q) start 0 0 out) refl
+      (parameters-refused T top (listClose top) refused (drop start m) c p (members-refused (Table.requiredMembers T top) 0 (optionalStart T top) (drop start m) ms reads c p q) start 0 0 out) refl
 
   pub list-place : (c p : ℕ) → ms ≡ Refused c p → Fits w64 (length m) → Fits w64 (start + p)
-  list-place c p q l = omega (arith, refused-within (Table.required T top) 0 (optionalStart T top) (drop start m) ms reads c p q, length-drop start m)
+  list-place c p q l = omega (arith, refused-within (Table.requiredMembers T top) 0 (optionalStart T top) (drop start m) ms reads c p q, length-drop start m)
 
   module _ (n j i : ℕ) (q : ms ≡ Read n j i) where
     list-within : start + n ≤ length m
-    list-within = omega (arith, members-within (Table.required T top) 0 (optionalStart T top) (drop start m) ms reads n j i q, length-drop start m)
+    list-within = omega (arith, members-within (Table.requiredMembers T top) 0 (optionalStart T top) (drop start m) ms reads n j i q, length-drop start m)
 
     pub list-at : Fits w64 (length m) → Fits w64 (start + n)
     list-at l = omega (arith, list-within)
 
-    list-same : (out out′ : List ℕ) → ((ps : List Piece) (n : ℕ) → requireds (Table.required T top) (take (length m - start) (drop start m)) ≡ ok ps n → out′ ≡ fill 0 (pieceRows T top start ps) out)
+    list-same : (out out′ : List ℕ) → ((ps : List Piece) (n : ℕ) → requireds (Table.requiredMembers T top) (take (length m - start) (drop start m)) ≡ ok ps n → out′ ≡ fill 0 (pieceRows T top start ps) out)
         → inList T top start out (parameters T top (drop start m)) ≡ listing T top m (start + n) 0 j 0 out′
     unfolding listing
-    list-same out out′ fills = go (members-read (Table.required T top) 0 (optionalStart T top) (drop start m) ms reads n j i q)
+    list-same out out′ fills = go (members-read (Table.requiredMembers T top) 0 (optionalStart T top) (drop start m) ms reads n j i q)
       where
-        go : (ps : List Piece) × (requireds (Table.required T top) (drop start m) ≡ ok ps n) × (j ≡ 0 + length ps)
-            → inList T top start out (parameters T top (drop start m)) ≡ finish T top (listClose top) refused false (start + n) j 0 out′ (optionalsFrom atEnd (Table.optional T top) 0 (drop (start + n) m))
+        go : (ps : List Piece) × (requireds (Table.requiredMembers T top) (drop start m) ≡ ok ps n) × (j ≡ 0 + length ps)
+            → inList T top start out (parameters T top (drop start m)) ≡ finish T top (listClose top) refused false (start + n) j 0 out′ (optionalsFrom atEnd (Table.optionalMembers T top) 0 (drop (start + n) m))
         go R =
-            let e : requireds (Table.required T top) (take (length m - start) (drop start m)) ≡ ok (R .0) n = ap (requireds (Table.required T top)) (rest-is m start) ∙ R .1 in
+            let e : requireds (Table.requiredMembers T top) (take (length m - start) (drop start m)) ≡ ok (R .0) n = ap (requireds (Table.requiredMembers T top)) (rest-is m start) ∙ R .1 in
             parameters-required T top (listClose top) refused (drop start m) (R .0) n (R .1) start 0 0 out
-            ∙ ap₂ (λ (i : ℕ) (l : List ℕ). finish T top (listClose top) refused false (start + n) i 0 l (optionalsFrom atEnd (Table.optional T top) 0 (drop n (drop start m)))) (sym (R .2)) (sym (fills (R .0) n e))
-            ∙ ap (λ (l : List ℕ). finish T top (listClose top) refused false (start + n) j 0 out′ (optionalsFrom atEnd (Table.optional T top) 0 l)) (drop-drop n start m)
+            ∙ ap₂ (λ (i : ℕ) (l : List ℕ). finish T top (listClose top) refused false (start + n) i 0 l (optionalsFrom atEnd (Table.optionalMembers T top) 0 (drop n (drop start m)))) (sym (R .2)) (sym (fills (R .0) n e))
+            ∙ ap (λ (l : List ℕ). finish T top (listClose top) refused false (start + n) j 0 out′ (optionalsFrom atEnd (Table.optionalMembers T top) 0 l)) (drop-drop n start m)
 
 -- what is told of one answer
 pub told-both : (ms x y : Members) → ms ≡ x → ms ≡ y → x ≡ y
 told-both ms x y e h = sym e ∙ h
 
 -- at the first optional
-pub list-begin : (T : List ℕ) (top : ℕ) (m : List ℕ) (start n j i : ℕ) (out : List ℕ) → Read n j i ≡ membersOf 0 (optionalStart T top) (requireds (Table.required T top) (take (length m - start) (drop start m)))
+pub list-begin : (T : List ℕ) (top : ℕ) (m : List ℕ) (start n j i : ℕ) (out : List ℕ) → Read n j i ≡ membersOf 0 (optionalStart T top) (requireds (Table.requiredMembers T top) (take (length m - start) (drop start m)))
     → (stop : ℕ) → stop ≡ Table.field T top 0 + Table.field T top 1 → start ≤ length m → Small T → length m < 2 ^ 63
     → Listing T top m (listing T top m (start + n) 0 j 0 out) stop (start + n) 0 i j 0 out
 list-begin T top m start n j i out em stop e h S l =
     let told = reads T top m start h (Read n j i) em in
-    let R = members-read (Table.required T top) 0 (optionalStart T top) (drop start m) (Read n j i) told n j i refl in
+    let R = members-read (Table.requiredMembers T top) 0 (optionalStart T top) (drop start m) (Read n j i) told n j i refl in
     record {
       small = S;
       room = l;
       inside = list-within T top m start h (Read n j i) em n j i refl;
       few = omega (arith, R .2, required-few T top (drop start m) (R .0) n (R .1), field-below T S top 1);
       fewer = omega arith;
-      passed = passed-none T top stop i e (members-start (Table.required T top) 0 (optionalStart T top) (drop start m) (Read n j i) told n j i refl);
+      passed = passed-none T top stop i e (members-start (Table.requiredMembers T top) 0 (optionalStart T top) (drop start m) (Read n j i) told n j i refl);
       rest = refl;
     }
 
@@ -158,28 +158,28 @@ module _ {T : List ℕ} {top : ℕ} {m : List ℕ} {whole : Outcome} {stop at le
       ends-listed whole (Done top 1 k o 0 at) out
       (inv .rest ∙ finish-end T top (listClose top) refused atEnd false least (drop at m) at k o out 0 (at-end m at h) refl ∙ ap (λ (i : ℕ). listed (Done top 1 k o 0 i) out) (add-zero at))
 
-  module _ (on : at < length m) {r : Optional} (e : r ≡ optionalAnswer (optionalFrom T stop row) (optionalOf (optionalFrom T stop row) least (take (length m - at) (drop at m)))) where
-    answers : r ≡ optionalAnswer (Table.optional T top) (optionalOf (Table.optional T top) least (drop at m))
+  module _ (on : at < length m) {r : Optional} (e : r ≡ optionalAnswer (optionalFrom T stop row) (nextOptional (optionalFrom T stop row) least (take (length m - at) (drop at m)))) where
+    answers : r ≡ optionalAnswer (Table.optionalMembers T top) (nextOptional (Table.optionalMembers T top) least (drop at m))
     answers =
         e ∙ passed-answer T top stop row least (inv .passed) (take (length m - at) (drop at m))
-        ∙ ap (λ (l : List ℕ). optionalAnswer (Table.optional T top) (optionalOf (Table.optional T top) least l)) (rest-is m at)
+        ∙ ap (λ (l : List ℕ). optionalAnswer (Table.optionalMembers T top) (nextOptional (Table.optionalMembers T top) least l)) (rest-is m at)
 
     -- a known optional
     module _ {i tag a n : ℕ} (q : r ≡ Known i tag a n) where
-      reading : KnownRead (Table.optional T top) least (drop at m) i tag a n
-      reading = known-read (Table.optional T top) least (drop at m) r answers i tag a n q
+      reading : KnownRead (Table.optionalMembers T top) least (drop at m) i tag a n
+      reading = known-read (Table.optionalMembers T top) least (drop at m) r answers i tag a n q
 
       listing-two : 2 ≤ n
-      listing-two = optional-two (Table.optional T top) least (drop at m) _ n (reading .read)
+      listing-two = optional-two (Table.optionalMembers T top) least (drop at m) _ n (reading .read)
 
       listing-within : at + n ≤ length m
-      listing-within = omega (arith, known-within (Table.optional T top) least (drop at m) r answers i tag a n q, length-drop at m)
+      listing-within = omega (arith, known-within (Table.optionalMembers T top) least (drop at m) r answers i tag a n q, length-drop at m)
 
       pub listing-less : length m - (at + n) < length m - at
       listing-less = omega (arith, listing-two, listing-within)
 
       pub listing-start : a ≤ n
-      listing-start = known-start (Table.optional T top) least (drop at m) r answers i tag a n q
+      listing-start = known-start (Table.optionalMembers T top) least (drop at m) r answers i tag a n q
 
       pub listing-place : Fits w64 (at + a)
       listing-place = omega (arith, inv .room, listing-start, listing-within)
@@ -191,7 +191,7 @@ module _ {T : List ℕ} {top : ℕ} {m : List ℕ} {whole : Outcome} {stop at le
       listing-count = omega (arith, inv .room, inv .few, inv .inside)
 
       pub listing-tag : Fits w64 (tag + 1)
-      listing-tag = omega (arith, known-tag (Table.optional T top) least (drop at m) r answers i tag a n q)
+      listing-tag = omega (arith, known-tag (Table.optionalMembers T top) least (drop at m) r answers i tag a n q)
 
       pub listing-few : i < 131072
       listing-few = omega (arith, member-within T top least (drop at m) i tag a n reading, field-below T (inv .small) top 0, field-below T (inv .small) top 1)
@@ -207,17 +207,17 @@ module _ {T : List ℕ} {top : ℕ} {m : List ℕ} {whole : Outcome} {stop at le
         fewer = omega (arith, inv .fewer);
         passed = rw p (passed-behind T top stop row least (inv .passed) tag (reading .rises) i (member-begun T top least (drop at m) i tag a n reading) (member-tag T top least (drop at m) i tag a n reading));
         rest = inv .rest ∙ finish-known T top (listClose top) refused atEnd false least (drop at m) at k o out (not-end m at on) i tag a n reading
-            ∙ ap₂ (λ (y : List ℕ) (l : List ℕ). finish T top (listClose top) refused false (at + n) (k + 1) o y (optionalsFrom atEnd (Table.optional T top) (suc tag) l)) (sym w) (drop-drop n at m)
+            ∙ ap₂ (λ (y : List ℕ) (l : List ℕ). finish T top (listClose top) refused false (at + n) (k + 1) o y (optionalsFrom atEnd (Table.optionalMembers T top) (suc tag) l)) (sym w) (drop-drop n at m)
             ∙ rw (add-one tag);
       }
 
     -- a skipped one
     module _ {tag n : ℕ} (q : r ≡ Skipped tag n) where
       listing-some : 1 ≤ n
-      listing-some = skipped-some (Table.optional T top) least (drop at m) r answers tag n q
+      listing-some = skipped-some (Table.optionalMembers T top) least (drop at m) r answers tag n q
 
       listing-past : at + n ≤ length m
-      listing-past = omega (arith, skipped-within (Table.optional T top) least (drop at m) r answers tag n q, length-drop at m)
+      listing-past = omega (arith, skipped-within (Table.optionalMembers T top) least (drop at m) r answers tag n q, length-drop at m)
 
       pub listing-past-less : length m - (at + n) < length m - at
       listing-past-less = omega (arith, listing-some, listing-past)
@@ -229,7 +229,7 @@ module _ {T : List ℕ} {top : ℕ} {m : List ℕ} {whole : Outcome} {stop at le
       listing-skips = omega (arith, inv .room, inv .fewer, listing-some, listing-past)
 
       pub listing-past-tag : Fits w64 (tag + 1)
-      listing-past-tag = omega (arith, skipped-tag (Table.optional T top) least (drop at m) r answers tag n q)
+      listing-past-tag = omega (arith, skipped-tag (Table.optionalMembers T top) least (drop at m) r answers tag n q)
 
       pub listing-skipped : Listing T top m whole stop (at + n) (tag + 1) row k (o + 1) out
       unfolding listing
@@ -239,52 +239,52 @@ module _ {T : List ℕ} {top : ℕ} {m : List ℕ} {whole : Outcome} {stop at le
         inside = listing-past;
         few = omega (arith, inv .few);
         fewer = omega (arith, inv .fewer, listing-some);
-        passed = passed-still T top stop row least (inv .passed) tag (skipped-read (Table.optional T top) least (drop at m) r answers tag n q .rises);
+        passed = passed-still T top stop row least (inv .passed) tag (skipped-read (Table.optionalMembers T top) least (drop at m) r answers tag n q .rises);
         rest = inv .rest
-            ∙ finish-skipped T top (listClose top) refused atEnd false least (drop at m) at k o out (not-end m at on) tag n (skipped-read (Table.optional T top) least (drop at m) r answers tag n q)
-            ∙ ap (λ (l : List ℕ). finish T top (listClose top) refused false (at + n) k (o + 1) out (optionalsFrom atEnd (Table.optional T top) (suc tag) l)) (drop-drop n at m)
+            ∙ finish-skipped T top (listClose top) refused atEnd false least (drop at m) at k o out (not-end m at on) tag n (skipped-read (Table.optionalMembers T top) least (drop at m) r answers tag n q)
+            ∙ ap (λ (l : List ℕ). finish T top (listClose top) refused false (at + n) k (o + 1) out (optionalsFrom atEnd (Table.optionalMembers T top) (suc tag) l)) (drop-drop n at m)
             ∙ rw (add-one tag);
       }
 
     -- a refusal
     module _ {c p : ℕ} (q : r ≡ Wrong c p) where
       pub listing-stop : Fits w64 (at + p)
-      listing-stop = omega (arith, inv .room, wrong-within (Table.optional T top) least (drop at m) r answers c p q, length-drop at m, inv .inside)
+      listing-stop = omega (arith, inv .room, wrong-within (Table.optionalMembers T top) least (drop at m) r answers c p q, length-drop at m, inv .inside)
 
       listing-wrong : (out′ : List ℕ) → Ends whole (Stop c (at + p)) out′
       unfolding listing
       listing-wrong out′ =
           ends-refused whole c (at + p) (Stop c (at + p)) out′
-          (inv .rest ∙ finish-wrong T top (listClose top) refused atEnd false least (drop at m) at k o out (not-end m at on) c p (wrong-read (Table.optional T top) least (drop at m) r answers c p q)) refl
+          (inv .rest ∙ finish-wrong T top (listClose top) refused atEnd false least (drop at m) at k o out (not-end m at on) c p (wrong-read (Table.optionalMembers T top) least (drop at m) r answers c p q)) refl
 
 -- ---- how the walk ends
 
 -- the answer does not depend on the lent list
 listing-answer : (T : List ℕ) (top : ℕ) (m : List ℕ) (at least k o : ℕ) (out out′ : List ℕ) → answerOf (listing T top m at least k o out) ≡ answerOf (listing T top m at least k o out′)
 unfolding listing finish listClose answerOf
-listing-answer T top m at least k o out out′ = go (optionalsFrom atEnd (Table.optional T top) least (drop at m))
+listing-answer T top m at least k o out out′ = go (optionalsFrom atEnd (Table.optionalMembers T top) least (drop at m))
   where
     go : (r : Res (List Piece)) → answerOf (finish T top (listClose top) refused false at k o out r) ≡ answerOf (finish T top (listClose top) refused false at k o out′ r)
     go (ok ps n) = refl
     go (bad c p) = refl
 
 module _ (T : List ℕ) (top : ℕ) (m : List ℕ) (start n j i : ℕ) (mid : List ℕ) (stop at least row k o : ℕ) (out : List ℕ) (inv : Listing T top m (listing T top m (start + n) 0 j 0 mid) stop at least row k o out)
-    (h : start ≤ length m) (ms : Members) (em : ms ≡ membersOf 0 (optionalStart T top) (requireds (Table.required T top) (take (length m - start) (drop start m)))) (w : ms ≡ Read n j i) where
+    (h : start ≤ length m) (ms : Members) (em : ms ≡ membersOf 0 (optionalStart T top) (requireds (Table.requiredMembers T top) (take (length m - start) (drop start m)))) (w : ms ≡ Read n j i) where
   -- the optionals decide
   same-answer : answerOf (listing T top m (start + n) 0 j 0 mid) ≡ listWalk T top start (parameters T top (drop start m))
-  same-answer = go (members-read (Table.required T top) 0 (optionalStart T top) (drop start m) ms (reads T top m start h ms em) n j i w)
+  same-answer = go (members-read (Table.requiredMembers T top) 0 (optionalStart T top) (drop start m) ms (reads T top m start h ms em) n j i w)
     where
-      go : (ps : List Piece) × (requireds (Table.required T top) (drop start m) ≡ ok ps n) × (j ≡ 0 + length ps) → answerOf (listing T top m (start + n) 0 j 0 mid) ≡ listWalk T top start (parameters T top (drop start m))
+      go : (ps : List Piece) × (requireds (Table.requiredMembers T top) (drop start m) ≡ ok ps n) × (j ≡ 0 + length ps) → answerOf (listing T top m (start + n) 0 j 0 mid) ≡ listWalk T top start (parameters T top (drop start m))
       go R =
           listing-answer T top m (start + n) 0 j 0 mid (fill 0 (pieceRows T top start (R .0)) mid)
           ∙ sym (ap answerOf (list-same T top m start h ms em n j i w mid (fill 0 (pieceRows T top start (R .0)) mid) (λ ps i e.
-          let z : ok (R .0) n ≡ ok ps i = sym (ap (requireds (Table.required T top)) (rest-is m start) ∙ R .1) ∙ e in
+          let z : ok (R .0) n ≡ ok ps i = sym (ap (requireds (Table.requiredMembers T top)) (rest-is m start) ∙ R .1) ∙ e in
           let y : R .0 ≡ ps = cc in ap (λ (l : List Piece). fill 0 (pieceRows T top start l) mid) y)))
           ∙ list-whole T top start mid (parameters T top (drop start m))
 
   -- the required members are listed
   abbrev Fills : List ℕ → Type 0
-  Fills out₀ = (ps : List Piece) (n : ℕ) → requireds (Table.required T top) (take (length m - start) (drop start m)) ≡ ok ps n → mid ≡ fill 0 (pieceRows T top start ps) out₀
+  Fills out₀ = (ps : List Piece) (n : ℕ) → requireds (Table.requiredMembers T top) (take (length m - start) (drop start m)) ≡ ok ps n → mid ≡ fill 0 (pieceRows T top start ps) out₀
 
   -- so are all of them where the walk accepts
   gives : (out₀ : List ℕ) → Fills out₀ → (v : Walk) → Ends (listing T top m (start + n) 0 j 0 mid) v out → (ps : List Piece) (n : ℕ) → parameters T top (drop start m) ≡ ok ps n → out ≡ fill 0 (pieceRows T top start ps) out₀
@@ -299,7 +299,7 @@ module _ (T : List ℕ) (top : ℕ) (m : List ℕ) (start n j i : ℕ) (mid : Li
     done-gives out₀ fills = gives out₀ fills (Done top 1 k o 0 at) (listing-end inv over)
 
   -- an optional is refused
-  module _ (on : at < length m) (r : Optional) (e : r ≡ optionalAnswer (optionalFrom T stop row) (optionalOf (optionalFrom T stop row) least (take (length m - at) (drop at m)))) (c p : ℕ) (q : r ≡ Wrong c p) where
+  module _ (on : at < length m) (r : Optional) (e : r ≡ optionalAnswer (optionalFrom T stop row) (nextOptional (optionalFrom T stop row) least (take (length m - at) (drop at m)))) (c p : ℕ) (q : r ≡ Wrong c p) where
     pub stopped-says : Stop c (at + p) ≡ listWalk T top start (parameters T top (drop start m))
     stopped-says = ends-answer (listing-wrong inv on e q out) ∙ same-answer
 
@@ -307,7 +307,7 @@ module _ (T : List ℕ) (top : ℕ) (m : List ℕ) (start n j i : ℕ) (mid : Li
     stopped-gives out₀ fills = gives out₀ fills (Stop c (at + p)) (listing-wrong inv on e q out)
 
 -- a required member is refused
-module _ (T : List ℕ) (top : ℕ) (m : List ℕ) (start : ℕ) (h : start ≤ length m) (ms : Members) (em : ms ≡ membersOf 0 (optionalStart T top) (requireds (Table.required T top) (take (length m - start) (drop start m))))
+module _ (T : List ℕ) (top : ℕ) (m : List ℕ) (start : ℕ) (h : start ≤ length m) (ms : Members) (em : ms ≡ membersOf 0 (optionalStart T top) (requireds (Table.requiredMembers T top) (take (length m - start) (drop start m))))
     (c p : ℕ) (w : ms ≡ Refused c p) where
   pub refused-says : Stop c (start + p) ≡ listWalk T top start (parameters T top (drop start m))
   refused-says = list-says T top start m (parameters T top (drop start m)) (Stop c (start + p)) m (list-refused T top m start h ms em c p w m m)

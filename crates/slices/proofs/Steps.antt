@@ -20,7 +20,7 @@ use Rattle.encoding.specs.Number.{declared}
 use Rattle.encoding.specs.NumberLaws.{held-declared}
 use Rattle.encoding.specs.Table.{Member}
 use Rattle.encoding.specs.Table
-use Rattle.encoding.specs.Optional.{optionalOf}
+use Rattle.encoding.specs.Optional.{nextOptional}
 use Rattle.encoding.specs.WeightLaws.{declared-weight}
 use Rattle.encoding.specs.Slice
 use Rattle.wire.specs.At.{at-byte}
@@ -122,7 +122,7 @@ module _ (ms : List Member) (least : ℕ) (s : List ℕ) (b : ℕ) (e : b ≡ Ta
     unfolding turnOf turnBy
     next-end z = rw (mark-here s (sym e ∙ q), ne-eqb least 0 z)
 
-  module _ (q : b ≡ 255 → ⊥) (o : Optional) (f : o ≡ optionalAnswer ms (optionalOf ms least s)) where
+  module _ (q : b ≡ 255 → ⊥) (o : Optional) (f : o ≡ optionalAnswer ms (nextOptional ms least s)) where
     unmarked : atMark s ≡ none
     unmarked = mark-none s (λ z. q (e ∙ z))
 

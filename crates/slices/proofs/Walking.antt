@@ -25,7 +25,7 @@ use Rattle.encoding.specs.ResultLaws.{both-true, held-took}
 use Rattle.encoding.specs.Table.{field, base}
 use Rattle.encoding.specs.Table
 use Rattle.encoding.specs.TableLaws.{base-below}
-use Rattle.encoding.specs.Optional.{Piece, requireds, optionalOf}
+use Rattle.encoding.specs.Optional.{Piece, requireds, nextOptional}
 use Rattle.encoding.specs.OptionalLaws.{held-optional, eats-optional}
 use Rattle.encoding.specs.Slice.{compact, sliced, first, seek, later, follow, finished, fields, slices, Chain, formatNumber, slice}
 use Rattle.encoding.specs.SliceLaws.{held-slice, eats-slice}
@@ -212,42 +212,42 @@ module _ {T : List ℕ} {top : ℕ} {m : List ℕ} {whole : Outcome} {stage : St
         inv .rest ∙ left-known T top (stageOf stage) m pos t opt z a b opened (inv .on) k o s fst out
         ∙ ap (λ (l : List ℕ). finish T t close (recalling pos) false (pos + a) k o out (fields T t opt l)) same-part
 
-    module _ {ms : Members} (em : ms ≡ membersOf k (optionalStart T t) (requireds (Table.required T t) part)) where
+    module _ {ms : Members} (em : ms ≡ membersOf k (optionalStart T t) (requireds (Table.requiredMembers T t) part)) where
       known-refused : {c p : ℕ} → ms ≡ Refused c p → {v : Walk} → v ≡ answerOf (recalling pos c (pos + a + p)) → (out′ : List ℕ) → Ends whole v out′
       unfolding answerOf recalling
       known-refused {c} {p} w {v} h out′ =
           ends-refused whole c (recallTo c pos (pos + a + p)) v out′
-          (by-members ∙ fields-refused T t close (recalling pos) part c p (members-refused (Table.required T t) k (optionalStart T t) part ms em c p w) (pos + a) k o out opt) h
+          (by-members ∙ fields-refused T t close (recalling pos) part c p (members-refused (Table.requiredMembers T t) k (optionalStart T t) part ms em c p w) (pos + a) k o out opt) h
 
       pub refused-fits : {c p : ℕ} → ms ≡ Refused c p → Fits w64 (pos + a + p)
       refused-fits {c} {p} w =
-          omega (arith, inv .room, refused-within (Table.required T t) k (optionalStart T t) part ms em c p w, part-length m (pos + a) (pos + b) known-order known-within, known-order, known-within)
+          omega (arith, inv .room, refused-within (Table.requiredMembers T t) k (optionalStart T t) part ms em c p w, part-length m (pos + a) (pos + b) known-order known-within, known-order, known-within)
 
       module _ {n j i : ℕ} (w : ms ≡ Read n j i) where
         at-within : pos + a + n ≤ pos + b
-        at-within = omega (arith, members-within (Table.required T t) k (optionalStart T t) part ms em n j i w, part-length m (pos + a) (pos + b) known-order known-within, known-order)
+        at-within = omega (arith, members-within (Table.requiredMembers T t) k (optionalStart T t) part ms em n j i w, part-length m (pos + a) (pos + b) known-order known-within, known-order)
 
         pub at-fits : Fits w64 (pos + a + n)
         at-fits = omega (arith, inv .room, at-within, known-within)
 
-        module _ {out′ : List ℕ} (fills : (ps : List Piece) (n : ℕ) → requireds (Table.required T t) part ≡ ok ps n → out′ ≡ fill k (pieceRows T t (pos + a) ps) out) where
+        module _ {out′ : List ℕ} (fills : (ps : List Piece) (n : ℕ) → requireds (Table.requiredMembers T t) part ≡ ok ps n → out′ ≡ fill k (pieceRows T t (pos + a) ps) out) where
           -- the members behind the required ones decide
           pub outer-same : whole ≡ amid T top m (stageOf stage) pos t z (pos + a) (pos + b) s fst (pos + a + n) 0 j o opt out′
           unfolding amid
-          outer-same = go (members-read (Table.required T t) k (optionalStart T t) part ms em n j i w)
+          outer-same = go (members-read (Table.requiredMembers T t) k (optionalStart T t) part ms em n j i w)
             where
-              go : (ps : List Piece) × (requireds (Table.required T t) part ≡ ok ps n) × (j ≡ k + length ps)
+              go : (ps : List Piece) × (requireds (Table.requiredMembers T t) part ≡ ok ps n) × (j ≡ k + length ps)
                   → whole ≡ amid T top m (stageOf stage) pos t z (pos + a) (pos + b) s fst (pos + a + n) 0 j o opt out′
               go R =
                   by-members ∙ fields-required T t close (recalling pos) part (R .0) n (R .1) (pos + a) k o out opt
-                  ∙ ap₂ (λ (i : ℕ) (l : List ℕ). pick opt (finish T t close (recalling pos) true (pos + a + n) i o l (optionalsFrom atMark (Table.optional T t) 0 (drop n part))) (close (pos + a + n) i o l))
+                  ∙ ap₂ (λ (i : ℕ) (l : List ℕ). pick opt (finish T t close (recalling pos) true (pos + a + n) i o l (optionalsFrom atMark (Table.optionalMembers T t) 0 (drop n part))) (close (pos + a + n) i o l))
                   (sym (R .2)) (sym (fills (R .0) n (R .1)))
-                  ∙ ap (λ (l : List ℕ). pick opt (finish T t close (recalling pos) true (pos + a + n) j o out′ (optionalsFrom atMark (Table.optional T t) 0 l)) (close (pos + a + n) j o out′)) (part-on m (pos + a) n (pos + b))
+                  ∙ ap (λ (l : List ℕ). pick opt (finish T t close (recalling pos) true (pos + a + n) j o out′ (optionalsFrom atMark (Table.optionalMembers T t) 0 l)) (close (pos + a + n) j o out′)) (part-on m (pos + a) n (pos + b))
 
         pub outer-in : {stop : ℕ} → stop ≡ field T t 0 + field T t 1 → (out′ : List ℕ)
             → Inner T top m (amid T top m (stageOf stage) pos t z (pos + a) (pos + b) s fst (pos + a + n) 0 j o opt out′) stage pos t z (pos + a) (pos + b) s fst stop (pos + a + n) 0 i j o opt out′
         outer-in {stop} e out′ =
-            let R = members-read (Table.required T t) k (optionalStart T t) part ms em n j i w in
+            let R = members-read (Table.requiredMembers T t) k (optionalStart T t) part ms em n j i w in
             let eats = opened-eats T top (stageOf stage) (drop pos m) t opt z a b opened in
             record {
               small = inv .small;
@@ -259,7 +259,7 @@ module _ {T : List ℕ} {top : ℕ} {m : List ℕ} {whole : Outcome} {stage : St
               fewer = omega (arith, inv .fewer);
               fewest = inv .fewest;
               sized = λ y. omega (arith, opened-sized T top (stageOf stage) (drop pos m) t opt z a b opened y);
-              passed = passed-none T t stop i e (members-start (Table.required T t) k (optionalStart T t) part ms em n j i w);
+              passed = passed-none T t stop i e (members-start (Table.requiredMembers T t) k (optionalStart T t) part ms em n j i w);
               rest = refl;
             }
 
@@ -278,10 +278,10 @@ module _ {T : List ℕ} {top : ℕ} {m : List ℕ} {whole : Outcome} {stage : St
   part-in = take (end - at) (drop at m)
 
   module _ (go-on : more ≡ true) {r : Turn} (e : r ≡ turnOf (optionalFrom T stop row) least part-in) where
-    turns : r ≡ turnOf (Table.optional T t) least part-in
+    turns : r ≡ turnOf (Table.optionalMembers T t) least part-in
     turns = e ∙ passed-turn T t stop row least (inv .passed) part-in
 
-    ahead : whole ≡ finish T t close-in (recalling pos) (eqb least 0) at k o out (optionalsFrom atMark (Table.optional T t) least part-in)
+    ahead : whole ≡ finish T t close-in (recalling pos) (eqb least 0) at k o out (optionalsFrom atMark (Table.optionalMembers T t) least part-in)
     unfolding amid
     ahead = inv .rest ∙ rw go-on
 
@@ -291,7 +291,7 @@ module _ {T : List ℕ} {top : ℕ} {m : List ℕ} {whole : Outcome} {stage : St
     -- the end marker
     module _ (q : r ≡ End) where
       end-within : at + 1 ≤ end
-      end-within = omega (arith, mark-byte part-in 1 (turn-end (Table.optional T t) least part-in r turns q .0) .1, long)
+      end-within = omega (arith, mark-byte part-in 1 (turn-end (Table.optionalMembers T t) least part-in r turns q .0) .1, long)
 
       pub end-less : length m - (at + 1) < length m - at
       end-less = omega (arith, end-within, inv .within)
@@ -302,7 +302,7 @@ module _ {T : List ℕ} {top : ℕ} {m : List ℕ} {whole : Outcome} {stage : St
       pub inner-end : Inner T top m whole stage pos t z from end s fst stop (at + 1) least row k o false out
       unfolding amid
       inner-end =
-          let E = turn-end (Table.optional T t) least part-in r turns q in
+          let E = turn-end (Table.optionalMembers T t) least part-in r turns q in
           record {
             small = inv .small;
             room = inv .room;
@@ -319,14 +319,14 @@ module _ {T : List ℕ} {top : ℕ} {m : List ℕ} {whole : Outcome} {stage : St
 
     -- a known optional
     module _ {i tag a n : ℕ} (q : r ≡ Known i tag a n) where
-      known-told : (atMark part-in ≡ none) × KnownRead (Table.optional T t) least part-in i tag a n
-      known-told = turn-known (Table.optional T t) least part-in r turns i tag a n q
+      known-told : (atMark part-in ≡ none) × KnownRead (Table.optionalMembers T t) least part-in i tag a n
+      known-told = turn-known (Table.optionalMembers T t) least part-in r turns i tag a n q
 
       known-two : 2 ≤ n
-      known-two = optional-two (Table.optional T t) least part-in _ n (known-told .1 .read)
+      known-two = optional-two (Table.optionalMembers T t) least part-in _ n (known-told .1 .read)
 
       known-ends : at + n ≤ end
-      known-ends = omega (arith, held-took (optionalOf (Table.optional T t) least) (held-optional (Table.optional T t) least) part-in (known-told .1 .read), long, inv .inside)
+      known-ends = omega (arith, held-took (nextOptional (Table.optionalMembers T t) least) (held-optional (Table.optionalMembers T t) least) part-in (known-told .1 .read), long, inv .inside)
 
       pub known-less : length m - (at + n) < length m - at
       known-less = omega (arith, known-two, known-ends, inv .within)
@@ -364,20 +364,20 @@ module _ {T : List ℕ} {top : ℕ} {m : List ℕ} {whole : Outcome} {stage : St
         sized = inv .sized;
         passed = rw p (passed-behind T t stop row least (inv .passed) tag (known-told .1 .rises) i (member-begun T t least part-in i tag a n (known-told .1)) (member-tag T t least part-in i tag a n (known-told .1)));
         rest = ahead ∙ finish-known T t close-in (recalling pos) atMark (eqb least 0) least part-in at k o out (known-told .0) i tag a n (known-told .1)
-            ∙ ap₂ (λ (y : List ℕ) (l : List ℕ). finish T t close-in (recalling pos) false (at + n) (k + 1) o y (optionalsFrom atMark (Table.optional T t) (suc tag) l)) (sym w) (part-on m at n end)
+            ∙ ap₂ (λ (y : List ℕ) (l : List ℕ). finish T t close-in (recalling pos) false (at + n) (k + 1) o y (optionalsFrom atMark (Table.optionalMembers T t) (suc tag) l)) (sym w) (part-on m at n end)
             ∙ rw (go-on, add-one tag, ne-eqb (suc tag) 0 (λ y. omega arith));
       }
 
     -- a skipped one
     module _ {tag n : ℕ} (q : r ≡ SkippedTurn tag n) where
-      skipped-told : (atMark part-in ≡ none) × SkippedRead (Table.optional T t) least part-in tag n
-      skipped-told = turn-skipped (Table.optional T t) least part-in r turns tag n q
+      skipped-told : (atMark part-in ≡ none) × SkippedRead (Table.optionalMembers T t) least part-in tag n
+      skipped-told = turn-skipped (Table.optionalMembers T t) least part-in r turns tag n q
 
       skipped-some : 1 ≤ n
-      skipped-some = eats-optional (Table.optional T t) least part-in _ n (skipped-told .1 .read)
+      skipped-some = eats-optional (Table.optionalMembers T t) least part-in _ n (skipped-told .1 .read)
 
       skipped-ends : at + n ≤ end
-      skipped-ends = omega (arith, held-took (optionalOf (Table.optional T t) least) (held-optional (Table.optional T t) least) part-in (skipped-told .1 .read), long, inv .inside)
+      skipped-ends = omega (arith, held-took (nextOptional (Table.optionalMembers T t) least) (held-optional (Table.optionalMembers T t) least) part-in (skipped-told .1 .read), long, inv .inside)
 
       pub skipped-less : length m - (at + n) < length m - at
       skipped-less = omega (arith, skipped-some, skipped-ends, inv .within)
@@ -405,20 +405,20 @@ module _ {T : List ℕ} {top : ℕ} {m : List ℕ} {whole : Outcome} {stage : St
         sized = inv .sized;
         passed = passed-still T t stop row least (inv .passed) tag (skipped-told .1 .rises);
         rest = ahead ∙ finish-skipped T t close-in (recalling pos) atMark (eqb least 0) least part-in at k o out (skipped-told .0) tag n (skipped-told .1)
-            ∙ ap (λ (l : List ℕ). finish T t close-in (recalling pos) false (at + n) k (o + 1) out (optionalsFrom atMark (Table.optional T t) (suc tag) l)) (part-on m at n end)
+            ∙ ap (λ (l : List ℕ). finish T t close-in (recalling pos) false (at + n) k (o + 1) out (optionalsFrom atMark (Table.optionalMembers T t) (suc tag) l)) (part-on m at n end)
             ∙ rw (go-on, add-one tag, ne-eqb (suc tag) 0 (λ y. omega arith));
       }
 
     -- a refusal
     module _ {c p : ℕ} (q : r ≡ Wrong c p) where
       pub stop-fits : Fits w64 (at + p)
-      stop-fits = omega (arith, inv .room, turn-place (Table.optional T t) least part-in r turns c p q, long, inv .inside, inv .within)
+      stop-fits = omega (arith, inv .room, turn-place (Table.optionalMembers T t) least part-in r turns c p q, long, inv .inside, inv .within)
 
       inner-wrong : {v : Walk} → v ≡ answerOf (recalling pos c (at + p)) → Ends whole v out
       unfolding answerOf recalling recallTo
-      inner-wrong {v} h = go (turn-wrong (Table.optional T t) least part-in r turns c p q)
+      inner-wrong {v} h = go (turn-wrong (Table.optionalMembers T t) least part-in r turns c p q)
         where
-          go : Early (Table.optional T t) least part-in r turns c p ⊎ ((atMark part-in ≡ none) × (optionalOf (Table.optional T t) least part-in ≡ bad c p)) → Ends whole v out
+          go : Early (Table.optionalMembers T t) least part-in r turns c p ⊎ ((atMark part-in ≡ none) × (nextOptional (Table.optionalMembers T t) least part-in ≡ bad c p)) → Ends whole v out
           go (inl E) =
               ends-refused whole 14 pos v out (ahead ∙ finish-early T t close-in (recalling pos) atMark (eqb least 0) least part-in at k o out 1 (E .mark) (E .unmet)) (h ∙ rw (E .number))
           go (inr W) =
@@ -496,7 +496,7 @@ module _ (T : List ℕ) (top : ℕ) (m : List ℕ) (start : ℕ) (out₀ : List 
     pub wrong-gives : (c : Chain) (n : ℕ) → slices T top (drop start m) ≡ ok c n → out ≡ fill 0 (chainRows T start c) out₀
     wrong-gives = ends-gives T start out₀ (slices T top (drop start m)) v out (outer-wrong inv e q h)
 
-  module _ (t : ℕ) (opt z : Bool) (a b : ℕ) (q : r ≡ KnownSlice t opt z a b) (ms : Members) (em : ms ≡ membersOf k (optionalStart T t) (requireds (Table.required T t) (take (pos + b - (pos + a)) (drop (pos + a) m)))) where
+  module _ (t : ℕ) (opt z : Bool) (a b : ℕ) (q : r ≡ KnownSlice t opt z a b) (ms : Members) (em : ms ≡ membersOf k (optionalStart T t) (requireds (Table.requiredMembers T t) (take (pos + b - (pos + a)) (drop (pos + a) m)))) where
     -- a required member is refused
     module _ (c p : ℕ) (w : ms ≡ Refused c p) (v : Walk) (h : v ≡ answerOf (recalling pos c (pos + a + p))) where
       pub refused-says : v ≡ sliceWalk T start (slices T top (drop start m))
@@ -507,7 +507,7 @@ module _ (T : List ℕ) (top : ℕ) (m : List ℕ) (start : ℕ) (out₀ : List 
 
     -- the members behind the required ones decide
     pub outer-answer : (n j i : ℕ) → ms ≡ Read n j i → (out′ : List ℕ)
-        → ((ps : List Piece) (n : ℕ) → requireds (Table.required T t) (take (pos + b - (pos + a)) (drop (pos + a) m)) ≡ ok ps n → out′ ≡ fill k (pieceRows T t (pos + a) ps) out)
+        → ((ps : List Piece) (n : ℕ) → requireds (Table.requiredMembers T t) (take (pos + b - (pos + a)) (drop (pos + a) m)) ≡ ok ps n → out′ ≡ fill k (pieceRows T t (pos + a) ps) out)
         → sliceWalk T start (slices T top (drop start m)) ≡ answerOf (amid T top m (stageOf stage) pos t z (pos + a) (pos + b) s fst (pos + a + n) 0 j o opt out′)
     outer-answer n j i w out′ fills = sym (left-whole T start out₀ (slices T top (drop start m))) ∙ ap answerOf (outer-same inv e q em w fills)
 

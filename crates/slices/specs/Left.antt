@@ -18,8 +18,8 @@ use Prim.Native.Nat.{ℕ, _+_, _-_}
 use lib.ListN.{length, take, drop}
 use lib.Dec.{eqb}
 use Rattle.encoding.specs.Result.{Res, ok, bad, Parser, pick, many, atMark, atEnd}
-use Rattle.encoding.specs.Table.{Member, optional, base, chain, upward}
-use Rattle.encoding.specs.Optional.{Piece, optionalOf}
+use Rattle.encoding.specs.Table.{Member, optionalMembers, base, chain, upward}
+use Rattle.encoding.specs.Optional.{Piece, nextOptional}
 use Rattle.encoding.specs.Slice.{compact, sliced, formatNumber, Slice, Stage, seek, follow, standOf, Chain, walk}
 use Rattle.encoding.specs.Message.{Row, pieceRows, sliceRows, firstIn, skippedPieces, skippedIn, passedIn}
 use Rattle.level.specs.Fill.{fill}
@@ -76,7 +76,7 @@ recalling flags c p = refused c (recallTo c flags p)
 -- ---- optionals
 
 unfoldable pub optionalsFrom : (List ℕ → Option ℕ) → List Member → ℕ → Parser (List Piece)
-optionalsFrom stop ms least xs = many stop (optionalOf ms) (length xs) least xs
+optionalsFrom stop ms least xs = many stop (nextOptional ms) (length xs) least xs
 
 unfoldable pub noPiece : List Piece → Bool
 noPiece [] = true
@@ -93,7 +93,7 @@ unfoldable pub amid : List ℕ → ℕ → List ℕ → Stage → (pos t : ℕ) 
 amid T top m st pos t z from end s first at least k o more out =
     pick more
     (finish T t (closing T top m z (base T t) s (firstOr st first t) from end) (recalling pos) (eqb least 0) at k o out
-    (optionalsFrom atMark (optional T t) least (take (end - at) (drop at m))))
+    (optionalsFrom atMark (optionalMembers T t) least (take (end - at) (drop at m))))
     (closing T top m z (base T t) s (firstOr st first t) from end at k o out)
 
 unfoldable pub listClose : ℕ → (at k o : ℕ) → List ℕ → Outcome
@@ -101,4 +101,4 @@ listClose top at k o out = listed (Done top 1 k o 0 at) out
 
 -- at the optionals of a parameter list
 unfoldable pub listing : List ℕ → ℕ → List ℕ → (at least k o : ℕ) → List ℕ → Outcome
-listing T top m at least k o out = finish T top (listClose top) refused false at k o out (optionalsFrom atEnd (optional T top) least (drop at m))
+listing T top m at least k o out = finish T top (listClose top) refused false at k o out (optionalsFrom atEnd (optionalMembers T top) least (drop at m))

@@ -22,7 +22,7 @@ use Rattle.encoding.specs.Result.{Res, ok, bad, Parser, pick, shift, _>>=_, pur
 use Rattle.encoding.specs.ResultLaws.{both-true, bind-bad, bind-next, many-enough}
 use Rattle.encoding.specs.Table.{Member, base, upward, chain, nameOf}
 use Rattle.encoding.specs.Table
-use Rattle.encoding.specs.Optional.{Piece, required, optional, skipped, optionalOf, optionals, requireds, pieceBytes, isSkipped}
+use Rattle.encoding.specs.Optional.{Piece, required, optional, skipped, nextOptional, optionals, requireds, pieceBytes, isSkipped}
 use Rattle.encoding.specs.OptionalLaws.{eats-optional, starved-optional}
 use Rattle.encoding.specs.WeightLaws.{requireds-weight}
 use Rattle.encoding.specs.Slice.{Format, sliced, compact, isSliced, formatNumber, Slice, known, passed, Stand, first, later, Stage, seek, follow, standOf, finished, Chain, ahead, someForm, fields, slice, walk, sliceFront, dataBytes, isLast}
@@ -71,26 +71,26 @@ module _ (T : List ℕ) (top : ℕ) (st : Stage) (xs : List ℕ) where
 -- ---- the optionals ahead
 
 module _ (stop : List ℕ → Option ℕ) (ms : List Member) (least : ℕ) (xs : List ℕ) where
-  optionals-turn : optionalsFrom stop ms least xs ≡ turn (stop xs) ((optionalOf ms least >>= λ (r : Piece × ℕ). mapc (λ l _. r .0 ∷ l) (many stop (optionalOf ms) (length xs) (r .1))) xs)
+  optionals-turn : optionalsFrom stop ms least xs ≡ turn (stop xs) ((nextOptional ms least >>= λ (r : Piece × ℕ). mapc (λ l _. r .0 ∷ l) (many stop (nextOptional ms) (length xs) (r .1))) xs)
   unfolding optionalsFrom many
-  optionals-turn = many-enough stop (optionalOf ms) (eats-optional ms) (starved-optional ms) (length xs) (suc (length xs)) least xs (omega arith) (omega arith)
+  optionals-turn = many-enough stop (nextOptional ms) (eats-optional ms) (starved-optional ms) (length xs) (suc (length xs)) least xs (omega arith) (omega arith)
 
   pub optionals-end : {j : ℕ} → stop xs ≡ some j → optionalsFrom stop ms least xs ≡ ok [] j
   unfolding turn
   optionals-end e = optionals-turn ∙ rw e
 
   module _ (e : stop xs ≡ none) where
-    pub optionals-bad : (c p : ℕ) → optionalOf ms least xs ≡ bad c p → optionalsFrom stop ms least xs ≡ bad c p
+    pub optionals-bad : (c p : ℕ) → nextOptional ms least xs ≡ bad c p → optionalsFrom stop ms least xs ≡ bad c p
     unfolding turn
-    optionals-bad c p h = optionals-turn ∙ rw e (bind-bad (optionalOf ms least) _ xs h)
+    optionals-bad c p h = optionals-turn ∙ rw e (bind-bad (nextOptional ms least) _ xs h)
 
-    pub optionals-next : (p : Piece) (s′ n : ℕ) → optionalOf ms least xs ≡ ok (p, s′) n
+    pub optionals-next : (p : Piece) (s′ n : ℕ) → nextOptional ms least xs ≡ ok (p, s′) n
         → optionalsFrom stop ms least xs ≡ shift n (made (λ l _. p ∷ l) (optionalsFrom stop ms s′ (drop n xs)))
     unfolding turn mapc optionalsFrom
     optionals-next p s′ n h =
-        optionals-turn ∙ rw e (bind-next (optionalOf ms least) (λ (r : Piece × ℕ). mapc (λ l _. r .0 ∷ l) (many stop (optionalOf ms) (length xs) (r .1))) xs h
+        optionals-turn ∙ rw e (bind-next (nextOptional ms least) (λ (r : Piece × ℕ). mapc (λ l _. r .0 ∷ l) (many stop (nextOptional ms) (length xs) (r .1))) xs h
         ∙ ap (λ (r : Res (List Piece)). shift n (made (λ l _. p ∷ l) r))
-        (many-enough stop (optionalOf ms) (eats-optional ms) (starved-optional ms) (length xs) (length (drop n xs)) s′ (drop n xs) (omega (arith, length-drop n xs)) (omega arith)))
+        (many-enough stop (nextOptional ms) (eats-optional ms) (starved-optional ms) (length xs) (length (drop n xs)) s′ (drop n xs) (omega (arith, length-drop n xs)) (omega arith)))
 
 -- ---- the outcome, slice by slice
 
@@ -282,19 +282,19 @@ never false x y = refl
 
 module _ (T : List ℕ) (t : ℕ) (go : (at k o : ℕ) → List ℕ → Outcome) (refuse : ℕ → ℕ → Outcome) where
   -- required members, then what was read behind them
-  module _ (xs : List ℕ) (ps : List Piece) (n : ℕ) (e : requireds (Table.required T t) xs ≡ ok ps n) (at k o : ℕ) (out : List ℕ) where
+  module _ (xs : List ℕ) (ps : List Piece) (n : ℕ) (e : requireds (Table.requiredMembers T t) xs ≡ ok ps n) (at k o : ℕ) (out : List ℕ) where
     finish-append : (r : Res (List Piece))
         → finish T t go refuse false at k o out (shift n (made (λ qs _. ps ++ qs) r)) ≡ finish T t go refuse false (at + n) (k + length ps) o (fill k (pieceRows T t at ps) out) r
     unfolding finish shift made
     finish-append (ok qs m) =
-        let w : length (concat pieceBytes ps) ≡ n = sym (requireds-weight (Table.required T t) xs e) in
+        let w : length (concat pieceBytes ps) ≡ n = sym (requireds-weight (Table.requiredMembers T t) xs e) in
         let l : length (pieceRows T t at ps) ≡ length ps = required-count T t xs ps n at e in
         let R : pieceRows T t at (ps ++ qs) ≡ pieceRows T t at ps ++ pieceRows T t (at + n) qs =
         rows-append T t ps qs at ∙ ap (λ (i : ℕ). pieceRows T t at ps ++ pieceRows T t (at + i) qs) w in
         let i : at + (n + m) ≡ at + n + m = omega arith in
         let j : k + length (pieceRows T t at (ps ++ qs)) ≡ k + length ps + length (pieceRows T t (at + n) qs) =
         ap (λ (rs : List Row). k + length rs) R ∙ omega (arith, length-append (pieceRows T t at ps) (pieceRows T t (at + n) qs)) in
-        let h : o + skippedPieces (ps ++ qs) ≡ o + skippedPieces qs = omega (arith, skipped-append ps qs, required-plain (Table.required T t) xs ps n e .none-skipped) in
+        let h : o + skippedPieces (ps ++ qs) ≡ o + skippedPieces qs = omega (arith, skipped-append ps qs, required-plain (Table.requiredMembers T t) xs ps n e .none-skipped) in
         let f : fill k (pieceRows T t at (ps ++ qs)) out ≡ fill (k + length ps) (pieceRows T t (at + n) qs) (fill k (pieceRows T t at ps) out) =
         ap (λ (rs : List Row). fill k rs out) R ∙ fill-append (pieceRows T t at ps) (pieceRows T t (at + n) qs) k out
         ∙ ap (λ (i : ℕ). fill (k + i) (pieceRows T t (at + n) qs) (fill k (pieceRows T t at ps) out)) l in
@@ -313,60 +313,60 @@ module _ (T : List ℕ) (t : ℕ) (go : (at k o : ℕ) → List ℕ → Outcome)
     unfolding finish
     finish-none =
         let l : k + length (pieceRows T t at ps) ≡ k + length ps = ap (λ (i : ℕ). k + i) (required-count T t xs ps n at e) in
-        let h : o + skippedPieces ps ≡ o = omega (arith, required-plain (Table.required T t) xs ps n e .none-skipped) in
+        let h : o + skippedPieces ps ≡ o = omega (arith, required-plain (Table.requiredMembers T t) xs ps n e .none-skipped) in
         ap₂ (λ (i j : ℕ). go (at + n) i j (fill k (pieceRows T t at ps) out)) l h
 
     -- in a slice, by its bit 2
     pub fields-required : (opt : Bool) → finish T t go refuse false at k o out (fields T t opt xs)
-        ≡ pick opt (finish T t go refuse true (at + n) (k + length ps) o (fill k (pieceRows T t at ps) out) (optionalsFrom atMark (Table.optional T t) 0 (drop n xs)))
+        ≡ pick opt (finish T t go refuse true (at + n) (k + length ps) o (fill k (pieceRows T t at ps) out) (optionalsFrom atMark (Table.optionalMembers T t) 0 (drop n xs)))
         (go (at + n) (k + length ps) o (fill k (pieceRows T t at ps) out))
     unfolding fields mapc must optionals optionalsFrom pure shift
     fields-required true =
-        ap (finish T t go refuse false at k o out) (bind-next (requireds (Table.required T t)) _ xs e) ∙ finish-some (optionalsFrom atMark (Table.optional T t) 0 (drop n xs))
+        ap (finish T t go refuse false at k o out) (bind-next (requireds (Table.requiredMembers T t)) _ xs e) ∙ finish-some (optionalsFrom atMark (Table.optionalMembers T t) 0 (drop n xs))
     fields-required false =
-        ap (finish T t go refuse false at k o out) (bind-next (requireds (Table.required T t)) _ xs e ∙ ap (ok ps) (add-zero n)) ∙ finish-none
+        ap (finish T t go refuse false at k o out) (bind-next (requireds (Table.requiredMembers T t)) _ xs e ∙ ap (ok ps) (add-zero n)) ∙ finish-none
 
     -- in a parameter list
     pub parameters-required : finish T t go refuse false at k o out (parameters T t xs)
-        ≡ finish T t go refuse false (at + n) (k + length ps) o (fill k (pieceRows T t at ps) out) (optionalsFrom atEnd (Table.optional T t) 0 (drop n xs))
+        ≡ finish T t go refuse false (at + n) (k + length ps) o (fill k (pieceRows T t at ps) out) (optionalsFrom atEnd (Table.optionalMembers T t) 0 (drop n xs))
     unfolding parameters mapc optionals optionalsFrom
     parameters-required =
-        ap (finish T t go refuse false at k o out) (bind-next (requireds (Table.required T t)) _ xs e) ∙ finish-append (optionalsFrom atEnd (Table.optional T t) 0 (drop n xs))
+        ap (finish T t go refuse false at k o out) (bind-next (requireds (Table.requiredMembers T t)) _ xs e) ∙ finish-append (optionalsFrom atEnd (Table.optionalMembers T t) 0 (drop n xs))
 
-  module _ (xs : List ℕ) (c p : ℕ) (e : requireds (Table.required T t) xs ≡ bad c p) (at k o : ℕ) (out : List ℕ) where
+  module _ (xs : List ℕ) (c p : ℕ) (e : requireds (Table.requiredMembers T t) xs ≡ bad c p) (at k o : ℕ) (out : List ℕ) where
     pub fields-refused : (opt : Bool) → finish T t go refuse false at k o out (fields T t opt xs) ≡ refuse c (at + p)
     unfolding fields finish
-    fields-refused opt = ap (finish T t go refuse false at k o out) (bind-bad (requireds (Table.required T t)) _ xs e)
+    fields-refused opt = ap (finish T t go refuse false at k o out) (bind-bad (requireds (Table.requiredMembers T t)) _ xs e)
 
     pub parameters-refused : finish T t go refuse false at k o out (parameters T t xs) ≡ refuse c (at + p)
     unfolding parameters finish
-    parameters-refused = ap (finish T t go refuse false at k o out) (bind-bad (requireds (Table.required T t)) _ xs e)
+    parameters-refused = ap (finish T t go refuse false at k o out) (bind-bad (requireds (Table.requiredMembers T t)) _ xs e)
 
   -- ---- optionals, one behind another
 
   module _ (stop : List ℕ → Option ℕ) (due : Bool) (least : ℕ) (xs : List ℕ) (at k o : ℕ) (out : List ℕ) where
     abbrev pub ahead-of : Outcome
-    ahead-of = finish T t go refuse due at k o out (optionalsFrom stop (Table.optional T t) least xs)
+    ahead-of = finish T t go refuse due at k o out (optionalsFrom stop (Table.optionalMembers T t) least xs)
 
     pub finish-end : (j : ℕ) → stop xs ≡ some j → due ≡ false → ahead-of ≡ go (at + j) k o out
     unfolding finish noPiece pieceRows skippedPieces fill
-    finish-end j e d = ap (finish T t go refuse due at k o out) (optionals-end stop (Table.optional T t) least xs e) ∙ rw d (ap₂ (λ (x y : ℕ). go (at + j) x y out) (add-zero k) (add-zero o))
+    finish-end j e d = ap (finish T t go refuse due at k o out) (optionals-end stop (Table.optionalMembers T t) least xs e) ∙ rw d (ap₂ (λ (x y : ℕ). go (at + j) x y out) (add-zero k) (add-zero o))
 
     pub finish-early : (j : ℕ) → stop xs ≡ some j → due ≡ true → ahead-of ≡ refuse 14 at
     unfolding finish noPiece
-    finish-early j e d = ap (finish T t go refuse due at k o out) (optionals-end stop (Table.optional T t) least xs e) ∙ rw d
+    finish-early j e d = ap (finish T t go refuse due at k o out) (optionals-end stop (Table.optionalMembers T t) least xs e) ∙ rw d
 
     module _ (e : stop xs ≡ none) where
-      pub finish-wrong : (c p : ℕ) → optionalOf (Table.optional T t) least xs ≡ bad c p → ahead-of ≡ refuse c (at + p)
+      pub finish-wrong : (c p : ℕ) → nextOptional (Table.optionalMembers T t) least xs ≡ bad c p → ahead-of ≡ refuse c (at + p)
       unfolding finish
-      finish-wrong c p h = ap (finish T t go refuse due at k o out) (optionals-bad stop (Table.optional T t) least xs e c p h)
+      finish-wrong c p h = ap (finish T t go refuse due at k o out) (optionals-bad stop (Table.optionalMembers T t) least xs e c p h)
 
-      pub finish-known : (m tag a n : ℕ) → KnownRead (Table.optional T t) least xs m tag a n
-          → ahead-of ≡ finish T t go refuse false (at + n) (k + 1) o (put (12 * k) (rowBytes (record { member = m; place = at + a; len = n - a })) out) (optionalsFrom stop (Table.optional T t) (suc tag) (drop n xs))
+      pub finish-known : (m tag a n : ℕ) → KnownRead (Table.optionalMembers T t) least xs m tag a n
+          → ahead-of ≡ finish T t go refuse false (at + n) (k + 1) o (put (12 * k) (rowBytes (record { member = m; place = at + a; len = n - a })) out) (optionalsFrom stop (Table.optionalMembers T t) (suc tag) (drop n xs))
       unfolding finish shift made noPiece fill skippedPieces isSkipped
       finish-known m tag a n K =
-          ap (finish T t go refuse due at k o out) (optionals-next stop (Table.optional T t) least xs e (optional tag (K .form) (K .bytes)) (suc tag) n (K .read))
-          ∙ by (optionalsFrom stop (Table.optional T t) (suc tag) (drop n xs))
+          ap (finish T t go refuse due at k o out) (optionals-next stop (Table.optionalMembers T t) least xs e (optional tag (K .form) (K .bytes)) (suc tag) n (K .read))
+          ∙ by (optionalsFrom stop (Table.optionalMembers T t) (suc tag) (drop n xs))
         where
           piece : Piece
           piece = optional tag (K .form) (K .bytes)
@@ -384,12 +384,12 @@ module _ (T : List ℕ) (t : ℕ) (go : (at k o : ℕ) → List ℕ → Outcome)
               (ap (λ (rs : List Row). fill k rs out) R ∙ ap (λ (i : ℕ). fill i (pieceRows T t (at + n) ps) (put (12 * k) (rowBytes r) out)) (sym (add-one k))))
           by (bad c p) = ap (refuse c) (omega arith)
 
-      pub finish-skipped : (tag n : ℕ) → SkippedRead (Table.optional T t) least xs tag n
-          → ahead-of ≡ finish T t go refuse false (at + n) k (o + 1) out (optionalsFrom stop (Table.optional T t) (suc tag) (drop n xs))
+      pub finish-skipped : (tag n : ℕ) → SkippedRead (Table.optionalMembers T t) least xs tag n
+          → ahead-of ≡ finish T t go refuse false (at + n) k (o + 1) out (optionalsFrom stop (Table.optionalMembers T t) (suc tag) (drop n xs))
       unfolding finish shift made noPiece skippedPieces isSkipped
       finish-skipped tag n K =
-          ap (finish T t go refuse due at k o out) (optionals-next stop (Table.optional T t) least xs e (skipped tag (K .type) (K .bytes)) (suc tag) n (K .read))
-          ∙ by (optionalsFrom stop (Table.optional T t) (suc tag) (drop n xs))
+          ap (finish T t go refuse due at k o out) (optionals-next stop (Table.optionalMembers T t) least xs e (skipped tag (K .type) (K .bytes)) (suc tag) n (K .read))
+          ∙ by (optionalsFrom stop (Table.optionalMembers T t) (suc tag) (drop n xs))
         where
           piece : Piece
           piece = skipped tag (K .type) (K .bytes)

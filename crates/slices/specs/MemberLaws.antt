@@ -22,9 +22,9 @@ use Rattle.encoding.specs.NumberLaws.{eats-size, eats-declared}
 use Rattle.encoding.specs.Number
 use Rattle.encoding.specs.Types.{Ty, Bits, f1, f2, f4, f8, size, vsize, fsize, class, Form, bare, own, counted, sized, formOf}
 use Rattle.encoding.specs.Value.{value}
-use Rattle.encoding.specs.Table.{field, mark, memberTy, trees, range, ownRows, Member, requiredOf, lookup}
+use Rattle.encoding.specs.Table.{field, mark, memberTy, trees, range, ownRows, Member, requiredsIn, lookup}
 use Rattle.encoding.specs.Table
-use Rattle.encoding.specs.Optional.{Piece, required, optional, skipped, Header, header, extent, part, content, optionalOf, optionals, requireds, frontBytes, contentBytes, pieceBytes, isOptional, isSkipped}
+use Rattle.encoding.specs.Optional.{Piece, required, optional, skipped, Header, header, extent, part, content, nextOptional, optionals, requireds, frontBytes, contentBytes, pieceBytes, isOptional, isSkipped}
 use Rattle.encoding.specs.OptionalLaws.{eats-header}
 use Rattle.encoding.specs.WeightLaws.{requireds-weight, run-weight}
 use Rattle.encoding.specs.Slice.{known, someForm, fields, anyOptional, dataBytes}
@@ -88,19 +88,19 @@ required-all (m ∷ ms) xs ps n h = go (bind-ok (bytes (value (m .ty))) _ xs h) 
         let M = mapc-ok (requireds ms) (drop (B .n) xs) (λ ps _. required (m .key) (B .fst) ∷ ps) (B .next) in
         ap (λ (l : List Piece). length l) (M .2) ∙ ap suc (again (drop (B .n) xs) (M .0) (B .m) (M .1))
 
-required-of : (T : List ℕ) (l : List Ty) (i k j : ℕ) → length (requiredOf T l j (range i k)) ≤ k
-unfolding requiredOf range
+required-of : (T : List ℕ) (l : List Ty) (i k j : ℕ) → length (requiredsIn T l j (range i k)) ≤ k
+unfolding requiredsIn range
 required-of T l i zero j = omega arith
 required-of T l i (suc k) j = go (eqb (mark T i) 0) (required-of T l (suc i) k (suc j)) (required-of T l (suc i) k j)
   where
-    go : (b : Bool) → length (requiredOf T l (suc j) (range (suc i) k)) ≤ k → length (requiredOf T l j (range (suc i) k)) ≤ k
-        → length (pick b (record { row = i; key = j; ty = memberTy T l i } ∷ requiredOf T l (suc j) (range (suc i) k)) (requiredOf T l j (range (suc i) k))) ≤ suc k
+    go : (b : Bool) → length (requiredsIn T l (suc j) (range (suc i) k)) ≤ k → length (requiredsIn T l j (range (suc i) k)) ≤ k
+        → length (pick b (record { row = i; key = j; ty = memberTy T l i } ∷ requiredsIn T l (suc j) (range (suc i) k)) (requiredsIn T l j (range (suc i) k))) ≤ suc k
     go true p q = omega arith
     go false p q = omega arith
 
-pub required-few : (T : List ℕ) (t : ℕ) (xs : List ℕ) (ps : List Piece) (n : ℕ) → requireds (Table.required T t) xs ≡ ok ps n → length ps ≤ field T t 1
-unfolding Table.required ownRows
-required-few T t xs ps n h = omega (arith, required-all (Table.required T t) xs ps n h, required-of T (trees T) (field T t 0) (field T t 1) 0)
+pub required-few : (T : List ℕ) (t : ℕ) (xs : List ℕ) (ps : List Piece) (n : ℕ) → requireds (Table.requiredMembers T t) xs ≡ ok ps n → length ps ≤ field T t 1
+unfolding Table.requiredMembers ownRows
+required-few T t xs ps n h = omega (arith, required-all (Table.requiredMembers T t) xs ps n h, required-of T (trees T) (field T t 0) (field T t 1) 0)
 
 any-append : (a b : List Piece) → anyOptional a ≡ false → anyOptional (a ++ b) ≡ anyOptional b
 unfolding anyOptional
@@ -123,8 +123,8 @@ module _ (ms : List Member) (least : ℕ) (xs : List ℕ) where
   content-is (some m) h ys p n e =
       rw (mapc-ok (inside (part (formOf (m .ty))) (bytes (value (m .ty)))) ys (λ b _. optional (h .tag) (formOf (m .ty)) b) e .2)
 
-  pub optional-is : (r : Piece × ℕ) (n : ℕ) → optionalOf ms least xs ≡ ok r n → isOptional (r .0) ≡ true
-  unfolding optionalOf rest
+  pub optional-is : (r : Piece × ℕ) (n : ℕ) → nextOptional ms least xs ≡ ok r n → isOptional (r .0) ≡ true
+  unfolding nextOptional rest
   optional-is r n e = go (bind-ok (header ms least) rest xs e)
     where
       go : Bound (header ms least) rest xs r n → isOptional (r .0) ≡ true
@@ -161,8 +161,8 @@ unfolding content
 eats-content none h = eats-mapc (λ b _. skipped (h .tag) (h .type) b) _ (eats-bytes _ (eats-extent (h .type)))
 eats-content (some m) h = eats-mapc (λ b _. optional (h .tag) (formOf (m .ty)) b) _ (eats-inside (part (formOf (m .ty))) _ (eats-part (formOf (m .ty))))
 
-pub optional-two : (ms : List Member) (least : ℕ) (xs : List ℕ) (r : Piece × ℕ) (n : ℕ) → optionalOf ms least xs ≡ ok r n → 2 ≤ n
-unfolding optionalOf
+pub optional-two : (ms : List Member) (least : ℕ) (xs : List ℕ) (r : Piece × ℕ) (n : ℕ) → nextOptional ms least xs ≡ ok r n → 2 ≤ n
+unfolding nextOptional
 optional-two ms least xs r n e = go (bind-ok (header ms least) _ xs e)
   where
     go : Bound (header ms least) (λ h. mapc (λ p _. (p, suc (h .tag))) (content (lookup (h .tag) ms) h)) xs r n → 2 ≤ n
@@ -182,7 +182,7 @@ mark-byte (x ∷ xs) j e = (go (eqb x 255) e, omega arith)
     go true e = cc
     go false e = absurd (some≢none e refl)
 
-some-optional : (ms : List Member) {f s : ℕ} {xs : List ℕ} {ps : List Piece} {n : ℕ} → Run atMark (optionalOf ms) f s xs ps n → someForm ps ≡ 0 → anyOptional ps ≡ true
+some-optional : (ms : List Member) {f s : ℕ} {xs : List ℕ} {ps : List Piece} {n : ℕ} → Run atMark (nextOptional ms) f s xs ps n → someForm ps ≡ 0 → anyOptional ps ≡ true
 unfolding someForm anyOptional
 some-optional ms (end e) h = absurd (omega arith)
 some-optional ms (step {s = s} {xs = xs} {a = p} {s′ = s′} {n = n} e h r) z = rw (optional-is ms s xs (p, s′) n h)
@@ -190,38 +190,38 @@ some-optional ms (step {s = s} {xs = xs} {a = p} {s′ = s′} {n = n} e h r) z 
 module _ (T : List ℕ) (t : ℕ) (o : List ℕ) where
   pub fields-weight : (opt : Bool) (xs : List ℕ) (ps : List Piece) (n : ℕ) → fields T t opt xs ≡ ok ps n → n ≡ length (dataBytes (known o ps))
   unfolding fields dataBytes optionals
-  fields-weight opt xs ps n h = go opt (bind-ok (requireds (Table.required T t)) (next opt) xs h)
+  fields-weight opt xs ps n h = go opt (bind-ok (requireds (Table.requiredMembers T t)) (next opt) xs h)
     where
       next : Bool → List Piece → Parser (List Piece)
-      next opt a = pick opt (mapc (λ ps _. a ++ ps) (must someForm (optionals atMark (Table.optional T t)))) (pure a)
+      next opt a = pick opt (mapc (λ ps _. a ++ ps) (must someForm (optionals atMark (Table.optionalMembers T t)))) (pure a)
 
-      go : (opt : Bool) → Bound (requireds (Table.required T t)) (next opt) xs ps n → n ≡ length (concat pieceBytes ps ++ pick (anyOptional ps) (255 ∷ []) [])
+      go : (opt : Bool) → Bound (requireds (Table.requiredMembers T t)) (next opt) xs ps n → n ≡ length (concat pieceBytes ps ++ pick (anyOptional ps) (255 ∷ []) [])
       go true B =
-          let M = mapc-ok (must someForm (optionals atMark (Table.optional T t))) (drop (B .n) xs) (λ ps _. B .fst ++ ps) (B .next) in
-          let O = must-ok (optionals atMark (Table.optional T t)) (drop (B .n) xs) someForm (M .1) in
-          let R = run-of atMark (optionalOf (Table.optional T t)) (length (drop (B .n) xs)) 0 (drop (B .n) xs) (O .0) in
-          let W = run-weight atMark (Table.optional T t) R in
-          let P = required-plain (Table.required T t) xs (B .fst) (B .n) (B .first) in
-          let a : anyOptional ps ≡ true = ap anyOptional (M .2) ∙ any-append (B .fst) (M .0) (P .none-optional) ∙ some-optional (Table.optional T t) R (O .1) in
+          let M = mapc-ok (must someForm (optionals atMark (Table.optionalMembers T t))) (drop (B .n) xs) (λ ps _. B .fst ++ ps) (B .next) in
+          let O = must-ok (optionals atMark (Table.optionalMembers T t)) (drop (B .n) xs) someForm (M .1) in
+          let R = run-of atMark (nextOptional (Table.optionalMembers T t)) (length (drop (B .n) xs)) 0 (drop (B .n) xs) (O .0) in
+          let W = run-weight atMark (Table.optionalMembers T t) R in
+          let P = required-plain (Table.requiredMembers T t) xs (B .fst) (B .n) (B .first) in
+          let a : anyOptional ps ≡ true = ap anyOptional (M .2) ∙ any-append (B .fst) (M .0) (P .none-optional) ∙ some-optional (Table.optionalMembers T t) R (O .1) in
           rw a (omega (
             arith,
             length-append (concat pieceBytes ps) (255 ∷ []),
             ap (λ (l : List Piece). length (concat pieceBytes l)) (M .2),
             length-pieces (B .fst) (M .0),
             B .sum,
-            requireds-weight (Table.required T t) xs (B .first),
+            requireds-weight (Table.requiredMembers T t) xs (B .first),
             W .2,
             mark-byte _ _ (W .1) .0,
           ))
       go false B =
           let Q = pure-ok (B .fst) (drop (B .n) xs) (B .next) in
-          let P = required-plain (Table.required T t) xs (B .fst) (B .n) (B .first) in
+          let P = required-plain (Table.requiredMembers T t) xs (B .fst) (B .n) (B .first) in
           let a : anyOptional ps ≡ false = ap anyOptional (Q .0) ∙ P .none-optional in
           rw a (omega (
             arith,
             length-append (concat pieceBytes ps) [],
             ap (λ (l : List Piece). length (concat pieceBytes l)) (Q .0),
             B .sum,
-            requireds-weight (Table.required T t) xs (B .first),
+            requireds-weight (Table.requiredMembers T t) xs (B .first),
             Q .1,
           ))

@@ -13,7 +13,7 @@ use lib.Dec.{eqb}
 use Rattle.encoding.specs.Result.{Res, ok, bad, pick, must, atMark}
 use Rattle.encoding.specs.Number.{declared}
 use Rattle.encoding.specs.Table.{Member}
-use Rattle.encoding.specs.Optional.{Piece, optionalOf}
+use Rattle.encoding.specs.Optional.{Piece, nextOptional}
 use Rattle.encoding.specs.Slice.{Head, head, Stage, seek, follow, standOf, meaning, idForm, meaningForm}
 use Rattle.level.specs.declared.Optional.{Optional}
 use Rattle.level.specs.declared.Optional.the-variants.{Known as KnownOptional, Skipped as SkippedOptional, Wrong as WrongOptional}
@@ -66,7 +66,7 @@ turnBy none least r = r
 turnBy (some j) least r = pick (eqb least 0) (WrongTurn 14 0) End
 
 unfoldable pub turnOf : List Member → ℕ → List ℕ → Turn
-turnOf ms least xs = turnBy (atMark xs) least (turnAnswer (optionalAnswer ms (optionalOf ms least xs)))
+turnOf ms least xs = turnBy (atMark xs) least (turnAnswer (optionalAnswer ms (nextOptional ms least xs)))
 
 unfoldable pub firstOr : Stage → ℕ → ℕ → ℕ
 firstOr (seek s) first t = t

@@ -18,7 +18,7 @@ use Rattle.encoding.specs.Result.{bad, pick, atMark}
 use Rattle.encoding.specs.ResultLaws.{held-refused}
 use Rattle.encoding.specs.Table.{Member}
 use Rattle.encoding.specs.Table
-use Rattle.encoding.specs.Optional.{optionalOf}
+use Rattle.encoding.specs.Optional.{nextOptional}
 use Rattle.encoding.specs.OptionalLaws.{held-optional}
 use Rattle.table.specs.Tags.{optionalFrom, Passed}
 use Rattle.level.specs.declared.Optional.{Optional}
@@ -57,7 +57,7 @@ answer-end (WrongOptional x y) e = let z : _≡_ {A = ℕ} 0 1 = cc in omega ari
 
 module _ (ms : List Member) (least : ℕ) (xs : List ℕ) (r : Turn) (e : r ≡ turnOf ms least xs) where
   answer : Optional
-  answer = optionalAnswer ms (optionalOf ms least xs)
+  answer = optionalAnswer ms (nextOptional ms least xs)
 
   pub turn-end : r ≡ End → (atMark xs ≡ some 1) × (eqb least 0 ≡ false)
   unfolding turnOf turnBy answer
@@ -102,7 +102,7 @@ module _ (ms : List Member) (least : ℕ) (xs : List ℕ) (r : Turn) (e : r ≡ 
     pub number : c ≡ 14
     pub place : p ≡ 0
 
-  pub turn-wrong : (c p : ℕ) → r ≡ Wrong c p → Early c p ⊎ ((atMark xs ≡ none) × (optionalOf ms least xs ≡ bad c p))
+  pub turn-wrong : (c p : ℕ) → r ≡ Wrong c p → Early c p ⊎ ((atMark xs ≡ none) × (nextOptional ms least xs ≡ bad c p))
   unfolding turnOf turnBy answer
   turn-wrong c p q = go (atMark xs) refl (sym q ∙ e)
     where
@@ -110,7 +110,7 @@ module _ (ms : List Member) (least : ℕ) (xs : List ℕ) (r : Turn) (e : r ≡ 
       by true h = (refl, cc, cc)
       by false h = let z : _≡_ {A = ℕ} 0 1 = cc in absurd (omega arith)
 
-      go : (o : Option ℕ) → atMark xs ≡ o → Wrong c p ≡ turnBy o least (turnAnswer answer) → Early c p ⊎ ((atMark xs ≡ none) × (optionalOf ms least xs ≡ bad c p))
+      go : (o : Option ℕ) → atMark xs ≡ o → Wrong c p ≡ turnBy o least (turnAnswer answer) → Early c p ⊎ ((atMark xs ≡ none) × (nextOptional ms least xs ≡ bad c p))
       go none f h = inr (f, wrong-read ms least xs answer refl c p (answer-wrong answer c p h))
       go (some j) f h =
           let B = by (eqb least 0) h in
@@ -120,11 +120,11 @@ module _ (ms : List Member) (least : ℕ) (xs : List ℕ) (r : Turn) (e : r ≡ 
   unfolding answer
   turn-place c p q = go (turn-wrong c p q)
     where
-      go : Early c p ⊎ ((atMark xs ≡ none) × (optionalOf ms least xs ≡ bad c p)) → p ≤ length xs
+      go : Early c p ⊎ ((atMark xs ≡ none) × (nextOptional ms least xs ≡ bad c p)) → p ≤ length xs
       go (inl E) = omega (arith, E .place)
-      go (inr W) = held-refused (optionalOf ms least) (held-optional ms least) xs (W .1)
+      go (inr W) = held-refused (nextOptional ms least) (held-optional ms least) xs (W .1)
 
 -- what stands next, where its tag is looked up behind the members that were passed
-pub passed-turn : (T : List ℕ) (t end from least : ℕ) → Passed T t end from least → (xs : List ℕ) → turnOf (optionalFrom T end from) least xs ≡ turnOf (Table.optional T t) least xs
+pub passed-turn : (T : List ℕ) (t end from least : ℕ) → Passed T t end from least → (xs : List ℕ) → turnOf (optionalFrom T end from) least xs ≡ turnOf (Table.optionalMembers T t) least xs
 unfolding turnOf
 passed-turn T t end from least P xs = ap (λ (r : Optional). turnBy (atMark xs) least (turnAnswer r)) (passed-answer T t end from least P xs)

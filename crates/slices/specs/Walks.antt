@@ -16,7 +16,7 @@ use Rattle.encoding.specs.Number.{byte, number}
 use Rattle.encoding.specs.Table.{chain}
 use Rattle.encoding.specs.Optional.{Piece}
 use Rattle.encoding.specs.Slice.{first, formatNumber, Chain}
-use Rattle.encoding.specs.Message.{markerForm, sizeForm, versionForm, Row, Read, pieceRows, sliceRows, firstIn, firstKnown, rows, skippedPieces, skippedIn, passedIn, optionalsSkipped, slicesSkipped}
+use Rattle.encoding.specs.Message.{markerForm, outerForm, versionForm, Row, Read, pieceRows, sliceRows, firstIn, firstKnown, rows, skippedPieces, skippedIn, passedIn, optionalsSkipped, slicesSkipped}
 use Rattle.slices.specs.declared.Walk.{Walk}
 use Rattle.slices.specs.declared.Walk.the-variants.{Done, Stop}
 
@@ -34,7 +34,7 @@ listWalk T top at (ok ps n) = Done top 1 (length (pieceRows T top at ps)) (skipp
 listWalk T top at (bad c p) = Stop c (at + p)
 
 unfoldable pub capsule : Parser ℕ
-capsule m = (must (sizeForm (length m)) (number 4) >>= λ _. must versionForm (number 2)) m
+capsule m = (must (outerForm (length m)) (number 4) >>= λ _. must versionForm (number 2)) m
 
 unfoldable pub markerOf : ℕ → Parser ℕ
 markerOf k = pick (eqb k 14) (must markerForm byte) (pure 0)

@@ -14,7 +14,7 @@ use native.Mathlib.Omega.{arith}
 use lib.Dec.{eqb, ltb}
 use borrow.Author.Tests.{le-leb, lt-leb, lt-ltb, le-ltb, eq-eqb, ne-eqb}
 use Rattle.encoding.specs.Result.{pick}
-use Rattle.encoding.specs.Table.{kind, field, isRecord, memberType, mark, tag, range, takes, any, base, upward, chain, Member, memberTy, optionalOf, trees, lookup}
+use Rattle.encoding.specs.Table.{kind, field, isRecord, memberType, mark, tag, range, takes, any, base, upward, chain, Member, memberTy, optionalsIn, trees, lookup}
 use Rattle.encoding.specs.TableLaws.{chain-row}
 use Rattle.table.specs.Found.{memberFound}
 use Rattle.table.specs.Rows.{IsMemberRow}
@@ -103,7 +103,7 @@ end-is T t a b ea eb = ap₂ _+_ ea eb
 
 -- the rows left to look at decide
 abbrev pub Optionals : List ℕ → ℕ → ℕ → ℕ → ℕ → Type 0
-Optionals T end from key m = memberFound T (lookup key (optionalFrom T end from)) ≡ memberFound T (lookup key (optionalOf T (trees T) (range m (end - m))))
+Optionals T end from key m = memberFound T (lookup key (optionalFrom T end from)) ≡ memberFound T (lookup key (optionalsIn T (trees T) (range m (end - m))))
 
 pub optionals-begin : (T : List ℕ) (end from key : ℕ) → Optionals T end from key from
 unfolding optionalFrom
@@ -111,19 +111,19 @@ optionals-begin T end from key = refl
 
 module _ (T : List ℕ) (end from key m : ℕ) (inv : Optionals T end from key m) where
   pub optionals-end : end ≤ m → Nothing ≡ memberFound T (lookup key (optionalFrom T end from))
-  unfolding optionalOf lookup memberFound
+  unfolding optionalsIn lookup memberFound
   optionals-end h = sym (inv ∙ rw (range-none m end h))
 
   module _ (h : m < end) (r : MemberRow) (is : IsMemberRow T m r) where
     rest : FoundMember
-    rest = memberFound T (lookup key (optionalOf T (trees T) (range (m + 1) (end - (m + 1)))))
+    rest = memberFound T (lookup key (optionalsIn T (trees T) (range (m + 1) (end - (m + 1)))))
 
     optionals-more : memberFound T (lookup key (optionalFrom T end from)) ≡ pick (eqb (r .mark) 0) rest (pick (eqb key (r .tag)) (At m (r .of)) rest)
-    unfolding optionalOf lookup memberFound rest
+    unfolding optionalsIn lookup memberFound rest
     optionals-more = inv ∙ rw (range-more m end h, is .mark-is, is .tag-is, is .of-is) (go (eqb (mark T m) 0) (eqb key (tag T m)) refl)
       where
         ahead : List Member
-        ahead = optionalOf T (trees T) (range (m + 1) (end - (m + 1)))
+        ahead = optionalsIn T (trees T) (range (m + 1) (end - (m + 1)))
 
         go : (a b : Bool) → eqb key (tag T m) ≡ b → memberFound T (lookup key (pick a ahead (record { row = m; key = tag T m; ty = memberTy T (trees T) m } ∷ ahead)))
             ≡ pick a (memberFound T (lookup key ahead)) (pick b (At m (memberType T m)) (memberFound T (lookup key ahead)))

@@ -13,10 +13,10 @@ use mathlib.Core.List.{List}
 use Prim.Native.Nat.{ℕ, zero, suc, _+_, _-_, _≤_, _<_}
 use lib.Dec.{eqb, ltb}
 use Rattle.encoding.specs.Result.{pick}
-use Rattle.encoding.specs.Table.{field, mark, tag, range, trees, Member, optionalOf}
+use Rattle.encoding.specs.Table.{field, mark, tag, range, trees, Member, optionalsIn}
 
 unfoldable pub optionalFrom : List ℕ → ℕ → ℕ → List Member
-optionalFrom T end from = optionalOf T (trees T) (range from (end - from))
+optionalFrom T end from = optionalsIn T (trees T) (range from (end - from))
 
 unfoldable pub firstOptional : List ℕ → ℕ → ℕ → ℕ → ℕ
 firstOptional T end m zero = end

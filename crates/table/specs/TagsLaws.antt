@@ -18,7 +18,7 @@ use lib.Dec.{eqb, ltb}
 use borrow.Author.Tests.{eqb-true, eqb-false, ltb-true, ltb-false, ne-eqb}
 use Rattle.encoding.specs.Result.{pick}
 use Rattle.encoding.specs.Types.{Ty}
-use Rattle.encoding.specs.Table.{field, mark, tag, range, trees, Member, memberTy, optionalOf, ownRows, optional, lookup}
+use Rattle.encoding.specs.Table.{field, mark, tag, range, trees, Member, memberTy, optionalsIn, ownRows, optionalMembers, lookup}
 use Rattle.table.specs.Tags.{optionalFrom, firstOptional, optionalStart, isAbove, firstAbove, behind, Passed}
 
 -- ---- where the optional members begin
@@ -114,8 +114,8 @@ pub record Own (T : List ℕ) (l : List Ty) (k start end : ℕ) (x : Member) : T
   pub tag-is : tag T (x .row) ≡ k
   pub type-is : x .ty ≡ memberTy T l (x .row)
 
-pub found-own : (T : List ℕ) (l : List Ty) (k n m : ℕ) (x : Member) → lookup k (optionalOf T l (range m n)) ≡ some x → Own T l k m (m + n) x
-unfolding optionalOf lookup range
+pub found-own : (T : List ℕ) (l : List Ty) (k n m : ℕ) (x : Member) → lookup k (optionalsIn T l (range m n)) ≡ some x → Own T l k m (m + n) x
+unfolding optionalsIn lookup range
 found-own T l k zero m x h = let z : _≡_ {A = ℕ} 0 1 = cc in absurd (omega arith)
 found-own T l k (suc n) m x h =
     go (eqb (mark T m) 0) h λ e.
@@ -126,7 +126,7 @@ found-own T l k (suc n) m x h =
     here = record { row = m; key = tag T m; ty = memberTy T l m }
 
     rest : List Member
-    rest = optionalOf T l (range (suc m) n)
+    rest = optionalsIn T l (range (suc m) n)
 
     by : (b : Bool) → eqb k (tag T m) ≡ b → pick b (some here) (lookup k rest) ≡ some x → (lookup k rest ≡ some x → Own T l k m (m + suc n) x) → Own T l k m (m + suc n) x
     by true e h again =
@@ -138,33 +138,33 @@ found-own T l k (suc n) m x h =
     go true h again = again h
     go false h again = by (eqb k (tag T m)) refl h again
 
-pub optional-own : (T : List ℕ) (t k : ℕ) (x : Member) → lookup k (optional T t) ≡ some x → Own T (trees T) k (field T t 0) (field T t 0 + field T t 1) x
-unfolding optional ownRows
+pub optional-own : (T : List ℕ) (t k : ℕ) (x : Member) → lookup k (optionalMembers T t) ≡ some x → Own T (trees T) k (field T t 0) (field T t 0 + field T t 1) x
+unfolding optionalMembers ownRows
 optional-own T t k x h = found-own T (trees T) k (field T t 1) (field T t 0) x h
 
 -- rows whose tags are others
 rows-past : (T : List ℕ) (l : List Ty) (k d m n : ℕ) → ((i : ℕ) → m ≤ i → i < m + d → (mark T i ≡ 0 → ⊥) → tag T i < k)
-    → lookup k (optionalOf T l (range m n)) ≡ lookup k (optionalOf T l (range (m + d) (n - d)))
-unfolding optionalOf lookup range
+    → lookup k (optionalsIn T l (range m n)) ≡ lookup k (optionalsIn T l (range (m + d) (n - d)))
+unfolding optionalsIn lookup range
 rows-past T l k zero m n p = rw (add-zero m, sub-zero n)
 rows-past T l k (suc d) m zero p = let e : 0 - suc d ≡ 0 = omega arith in rw e
 rows-past T l k (suc d) m (suc n) p =
     go (eqb (mark T m) 0) refl ∙ rows-past T l k d (suc m) n (λ i a b o. p i (omega arith) (omega arith) o)
-    ∙ let e : suc m + d ≡ m + suc d = omega arith in let f : n - d ≡ suc n - suc d = omega arith in ap₂ (λ (x y : ℕ). lookup k (optionalOf T l (range x y))) e f
+    ∙ let e : suc m + d ≡ m + suc d = omega arith in let f : n - d ≡ suc n - suc d = omega arith in ap₂ (λ (x y : ℕ). lookup k (optionalsIn T l (range x y))) e f
   where
     rest : List Member
-    rest = optionalOf T l (range (suc m) n)
+    rest = optionalsIn T l (range (suc m) n)
 
     go : (b : Bool) → eqb (mark T m) 0 ≡ b → lookup k (pick b rest (record { row = m; key = tag T m; ty = memberTy T l m } ∷ rest)) ≡ lookup k rest
     go true e = refl
     go false e = rw (ne-eqb k (tag T m) (λ q. omega (arith, p m (omega arith) (omega arith) (eqb-false (mark T m) 0 e))))
 
-pub passed-lookup : (T : List ℕ) (t end from least : ℕ) → Passed T t end from least → (k : ℕ) → least ≤ k → lookup k (optional T t) ≡ lookup k (optionalFrom T end from)
-unfolding optional ownRows optionalFrom
+pub passed-lookup : (T : List ℕ) (t end from least : ℕ) → Passed T t end from least → (k : ℕ) → least ≤ k → lookup k (optionalMembers T t) ≡ lookup k (optionalFrom T end from)
+unfolding optionalMembers ownRows optionalFrom
 passed-lookup T t end from least P k h =
     let u = P .starts in
     let v = P .ends in
     let e : field T t 0 + (from - field T t 0) ≡ from = omega arith in
     let f : field T t 1 - (from - field T t 0) ≡ end - from = omega arith in
     rows-past T (trees T) k (from - field T t 0) (field T t 0) (field T t 1) (λ i a b o. omega (arith, P .below i a (omega arith) o))
-    ∙ ap₂ (λ (x y : ℕ). lookup k (optionalOf T (trees T) (range x y))) e f
+    ∙ ap₂ (λ (x y : ℕ). lookup k (optionalsIn T (trees T) (range x y))) e f

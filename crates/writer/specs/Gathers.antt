@@ -18,7 +18,7 @@ use lib.Dec.{eqb, leb}
 use borrow.Author.Tests.{eq-eqb, ne-eqb}
 use Rattle.encoding.specs.Result.{pick, concat}
 use Rattle.encoding.specs.Value.{exact}
-use Rattle.encoding.specs.Table.{kind, range, Member, required, optional, nameOf, base, upward, chain}
+use Rattle.encoding.specs.Table.{kind, range, Member, requiredMembers, optionalMembers, nameOf, base, upward, chain}
 use Rattle.encoding.specs.TableLaws.{base-below, chain-row}
 use Rattle.encoding.specs.Optional.{Piece, pieceBytes}
 use Rattle.encoding.specs.Slice.{Format, first, Slice, known, slicesBytes}
@@ -79,15 +79,15 @@ where-none T m o ts w z e = let y : _≡_ {A = ℕ} 0 1 = cc in absurd (omega ar
 module _ (T : List ℕ) (m : ℕ) where
   may-where : (o least : ℕ) (ts : List ℕ) (z : Reached) → reachMay T m o least ts ≡ some z → Where T m o ts (reachMay T m o least ts) z
   unfolding reachMay orAbove reach begin
-  may-where o least [] z e = go (optionalRow m least (optional T o)) e
+  may-where o least [] z e = go (optionalRow m least (optionalMembers T o)) e
     where
       go : (x : Option Member) → orAbove o [] none x ≡ some z → Where T m o [] (orAbove o [] none x) z
       go none q = where-none T m o [] none z q
       go (some d) q = where-same T m o [] _ _ z refl refl q
-  may-where o least (t ∷ ts) z e = go (optionalRow m least (optional T o)) e
+  may-where o least (t ∷ ts) z e = go (optionalRow m least (optionalMembers T o)) e
     where
-      go : (x : Option Member) → orAbove o (t ∷ ts) (entered t ts m (reachMay T m t 0 ts) (required T t)) x ≡ some z
-          → Where T m o (t ∷ ts) (orAbove o (t ∷ ts) (entered t ts m (reachMay T m t 0 ts) (required T t)) x) z
+      go : (x : Option Member) → orAbove o (t ∷ ts) (entered t ts m (reachMay T m t 0 ts) (requiredMembers T t)) x ≡ some z
+          → Where T m o (t ∷ ts) (orAbove o (t ∷ ts) (entered t ts m (reachMay T m t 0 ts) (requiredMembers T t)) x) z
       go none q = up t ts refl refl
       go (some d) q = where-same T m o (t ∷ ts) _ _ z refl refl q
 

@@ -14,7 +14,7 @@ use Rattle.encoding.specs.Table.{kind, chain}
 use Rattle.encoding.specs.Optional.{pieceBytes}
 use Rattle.encoding.specs.Slice.{Format, first, slicesBytes}
 use Rattle.encoding.specs.Message.{encode, encapsulate}
-use Rattle.encoding.specs.Write.{Out, out, stop, next, begin, above, judgeAll, gathered, formatOf, bounded, rowsGiven}
+use Rattle.encoding.specs.Write.{Out, out, stop, next, begin, above, judgeAll, gathered, formatOfNumber, bounded, rowsGiven}
 use Rattle.writer.specs.declared.Outcome.{Outcome}
 use Rattle.writer.specs.declared.Outcome.the-variants.{Made, Stopped}
 use Rattle.writer.specs.declared.Put.{Put}
@@ -41,7 +41,7 @@ unfoldable pub written : List ℕ → ℕ → ℕ → ℕ → List ℕ → List 
 written T type format count rows buffer room =
     next (rowsGiven count rows) λ rs.
     next (judgeAll T buffer (begin T type (above (chain T type))) 0 rs) λ gs.
-    bounded room (encapsulate (encode (formatOf format) (gathered T type gs)))
+    bounded room (encapsulate (encode (formatOfNumber format) (gathered T type gs)))
 
 unfoldable pub outcomeOf : Out (List ℕ) → Outcome
 outcomeOf (out m) = Made (length m)

@@ -18,7 +18,7 @@ use Rattle.encoding.specs.Table.{base, upward, range, chain}
 use Rattle.encoding.specs.TableLaws.{chain-row}
 use Rattle.encoding.specs.Slice.{compact, sliced}
 use Rattle.encoding.specs.Message.{encode, encapsulate}
-use Rattle.encoding.specs.Write.{Out, out, stop, next, begin, above, Given, judgeAll, gathered, formatOf, bounded, rowAt, tableRules, early, unless, rowsGiven, message, writing}
+use Rattle.encoding.specs.Write.{Out, out, stop, next, begin, above, Given, judgeAll, gathered, formatOfNumber, bounded, rowAt, tableRules, early, stoppedFirst, rowsGiven, message, writing}
 use Rattle.pieces.specs.Cursors.{start, stateOf}
 use Rattle.pieces.specs.Judged.{verdictOf, verdictFrom}
 use Rattle.writer.specs.Slices.{formatBy}
@@ -38,12 +38,12 @@ next-same (stop n p) f g h = refl
 
 module _ (T : List ℕ) (type format count : ℕ) (rows buffer : List ℕ) (room : ℕ) where
   pub writing-early : writing T type format count rows buffer room
-      ≡ next (tableRules T) (λ (_ : Unit {0}). next (unless (early T type format buffer)) (λ (_ : Unit {0}). written T type format count rows buffer room))
+      ≡ next (tableRules T) (λ (_ : Unit {0}). next (stoppedFirst (early T type format buffer)) (λ (_ : Unit {0}). written T type format count rows buffer room))
   unfolding writing message written next
   writing-early =
       next-assoc (tableRules T) _ _
-      ∙ next-same (tableRules T) _ _ (λ _. next-assoc (unless (early T type format buffer)) _ _
-      ∙ next-same (unless (early T type format buffer)) _ _ (λ _. next-assoc (rowsGiven count rows) _ _
+      ∙ next-same (tableRules T) _ _ (λ _. next-assoc (stoppedFirst (early T type format buffer)) _ _
+      ∙ next-same (stoppedFirst (early T type format buffer)) _ _ (λ _. next-assoc (rowsGiven count rows) _ _
       ∙ next-same (rowsGiven count rows) _ _ (λ rs. next-assoc (judgeAll T buffer (begin T type (above (chain T type))) 0 rs) _ _)))
 
   -- too few row bytes
@@ -53,7 +53,7 @@ module _ (T : List ℕ) (type format count : ℕ) (rows buffer : List ℕ) (room
 
   -- the message of what the rows give
   abbrev made : List Given → Out (List ℕ)
-  made gs = bounded room (encapsulate (encode (formatOf format) (gathered T type gs)))
+  made gs = bounded room (encapsulate (encode (formatOfNumber format) (gathered T type gs)))
 
   -- what the rows give
   abbrev judged : Out (List Given)
@@ -79,16 +79,16 @@ module _ (T : List ℕ) (type format count : ℕ) (rows buffer : List ℕ) (room
         go (stop m r) q = let a : m ≡ n = cc in let b : r ≡ p = cc in rw (a, b)
 
     pub written-right : verdictFrom T rows buffer count (stateOf T (start type)) 0 ≡ out tt
-        → written T type format count rows buffer room ≡ bounded room (encapsulate (contentsOf T rows buffer count (formatOf format) type))
+        → written T type format count rows buffer room ≡ bounded room (encapsulate (contentsOf T rows buffer count (formatOfNumber format) type))
     unfolding verdictOf next
     written-right e = written-is ∙ go judged refl (sym verdict-is ∙ e)
       where
-        go : (w : Out (List Given)) → judged ≡ w → verdictOf w ≡ out tt → next w made ≡ bounded room (encapsulate (contentsOf T rows buffer count (formatOf format) type))
-        go (out gs) f q = ap (λ (b : List ℕ). bounded room (encapsulate b)) (contents-are T rows buffer count type (formatOf format) gs f)
+        go : (w : Out (List Given)) → judged ≡ w → verdictOf w ≡ out tt → next w made ≡ bounded room (encapsulate (contentsOf T rows buffer count (formatOfNumber format) type))
+        go (out gs) f q = ap (λ (b : List ℕ). bounded room (encapsulate b)) (contents-are T rows buffer count type (formatOfNumber format) gs f)
         go (stop m r) f q = let y : _≡_ {A = ℕ} 0 1 = cc in absurd (omega arith)
 
-pub format-is : (n : ℕ) → formatOf n ≡ formatBy (not (eqb n 0))
-unfolding formatOf
+pub format-is : (n : ℕ) → formatOfNumber n ≡ formatBy (not (eqb n 0))
+unfolding formatOfNumber
 format-is n = go (eqb n 0)
   where
     go : (t : Bool) → pick t compact sliced ≡ formatBy (not t)

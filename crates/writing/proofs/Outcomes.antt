@@ -21,7 +21,7 @@ use Rattle.encoding.specs.Message.{limit}
 use Rattle.encoding.specs.MessageLaws.{length-encapsulate}
 use Rattle.encoding.specs.declared.Writing.{Writing}
 use Rattle.encoding.specs.declared.Writing.the-variants.{Written, Rejected}
-use Rattle.encoding.specs.Write.{Out, out, stop, next, begin, above, judgeAll, bounded, tableRules, early, unless, rowsGiven, message, writing, output, writingOf}
+use Rattle.encoding.specs.Write.{Out, out, stop, next, begin, above, judgeAll, bounded, tableRules, early, stoppedFirst, rowsGiven, message, writing, output, writingOf}
 use Rattle.wire.specs.StepLaws.{rest-is}
 use Rattle.prepare.specs.Preparing.{before, checked, checks}
 use Rattle.prepare.specs.PreparingLaws.{ready-table, ready-early}
@@ -65,7 +65,7 @@ module _ (T : List ℕ) (top format count : ℕ) (rows buffer : List ℕ) (room 
   result = writing T top format count rows buffer room
 
   writing-refused : (c p : ℕ) → checks T top format (length buffer) ≡ Refused c p → result ≡ stop c p
-  unfolding checks checked before early writing message tableRules unless next
+  unfolding checks checked before early writing message tableRules stoppedFirst next
   writing-refused c p h = go (faults T) refl (before T top format (length buffer)) refl h
     where
       go : (f : Fault) → faults T ≡ f → (n : ℕ) → before T top format (length buffer) ≡ n → checked f n ≡ Refused c p → result ≡ stop c p
@@ -74,7 +74,7 @@ module _ (T : List ℕ) (top format count : ℕ) (rows buffer : List ℕ) (room 
       go fine e (suc n) i h = let ec : suc n ≡ c = cc in let ep : 0 ≡ p = cc in rw (e, i, ec, ep)
 
   writing-rows : faults T ≡ fine → before T top format (length buffer) ≡ 0 → result ≡ written T top format count rows buffer room
-  unfolding before early writing message tableRules unless next written
+  unfolding before early writing message tableRules stoppedFirst next written
   writing-rows f e =
       rw (f, e)
       (next-then (rowsGiven count rows) _ (bounded room) _
