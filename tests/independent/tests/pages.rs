@@ -57,7 +57,14 @@ fn fault(page: &Path, text: &str, target: &str) -> Option<String> {
         return Some(format!("no heading for {target}"));
     }
     let name = text.strip_prefix('`')?.strip_suffix('`')?;
-    (!content.contains(name) && !target.contains(name)).then(|| format!("no {name} in {target}"))
+    (!has_name(&content, name) && !has_name(target, name)).then(|| format!("no {name} in {target}"))
+}
+
+/// Whether a name is in a text, and not only as a part of a longer name.
+fn has_name(text: &str, name: &str) -> bool {
+    let ends = |c: Option<char>| c.is_none_or(|c| !c.is_alphanumeric() && !matches!(c, '_' | '-'));
+    text.match_indices(name)
+        .any(|(at, _)| ends(text[..at].chars().next_back()) && ends(text[at + name.len()..].chars().next()))
 }
 
 #[test]
