@@ -1,7 +1,9 @@
 // The public calls, for the layers above: what document 01 says under "What a call gives". No call asks anything of its input.
 pub use reading::answer;
 pub use reading::read;
+pub use reading::read_numbers;
 pub use rowlist::read_rows;
 pub use view::member;
+pub use view::member_numbers;
 pub use writing::write;
 pub use writing::written;

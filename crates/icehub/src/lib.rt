@@ -2,12 +2,15 @@
 // `room` is the length in bytes of the lent list or output, so that a further call judges what the first one judged.
 ghost use mathlib.Core.Path.{_≡_};
 ghost use lib.ListN.{length, getD};
-ghost use Rattle.encoding.specs.Message.{reading, listed, readingNumbers};
+ghost use Rattle.encoding.specs.Message.{reading, listed, readingOf, readingNumbers};
 ghost use Rattle.encoding.specs.Write.{writing, output, writingNumbers};
-ghost use Rattle.icehub.specs.Numbers.{readNumber};
+ghost use Rattle.reading.specs.Numbers.{readingNumbered, withNumbers};
+ghost use Rattle.view.specs.Views.{viewAnswer, viewWithin, withView};
+ghost use Rattle.icehub.specs.Numbers.{readNumber, viewNumber};
 ghost use Rattle.icehub.specs.WriteNumbers.{writeNumber};
 use encoding::Reading;
 use encoding::Writing;
+use view::View;
 
 // Number i of an answer.
 fn number(a: Reading, i: usize) -> u32
@@ -109,6 +112,51 @@ pub extern "C" fn icehub_read_slices_skipped(
     ensures { λ r. ⌜ r ≡ readNumber (now (table .entry)) top (now (message .entry)) room 6 ⌝ }
 {
     told(table, top, message, room, 6)
+}
+
+// The reader with its five numbers: 0 or the refusal number, the rows in the lent list, and first known type, format, rows, optionals and slices skipped in the lent numbers.
+// Wrong and ruled out: the refusal's place in place of its number; a call that leaves the numbers as they were.
+#[no_mangle]
+pub extern "C" fn icehub_read_numbers(
+    table: &[u8],
+    top: u32,
+    message: &[u8],
+    rows: &mut [u8],
+    numbers: &mut [u8],
+) -> u32
+    ensures { λ r. ⌜ r ≡ getD (readingNumbers (readingOf (readingNumbered (now (table .entry)) top (now (message .entry)) (length (now (rows .entry))) (length (now (numbers .entry)))))) 0 0 ⌝ }
+    ensures { λ _. ⌜ now (rows .exit) ≡ listed (readingNumbered (now (table .entry)) top (now (message .entry)) (length (now (rows .entry))) (length (now (numbers .entry)))) (now (rows .entry)) ⌝ }
+    ensures { λ _. ⌜ now (numbers .exit) ≡ withNumbers (readingOf (readingNumbered (now (table .entry)) top (now (message .entry)) (length (now (rows .entry))) (length (now (numbers .entry))))) (now (numbers .entry)) ⌝ }
+{
+    number(codec::read_numbers(table, top, message, rows, numbers), 0)
+}
+
+// The refusal number of the view's answer; 0 if it refuses nothing.
+fn view_number(v: View) -> u32
+    ensures { λ r. ⌜ r ≡ viewNumber v ⌝ }
+{
+    match v {
+        View::Part(p, l) => 0,
+        View::Fallback => 0,
+        View::Nothing => 0,
+        View::Refused(c, p) => c,
+    }
+}
+
+// The member view: 0 or the refusal number, and origin, place and length in the lent numbers.
+// Wrong and ruled out: the refusal's place in place of its number; the view of another member.
+#[no_mangle]
+pub extern "C" fn icehub_member(
+    table: &[u8],
+    top: u32,
+    message: &[u8],
+    member: u32,
+    numbers: &mut [u8],
+) -> u32
+    ensures { λ r. ⌜ r ≡ viewNumber (viewWithin (length (now (numbers .entry))) (viewAnswer (now (table .entry)) top (now (message .entry)) member)) ⌝ }
+    ensures { λ _. ⌜ now (numbers .exit) ≡ withView (viewWithin (length (now (numbers .entry))) (viewAnswer (now (table .entry)) top (now (message .entry)) member)) (now (numbers .entry)) ⌝ }
+{
+    view_number(codec::member_numbers(table, top, message, member, numbers))
 }
 
 // Number i of the writer's answer.

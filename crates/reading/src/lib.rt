@@ -1,11 +1,13 @@
 // The reader's calls: the answer, and the rows in a lent list. `read` and `answer` ask nothing of their input.
 // `read_prepared` asks for the shapes of the table, so that a caller with many messages checks its table once.
 ghost use mathlib.Core.Path.{_≡_};
+ghost use Prim.Native.Nat.{_≤_};
 ghost use lib.ListN.{length};
 ghost use Rattle.encoding.specs.Message.{body, room, reading, listed, readingOf};
 ghost use Rattle.shapes.specs.Shapes.{shapesOf};
 ghost use Rattle.slices.specs.Walks.{bodyWalk};
 ghost use Rattle.reading.specs.Told.{Walked, low, toldOf, rowCount, readingBody};
+ghost use Rattle.reading.specs.Numbers.{readingNumbered, shortOf, fiveNumbers, withNumbers};
 use encoding::Reading;
 use prepare::Prepared;
 use slices::Walk;
@@ -142,4 +144,74 @@ pub fn answer(table: &[u8], top: u32, message: &[u8], room: usize) -> Reading
             told(w, room / 12)
         }
     }
+}
+
+// The answer where no bytes are lent that hold the five numbers: 22 at 20, after every other refusal.
+fn short(a: Reading) -> Reading
+    ensures { λ r. ⌜ r ≡ shortOf a ⌝ }
+{
+    match a {
+        Reading::Accepted(first, format, n, optionals, slices) => Reading::Refused(22, 20),
+        Reading::Refused(c, p) => Reading::Refused(c, p),
+    }
+}
+
+// Puts five numbers into their own 20 bytes, whose length is known where they are put: no further test is needed.
+fn put_five(
+    five: &mut [u8],
+    first: usize,
+    format: usize,
+    count: usize,
+    optionals: usize,
+    slices: usize,
+)
+    requires { ⌜ length (now five) ≡ 20 ⌝ }
+    ensures { λ _. ⌜ now (five .exit) ≡ fiveNumbers first format count optionals slices ⌝ }
+{
+    wire::put_number(five, 0, 4, first);
+    wire::put_number(five, 4, 4, format);
+    wire::put_number(five, 8, 4, count);
+    wire::put_number(five, 12, 4, optionals);
+    wire::put_number(five, 16, 4, slices);
+}
+
+// Puts the five numbers of an accepted message at the start of the lent bytes; of a refused one none.
+fn put_numbers(a: Reading, numbers: &mut [u8])
+    requires { ⌜ 20 ≤ length (now numbers) ⌝ }
+    ensures { λ _. ⌜ now (numbers .exit) ≡ withNumbers a (now (numbers .entry)) ⌝ }
+{
+    match a {
+        Reading::Accepted(first, format, n, optionals, slices) => {
+            put_five(
+                &mut numbers[0..20],
+                first as usize,
+                format as usize,
+                n as usize,
+                optionals as usize,
+                slices as usize,
+            );
+        }
+        Reading::Refused(c, p) => {}
+    }
+}
+
+// The reader, with the five numbers of an accepted message in 20 lent bytes: one read. Bytes after the rows and after the numbers stay, and on a refusal all of them.
+// Wrong and ruled out: a reader that exchanges optionals and slices skipped; one that lists the rows where the bytes for the numbers are too few.
+pub fn read_numbers(
+    table: &[u8],
+    top: u32,
+    message: &[u8],
+    rows: &mut [u8],
+    numbers: &mut [u8],
+) -> Reading
+    ensures { λ r. ⌜ r ≡ readingOf (readingNumbered (now (table .entry)) top (now (message .entry)) (length (now (rows .entry))) (length (now (numbers .entry)))) ⌝ }
+    ensures { λ _. ⌜ now (rows .exit) ≡ listed (readingNumbered (now (table .entry)) top (now (message .entry)) (length (now (rows .entry))) (length (now (numbers .entry)))) (now (rows .entry)) ⌝ }
+    ensures { λ _. ⌜ now (numbers .exit) ≡ withNumbers (readingOf (readingNumbered (now (table .entry)) top (now (message .entry)) (length (now (rows .entry))) (length (now (numbers .entry))))) (now (numbers .entry)) ⌝ }
+{
+    if numbers.len() < 20 {
+        return short(answer(table, top, message, rows.len()));
+    }
+    let a = read(table, top, message, rows);
+    put_numbers(a, numbers);
+    a
 }

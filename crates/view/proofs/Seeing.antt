@@ -2,8 +2,9 @@
 --
 --   Seeks, seeks-..                                   the loop that looks for a member in a list
 --   look-early, look-refused                          a check before the message refuses, or the message is refused
---   look-few, look-seen, look-inside, look-other      what the view returns of an accepted message; nothing-inside
---   part-seen, fallback-seen, nothing-seen            the bytes returned
+--   look-few, look-seen, look-inside, look-other      what the view answers of an accepted message
+--   nothing-inside, refused-inside                    no part, so none outside the message
+--   part-seen, fallback-seen, nothing-seen, refused-seen   the bytes returned
 use mathlib.Core.Path.{_≡_, refl, sym, ap, _∙_}
 use mathlib.Core.Bool.{Bool, true, false}
 use mathlib.Core.List.{List, [], _∷_, _++_, map}
@@ -16,13 +17,14 @@ use borrow.Author.Tests.{eq-eqb, ne-eqb}
 use Rattle.encoding.specs.Result.{Res, ok, bad, pick, concat}
 use Rattle.encoding.specs.Table.{at, range, any, takes, chain}
 use Rattle.encoding.specs.Number.{Bytes}
-use Rattle.encoding.specs.Message.{Read, body, rules, Row, rows, rowBytes, firstKnown}
+use Rattle.encoding.specs.Message.{Read, body, limit, rules, Row, rows, rowBytes, firstKnown}
 use Rattle.encoding.specs.Write.{rowAt}
 use Rattle.encoding.specs.View.{Seen, part, fallback, nothing, rowOf, ofChain, seen, viewing, seenBytes}
 use Rattle.table.proofs.Ranges.{range-more, range-none}
 use Rattle.slices.specs.Walks.{bodyWalk, readDone}
 use Rattle.slices.specs.declared.Walk.{Walk}
 use Rattle.slices.specs.declared.Walk.the-variants.{Done, Stop}
+use Rattle.laws.specs.Refusals.{refusal-numbered, rules-refused}
 use Rattle.laws.specs.Demands.{All, end, more, RowExact}
 use Rattle.laws.specs.MessageExact.{exact-rows}
 use Rattle.laws.specs.Small.{accepted-small}
@@ -30,12 +32,12 @@ use Rattle.laws.specs.RowsBack.{rows-back, accepted-rows-small}
 use Rattle.prepare.specs.Preparing.{checks}
 use Rattle.prepare.specs.PreparingLaws.{reading-ready, reading-refused}
 use Rattle.prepare.specs.declared.Prepared.{Prepared}
-use Rattle.prepare.specs.declared.Prepared.the-variants.{Ready, Refused}
-use Rattle.reading.specs.Told.{Walked}
+use Rattle.prepare.specs.declared.Prepared.the-variants.{Ready, Refused as Stopped}
+use Rattle.reading.specs.Told.{Walked, low}
 use Rattle.reading.proofs.Telling.{rows-put}
-use Rattle.view.specs.Views.{viewOf, PartInside}
+use Rattle.view.specs.Views.{viewOf, viewAnswerOf, viewAnswer, PartInside}
 use Rattle.view.specs.declared.View.{View}
-use Rattle.view.specs.declared.View.the-variants.{Part, Fallback, Nothing}
+use Rattle.view.specs.declared.View.the-variants.{Part, Fallback, Nothing, Refused}
 
 -- ---- the loop over rows
 
@@ -91,10 +93,19 @@ record Taken (T : List ℕ) (top : ℕ) (m : List ℕ) (first n : ℕ) : Type 0 
   known : first ≡ firstKnown T top (rd .pieces)
   count : n ≡ length (rows T top (rd .format) (rd .pieces))
 
+-- a message that the rules refuse: number and place fit 32 bits
+rules-bad : (T : List ℕ) (top : ℕ) (m : List ℕ) (c q : ℕ) → rules T top m ≡ bad c q → (i j : ℕ) → i ≡ low c → j ≡ low q → (member : ℕ) → Refused i j ≡ viewAnswer T top m member
+unfolding viewAnswer viewAnswerOf
+rules-bad T top m c q e i j ei ej member =
+    let N = refusal-numbered (rules-refused T top m e) in
+    let fc : i ≡ c = omega (arith, ei, N .known-number) in
+    let fq : j ≡ q = omega (arith, ej, N .small-place) in
+    let it : Refused i j ≡ Refused c q = cc in
+    it ∙ sym (ap (viewAnswerOf T top member) e)
+
 -- a check before the message refuses
-pub look-early : (T : List ℕ) (top : ℕ) (m : List ℕ) (l : ℕ) → l ≡ length m → (p : Prepared) → p ≡ checks T top 1 l → (c q : ℕ) → p ≡ Refused c q → (member : ℕ) → Nothing ≡ viewOf (viewing T top m member)
-unfolding viewing seen viewOf
-look-early T top m l el p ep c q e member = sym (ap (λ (r : Res Read). viewOf (seen T top member r)) (reading-refused T top m l el p ep c q e))
+pub look-early : (T : List ℕ) (top : ℕ) (m : List ℕ) (l : ℕ) → l ≡ length m → (p : Prepared) → p ≡ checks T top 1 l → (c q : ℕ) → p ≡ Stopped c q → (i j : ℕ) → i ≡ low c → j ≡ low q → (member : ℕ) → Refused i j ≡ viewAnswer T top m member
+look-early T top m l el p ep c q e = rules-bad T top m c q (reading-refused T top m l el p ep c q e)
 
 module _ (T : List ℕ) (top : ℕ) (m : List ℕ) (l : ℕ) (el : l ≡ length m) (y : Bytes m) (p : Prepared) (ep : p ≡ checks T top 1 l) (ready : p ≡ Ready) (list last : List ℕ) (w : Walk) (W : Walked T top m w list last) where
   same : rules T top m ≡ body T top m
@@ -125,9 +136,17 @@ module _ (T : List ℕ) (top : ℕ) (m : List ℕ) (l : ℕ) (el : l ≡ length 
               let c : ofChain T (firstKnown T top (K .rd .pieces)) member ≡ v = ap (λ (i : ℕ). any (λ o. takes T o member) (chain T i)) (sym (K .known)) ∙ sym eb ∙ x in
               ap (seen T top member) (K .accepted) ∙ ap (λ (z : Bool). pick z (rowOf member (rows T top (K .rd .format) (K .rd .pieces))) nothing) c
 
-      pub look-other : b ≡ false → Nothing ≡ viewOf (viewing T top m member)
+      -- no refusal
+      answers : viewAnswer T top m member ≡ viewOf (viewing T top m member)
+      unfolding viewAnswer viewAnswerOf viewing
+      answers = go taken
+        where
+          go : Taken T top m t n → viewAnswerOf T top member (rules T top m) ≡ viewOf (seen T top member (rules T top m))
+          go K = ap (viewAnswerOf T top member) (K .accepted) ∙ sym (ap (λ (r : Res Read). viewOf (seen T top member r)) (K .accepted))
+
+      pub look-other : b ≡ false → Nothing ≡ viewAnswer T top m member
       unfolding viewOf
-      look-other x = sym (ap viewOf (judged false x))
+      look-other x = sym (answers ∙ ap viewOf (judged false x))
 
       module _ (x : b ≡ true) (room : length list ≡ 12288) (v : View) (ev : v ≡ viewOf (rowOf member (map (rowAt last) (range 0 n)))) where
         back : v ≡ viewOf (rowOf member (rows T top (taken .rd .format) (taken .rd .pieces)))
@@ -140,8 +159,8 @@ module _ (T : List ℕ) (top : ℕ) (m : List ℕ) (l : ℕ) (el : l ≡ length 
                 let f : last ≡ concat rowBytes rs ++ drop (12 * length rs) list = W .lays (K .rd) (K .end) (sym same ∙ K .accepted) ∙ rows-put rs list (omega (arith, look-few, K .count)) in
                 ap (λ (i : ℕ). map (rowAt last) (range 0 i)) (K .count) ∙ rows-back S last (drop (12 * length rs) list) f
 
-        pub look-seen : v ≡ viewOf (viewing T top m member)
-        look-seen = back ∙ ap viewOf (sym (judged true x))
+        pub look-seen : v ≡ viewAnswer T top m member
+        look-seen = back ∙ ap viewOf (sym (judged true x)) ∙ sym answers
 
         pub look-inside : PartInside (length m) v
         unfolding viewOf
@@ -156,24 +175,36 @@ module _ (T : List ℕ) (top : ℕ) (m : List ℕ) (l : ℕ) (el : l ≡ length 
             go K p l h =
                 row-within T m member (exact-rows T top m (K .rd .format) (K .rd .pieces) (K .end) y (K .accepted)) p l (go₂ _ p l h)
 
-  module _ (c i : ℕ) (q : w ≡ Stop c i) where
-    pub look-refused : (member : ℕ) → Nothing ≡ viewOf (viewing T top m member)
-    unfolding viewing seen viewOf bodyWalk readDone
-    look-refused member = go (rules T top m) (sym q ∙ walked)
+  module _ (c q : ℕ) (e : w ≡ Stop c q) where
+    pub look-refused : (i j : ℕ) → i ≡ low c → j ≡ low q → (member : ℕ) → Refused i j ≡ viewAnswer T top m member
+    unfolding bodyWalk readDone
+    look-refused = rules-bad T top m c q (go (rules T top m) (sym e ∙ walked))
       where
-        go : (r : Res Read) → Stop c i ≡ bodyWalk T top r → Nothing ≡ viewOf (seen T top member r)
+        go : (r : Res Read) → Stop c q ≡ bodyWalk T top r → r ≡ bad c q
         go (ok rd x) h = let z : _≡_ {A = ℕ} 0 1 = cc in absurd (omega arith)
-        go (bad d x) h = refl
+        go (bad d x) h = let ed : d ≡ c = cc in let ex : x ≡ q = cc in rw (ed, ex)
+
+pub refused-inside : (l c q : ℕ) → PartInside l (Refused c q)
+refused-inside l c q = record { inside = λ p n e. let z : _≡_ {A = ℕ} 0 1 = cc in absurd (omega arith) }
 
 pub nothing-inside : (l : ℕ) → PartInside l Nothing
 nothing-inside l = record { inside = λ p n q. let z : _≡_ {A = ℕ} 0 1 = cc in absurd (omega arith) }
 
 -- ---- the bytes returned
 
-module _ (m other : List ℕ) (y : Seen) (v : View) (ev : v ≡ viewOf y) where
-  pub part-seen : (p n : ℕ) → v ≡ Part p n → take (p + n - p) (drop p m) ≡ seenBytes m other y
+module _ (T : List ℕ) (top : ℕ) (m other : List ℕ) (member : ℕ) (v : View) (ev : v ≡ viewAnswer T top m member) where
+  -- what the view hands back where it refuses nothing
+  returned : (u : View) → v ≡ u → ((c p : ℕ) → u ≡ Refused c p → ⊥) → u ≡ viewOf (viewing T top m member)
+  unfolding viewAnswer viewAnswerOf viewing
+  returned u q none = go (rules T top m) (sym q ∙ ev)
+    where
+      go : (r : Res Read) → u ≡ viewAnswerOf T top member r → u ≡ viewOf (seen T top member r)
+      go (ok rd n) h = h
+      go (bad c p) h = absurd (none c p h)
+
+  pub part-seen : (p n : ℕ) → v ≡ Part p n → take (p + n - p) (drop p m) ≡ seenBytes m other (viewing T top m member)
   unfolding viewOf seenBytes
-  part-seen p n q = go y (sym q ∙ ev)
+  part-seen p n q = go (viewing T top m member) (returned (Part p n) q (λ c p e. let z : _≡_ {A = ℕ} 0 1 = cc in omega arith))
     where
       go : (y : Seen) → Part p n ≡ viewOf y → take (p + n - p) (drop p m) ≡ seenBytes m other y
       go (part i j) h =
@@ -183,20 +214,33 @@ module _ (m other : List ℕ) (y : Seen) (v : View) (ev : v ≡ viewOf y) where
       go fallback h = let z : _≡_ {A = ℕ} 0 1 = cc in absurd (omega arith)
       go nothing h = let z : _≡_ {A = ℕ} 0 1 = cc in absurd (omega arith)
 
-  pub fallback-seen : v ≡ Fallback → other ≡ seenBytes m other y
+  pub fallback-seen : v ≡ Fallback → other ≡ seenBytes m other (viewing T top m member)
   unfolding viewOf seenBytes
-  fallback-seen q = go y (sym q ∙ ev)
+  fallback-seen q = go (viewing T top m member) (returned Fallback q (λ c p e. let z : _≡_ {A = ℕ} 0 1 = cc in omega arith))
     where
       go : (y : Seen) → Fallback ≡ viewOf y → other ≡ seenBytes m other y
       go (part i j) h = let z : _≡_ {A = ℕ} 0 1 = cc in absurd (omega arith)
       go fallback h = refl
       go nothing h = let z : _≡_ {A = ℕ} 0 1 = cc in absurd (omega arith)
 
-  pub nothing-seen : v ≡ Nothing → [] ≡ seenBytes m other y
+  pub nothing-seen : v ≡ Nothing → [] ≡ seenBytes m other (viewing T top m member)
   unfolding viewOf seenBytes
-  nothing-seen q = go y (sym q ∙ ev)
+  nothing-seen q = go (viewing T top m member) (returned Nothing q (λ c p e. let z : _≡_ {A = ℕ} 0 1 = cc in omega arith))
     where
       go : (y : Seen) → Nothing ≡ viewOf y → [] ≡ seenBytes m other y
       go (part i j) h = let z : _≡_ {A = ℕ} 0 1 = cc in absurd (omega arith)
       go fallback h = let z : _≡_ {A = ℕ} 0 1 = cc in absurd (omega arith)
       go nothing h = refl
+
+  pub refused-seen : (c p : ℕ) → v ≡ Refused c p → [] ≡ seenBytes m other (viewing T top m member)
+  unfolding viewOf seenBytes viewAnswer viewAnswerOf viewing seen
+  refused-seen c p q = go (rules T top m) (sym q ∙ ev)
+    where
+      other-case : (y : Seen) → Refused c p ≡ viewOf y → [] ≡ seenBytes m other y
+      other-case (part i j) h = let z : _≡_ {A = ℕ} 0 1 = cc in absurd (omega arith)
+      other-case fallback h = let z : _≡_ {A = ℕ} 0 1 = cc in absurd (omega arith)
+      other-case nothing h = let z : _≡_ {A = ℕ} 0 1 = cc in absurd (omega arith)
+
+      go : (r : Res Read) → Refused c p ≡ viewAnswerOf T top member r → [] ≡ seenBytes m other (seen T top member r)
+      go (ok rd n) h = other-case (seen T top member (ok rd n)) h
+      go (bad d i) h = refl

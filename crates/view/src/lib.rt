@@ -1,4 +1,4 @@
-// The member view: a member's bytes, as a part of the message or of a fallback. It asks nothing of its input.
+// The member view: a member's bytes, as a part of the message or of a fallback, or where they are, in numbers. It asks nothing of its input.
 ghost use mathlib.Core.Path.{_≡_};
 ghost use mathlib.Core.List.{map};
 ghost use Prim.Native.Nat.{_≤_};
@@ -6,15 +6,17 @@ ghost use lib.ListN.{length};
 ghost use Rattle.encoding.specs.Table.{range};
 ghost use Rattle.encoding.specs.Write.{rowAt};
 ghost use Rattle.encoding.specs.View.{rowOf, viewing, seenBytes};
-ghost use Rattle.view.specs.Views.{viewOf, PartInside};
+ghost use Rattle.wire.specs.Put.{put};
+ghost use Rattle.view.specs.Views.{viewOf, viewAnswer, viewWithin, viewBytes, withView, PartInside};
 use prepare::Prepared;
 use slices::Walk;
 
-// What the view returns: a part of the message, by its place and length; the whole fallback; or an empty slice.
+// What the view answers: a part of the message, by its place and length; the whole fallback; an empty part; or a refusal's number and place.
 pub enum View {
     Part(usize, usize),
     Fallback,
     Nothing,
+    Refused(u32, u32),
 }
 
 // Finds the row of a member among the n rows of a list; the fallback if there is none.
@@ -33,16 +35,16 @@ fn seek(list: &[u8], n: usize, member: usize) -> View
     View::Fallback
 }
 
-// Decides what the view returns; a part lies in the message.
+// Decides what the view answers; a part lies in the message.
 fn look(table: &[u8], top: usize, message: &[u8], member: usize) -> View
-    ensures { λ r. ⌜ r ≡ viewOf (viewing (now (table .entry)) top (now (message .entry)) member) ⌝ }
+    ensures { λ r. ⌜ r ≡ viewAnswer (now (table .entry)) top (now (message .entry)) member ⌝ }
     ensures { λ r. ⌜ PartInside (length (now (message .entry))) r ⌝ }
 {
     let n = prepare::count(message);
     let mut shapes = [0u8; 256];
     let p = prepare::prepare(table, top, 1, n, &mut shapes);
     match p {
-        Prepared::Refused(c, q) => View::Nothing,
+        Prepared::Refused(c, q) => View::Refused(reading::low(c), reading::low(q)),
         Prepared::Ready => {
             let mut list = [0u8; 12288];
             let w = reading::walk(table, &shapes, top, message, &mut list);
@@ -54,7 +56,7 @@ fn look(table: &[u8], top: usize, message: &[u8], member: usize) -> View
                         View::Nothing
                     }
                 }
-                Walk::Stop(c, q) => View::Nothing,
+                Walk::Stop(c, q) => View::Refused(reading::low(c), reading::low(q)),
             }
         }
     }
@@ -78,6 +80,7 @@ fn seen<'a, 't>(
         }
         View::Fallback => fallback,
         View::Nothing => &fallback[..0],
+        View::Refused(c, p) => &fallback[..0],
     }
 }
 
@@ -95,4 +98,51 @@ pub fn member<'r, 'm: 'r, 'f: 'r, 't>(
     ensures { λ r. ⌜ now r ≡ seenBytes (now (message .entry)) (now (fallback .entry)) (viewing (now (table .entry)) top (now (message .entry)) row) ⌝ }
 {
     seen(table, top, message, row, fallback)
+}
+
+// The answer where n bytes are lent for its numbers: 22 at 12 where they are too few, after every other refusal.
+fn within(v: View, n: usize) -> View
+    ensures { λ r. ⌜ r ≡ viewWithin n v ⌝ }
+{
+    if 12 <= n {
+        return v;
+    }
+    match v {
+        View::Part(p, l) => View::Refused(22, 12),
+        View::Fallback => View::Refused(22, 12),
+        View::Nothing => View::Refused(22, 12),
+        View::Refused(c, p) => View::Refused(c, p),
+    }
+}
+
+// Puts origin, place and length at the start of the lent bytes; of a refusal none.
+fn put_view(v: View, numbers: &mut [u8])
+    ensures { λ _. ⌜ now (numbers .exit) ≡ put 0 (viewBytes v) (now (numbers .entry)) ⌝ }
+{
+    match v {
+        View::Part(p, l) => {
+            wire::rows::put_row(numbers, 0, 1, p, l);
+        }
+        View::Fallback => {
+            wire::rows::put_row(numbers, 0, 2, 0, 0);
+        }
+        View::Nothing => {
+            wire::rows::put_row(numbers, 0, 0, 0, 0);
+        }
+        View::Refused(c, p) => {}
+    }
+}
+
+// The member view in numbers: where the bytes are that `member` returns, in 12 lent bytes: origin (0 an empty part, 1 the message, 2 the fallback), place and length in the message. On a refusal no lent byte changes.
+// Wrong and ruled out: a view that gives the fallback as an empty part; one that refuses bytes that are too few before the message's own refusal.
+pub fn member_numbers(table: &[u8], top: u32, message: &[u8], row: u32, numbers: &mut [u8]) -> View
+    ensures { λ r. ⌜ r ≡ viewWithin (length (now (numbers .entry))) (viewAnswer (now (table .entry)) top (now (message .entry)) row) ⌝ }
+    ensures { λ _. ⌜ now (numbers .exit) ≡ withView (viewWithin (length (now (numbers .entry))) (viewAnswer (now (table .entry)) top (now (message .entry)) row)) (now (numbers .entry)) ⌝ }
+{
+    let v = within(
+        look(table, top as usize, message, row as usize),
+        numbers.len(),
+    );
+    put_view(v, numbers);
+    v
 }

@@ -1,7 +1,7 @@
 -- Each case returns what `seenBytes` says; a part lies in the message. Assumes nothing.
 use borrow.Author.Needs.{needs}
 use native.Mathlib.Omega.{arith}
-use Rattle.view.proofs.Seeing.{part-seen, fallback-seen, nothing-seen}
+use Rattle.view.proofs.Seeing.{part-seen, fallback-seen, nothing-seen, refused-seen}
 use Rattle.view.proofs.seen.Statement.{statement}
 use Rattle.view.proofs.seen.Tie as tie
 
@@ -26,6 +26,9 @@ returns-2 c = search fallback-seen
 returns-3 : tie.Need-returns-3
 returns-3 c = search nothing-seen
 
+returns-4 : tie.Need-returns-4
+returns-4 c = search refused-seen
+
 pub seen-spec : {M : Type 1} → statement M
 seen-spec =
     tie.close
@@ -39,6 +42,9 @@ seen-spec =
     (λ c. search needs)  -- enum-told
     (λ c. search needs)  -- enum-told-2
     (λ c. search needs)  -- slice-aggregate-result
+    (λ c. search needs)  -- enum-known-v-2
+    (λ c. search needs)  -- slice-aggregate-result-2
     returns
     returns-2
-    returns-3)
+    returns-3
+    returns-4)
