@@ -8,10 +8,10 @@
  *
  * What a caller owes:
  *   - Bytes are lent as a pointer and a length in bytes. The pointer is not NULL, also where the length is 0,
- *     and that many bytes from it on may be read; those of `rows` of icehub_read and `out` of icehub_write may
- *     be written too.
- *   - Lent output (`rows` of icehub_read, `out` of icehub_write) overlaps no input of the same call. Inputs may
- *     overlap each other.
+ *     and that many bytes from it on may be read; those of `rows` of the reader, `numbers` and `out` may be
+ *     written too.
+ *   - Lent output (`rows` of the reader, `numbers`, `out`) overlaps nothing else that is lent to the same call.
+ *     Inputs may overlap each other.
  *   - Nobody else changes lent bytes, or reads lent output, until the call returns.
  *
  * Nothing is kept between calls: there is no heap and no global state. Calls may run in several threads at once.
@@ -40,6 +40,8 @@ extern "C" {
 
 enum {
     ICEHUB_ROW_SIZE = 12,      /* bytes of one row */
+    ICEHUB_NUMBERS_SIZE = 20,  /* bytes of the numbers of icehub_read_numbers */
+    ICEHUB_VIEW_SIZE = 12,     /* bytes of the numbers of icehub_member */
     ICEHUB_MOST_ROWS = 1024,   /* no message has more rows */
     ICEHUB_MOST_BYTES = 65536  /* no message is longer, and no buffer of the writer */
 };
@@ -125,8 +127,38 @@ enum icehub_refusal {
 uint32_t icehub_read(const uint8_t *table, size_t table_len, uint32_t top, const uint8_t *message, size_t message_len,
                      uint8_t *rows, size_t rows_len);
 
-/* The other numbers of a reading. Each call checks table, top and message again, as icehub_read does with a list of
- * rows_len bytes, and changes nothing. Where icehub_read refuses, each but the place is 0. */
+/* Reads a message and gives its numbers, by one read: as icehub_read, and where it accepts, `numbers` begins with five
+ * numbers of 32 bits, little-endian: first known type, format, rows, optionals skipped, slices skipped, as the calls
+ * below give them (icehub_number reads one). Bytes beyond ICEHUB_NUMBERS_SIZE are untouched; on a refusal `rows` and
+ * `numbers` are untouched.
+ *
+ * If numbers_len is below ICEHUB_NUMBERS_SIZE, a message that nothing else is wrong with is refused by
+ * ICEHUB_OUTPUT_TOO_LONG; its place is ICEHUB_NUMBERS_SIZE. Every other refusal is that of icehub_read, and
+ * icehub_read_place gives its place. */
+uint32_t icehub_read_numbers(const uint8_t *table, size_t table_len, uint32_t top, const uint8_t *message,
+                             size_t message_len, uint8_t *rows, size_t rows_len, uint8_t *numbers,
+                             size_t numbers_len);
+
+/* Where the bytes of a member come from. */
+enum icehub_origin {
+    ICEHUB_EMPTY = 0,       /* no bytes: the message's type has no such member */
+    ICEHUB_IN_MESSAGE = 1,  /* the message, at a place and of a length */
+    ICEHUB_IN_FALLBACK = 2  /* the caller's fallback: the message could have the member and does not */
+};
+
+/* Finds one member, without a list: `member` is the number of its member row. Returns ICEHUB_OK: `numbers` begins with
+ * three numbers of 32 bits, little-endian: the origin (enum icehub_origin), then the place and the length of the
+ * member's bytes in the message, as in a row; both are 0 for another origin. Bytes beyond ICEHUB_VIEW_SIZE are
+ * untouched. Or returns a refusal: `numbers` is untouched.
+ *
+ * If numbers_len is below ICEHUB_VIEW_SIZE, a message that nothing else is wrong with is refused by
+ * ICEHUB_OUTPUT_TOO_LONG; its place is ICEHUB_VIEW_SIZE. Every other refusal is that of icehub_read with a list of
+ * ICEHUB_MOST_ROWS rows, and icehub_read_place gives its place. */
+uint32_t icehub_member(const uint8_t *table, size_t table_len, uint32_t top, const uint8_t *message,
+                       size_t message_len, uint32_t member, uint8_t *numbers, size_t numbers_len);
+
+/* The other numbers of a reading, one by one. Each call checks table, top and message again, as icehub_read does with a
+ * list of rows_len bytes, and changes nothing. Where icehub_read refuses, each but the place is 0. */
 
 /* The place of the refusal; 0 where the message is accepted. */
 uint32_t icehub_read_place(const uint8_t *table, size_t table_len, uint32_t top, const uint8_t *message,
@@ -217,6 +249,12 @@ static inline int8_t icehub_i8(const uint8_t *bytes) { return (int8_t)icehub_sig
 static inline int16_t icehub_i16(const uint8_t *bytes) { return (int16_t)icehub_signed(bytes, 2); }
 static inline int32_t icehub_i32(const uint8_t *bytes) { return (int32_t)icehub_signed(bytes, 4); }
 static inline int64_t icehub_i64(const uint8_t *bytes) { return icehub_signed(bytes, 8); }
+
+/* Number i of the numbers of icehub_read_numbers or icehub_member. */
+static inline uint32_t icehub_number(const uint8_t *numbers, size_t i)
+{
+    return (uint32_t)icehub_unsigned(numbers + 4 * i, 4);
+}
 
 /* The three numbers of row i of a list. */
 static inline uint32_t icehub_row_member(const uint8_t *rows, size_t i)

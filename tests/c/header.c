@@ -58,6 +58,7 @@ int main(void)
     EXPECT(icehub_row_member(rows, 1) == 7);
     EXPECT(icehub_row_place(rows, 1) == 4294967295u);
     EXPECT(icehub_row_length(rows, 1) == 65536);
+    EXPECT(icehub_number(rows, 3) == 7 && icehub_number(rows, 4) == 4294967295u);
     EXPECT(rows[ICEHUB_ROW_SIZE - 1] == 0xA5 && rows[2 * ICEHUB_ROW_SIZE] == 0xA5);
 
     EXPECT(strcmp(icehub_refusal_name(ICEHUB_CUT_OFF), "CUT_OFF") == 0);

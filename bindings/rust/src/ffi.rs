@@ -4,7 +4,7 @@
 //! empty, and as many bytes as its length says; a `&mut` slice overlaps nothing, and nobody else uses it meanwhile.
 
 extern "C" {
-    fn icehub_read(
+    fn icehub_read_numbers(
         table: *const u8,
         table_len: usize,
         top: u32,
@@ -12,6 +12,18 @@ extern "C" {
         message_len: usize,
         rows: *mut u8,
         rows_len: usize,
+        numbers: *mut u8,
+        numbers_len: usize,
+    ) -> u32;
+    fn icehub_member(
+        table: *const u8,
+        table_len: usize,
+        top: u32,
+        message: *const u8,
+        message_len: usize,
+        member: u32,
+        numbers: *mut u8,
+        numbers_len: usize,
     ) -> u32;
     fn icehub_write(
         table: *const u8,
@@ -28,11 +40,55 @@ extern "C" {
     ) -> u32;
 }
 
-/// Reads a message: 0, and the rows are in `rows`, or the number of a refusal.
-pub fn read(table: &[u8], top: u32, message: &[u8], rows: &mut [u8]) -> u32 {
-    // SAFETY: each pointer comes with the length of its slice; only `rows` is written.
-    unsafe {
-        icehub_read(table.as_ptr(), table.len(), top, message.as_ptr(), message.len(), rows.as_mut_ptr(), rows.len())
+/// Number i of lent numbers, little-endian.
+fn number(numbers: &[u8], i: usize) -> u32 {
+    let at = 4 * i;
+    u32::from_le_bytes([numbers[at], numbers[at + 1], numbers[at + 2], numbers[at + 3]])
+}
+
+/// Reads a message: the rows are in `rows`, and first known type, format, rows, optionals skipped and slices skipped
+/// are returned; or the number of a refusal.
+pub fn read(table: &[u8], top: u32, message: &[u8], rows: &mut [u8]) -> Result<[u32; 5], u32> {
+    let mut numbers = [0; 20];
+    // SAFETY: each pointer comes with the length of its slice; only `rows` and `numbers` are written.
+    let refusal = unsafe {
+        icehub_read_numbers(
+            table.as_ptr(),
+            table.len(),
+            top,
+            message.as_ptr(),
+            message.len(),
+            rows.as_mut_ptr(),
+            rows.len(),
+            numbers.as_mut_ptr(),
+            numbers.len(),
+        )
+    };
+    match refusal {
+        0 => Ok([0, 1, 2, 3, 4].map(|i| number(&numbers, i))),
+        refusal => Err(refusal),
+    }
+}
+
+/// Finds a member: origin, place and length, or the number of a refusal.
+pub fn member(table: &[u8], top: u32, message: &[u8], member: u32) -> Result<[u32; 3], u32> {
+    let mut numbers = [0; 12];
+    // SAFETY: each pointer comes with the length of its slice; only `numbers` is written.
+    let refusal = unsafe {
+        icehub_member(
+            table.as_ptr(),
+            table.len(),
+            top,
+            message.as_ptr(),
+            message.len(),
+            member,
+            numbers.as_mut_ptr(),
+            numbers.len(),
+        )
+    };
+    match refusal {
+        0 => Ok([0, 1, 2].map(|i| number(&numbers, i))),
+        refusal => Err(refusal),
     }
 }
 
@@ -121,11 +177,6 @@ macro_rules! numbers {
 numbers! {
     read {
         read_place = icehub_read_place;
-        read_type = icehub_read_type;
-        read_format = icehub_read_format;
-        read_count = icehub_read_count;
-        read_optionals_skipped = icehub_read_optionals_skipped;
-        read_slices_skipped = icehub_read_slices_skipped;
     }
     write {
         write_place = icehub_write_place;

@@ -248,26 +248,44 @@ impl<'a> Reading<'a> {
 /// The rows of the members that the table knows are put at the start of `rows`, [`ROW_SIZE`] bytes each; the bytes
 /// beyond them stay, and on a refusal all of them. A list of [`MOST_ROWS`] rows is always long enough.
 ///
-/// The library reads the message once for the rows and once for each further number: six times in all.
+/// The library reads the message once; on a refusal once more, for its place.
 pub fn read<'a>(table: &'a [u8], top: u32, message: &'a [u8], rows: &'a mut [u8]) -> Result<Reading<'a>, Refusal> {
     let room = rows.len();
-    let number = ffi::read(table, top, message, rows);
-    if number != 0 {
-        return Err(Refusal { number, place: ffi::read_place(table, top, message, room) });
-    }
-    let count = ffi::read_count(table, top, message, room) as usize;
+    let [first_type, format, count, optionals_skipped, slices_skipped] = ffi::read(table, top, message, rows)
+        .map_err(|number| Refusal { number, place: ffi::read_place(table, top, message, room) })?;
     Ok(Reading {
-        first_type: ffi::read_type(table, top, message, room),
-        format: match ffi::read_format(table, top, message, room) {
+        first_type,
+        format: match format {
             0 => Format::Compact,
             _ => Format::Sliced,
         },
-        optionals_skipped: ffi::read_optionals_skipped(table, top, message, room),
-        slices_skipped: ffi::read_slices_skipped(table, top, message, room),
+        optionals_skipped,
+        slices_skipped,
         table: Table::accepted(table),
         message,
-        list: &rows[..count * ROW_SIZE],
+        list: &rows[..count as usize * ROW_SIZE],
     })
+}
+
+/// The member view: the bytes of one member of a message, without a list.
+///
+/// They are a part of the message, as [`Row`] says; the whole `fallback` where an accepted message could have the
+/// member and does not; or no bytes, where the message's type has no such member.
+///
+/// The library reads the message once; on a refusal once more, for its place.
+pub fn member<'a>(
+    table: &[u8],
+    top: u32,
+    message: &'a [u8],
+    member: u32,
+    fallback: &'a [u8],
+) -> Result<&'a [u8], Refusal> {
+    match ffi::member(table, top, message, member) {
+        Ok([1, place, length]) => Ok(Row { member, place, length }.part(message).unwrap_or_default()),
+        Ok([2, ..]) => Ok(fallback),
+        Ok(_) => Ok(&[]),
+        Err(number) => Err(Refusal { number, place: ffi::read_place(table, top, message, MOST_ROWS * ROW_SIZE) }),
+    }
 }
 
 /// Writes the message of a type in a format, and gives its length.

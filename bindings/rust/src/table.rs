@@ -118,8 +118,10 @@ impl<'a> Table<'a> {
         // The last row number of 32 bits is in no table, so a table that breaks no rule is refused for its top.
         let (top, message) = (u32::MAX, &[]);
         match ffi::read(bytes, top, message, &mut []) {
-            number if number == Reason::BadType.number() => Ok(Table { bytes }),
-            number => Err(Refusal { number, place: ffi::read_place(bytes, top, message, 0) }),
+            Err(number) if number != Reason::BadType.number() => {
+                Err(Refusal { number, place: ffi::read_place(bytes, top, message, 0) })
+            }
+            _ => Ok(Table { bytes }),
         }
     }
 

@@ -2,7 +2,7 @@
 
 mod tables;
 
-use icehub::{read, write, Format, Reading, Row, ROW_SIZE};
+use icehub::{member, read, write, Format, Reading, Row, ROW_SIZE};
 use tables::*;
 
 /// Reads a message with nothing skipped and writes it again: the same bytes.
@@ -131,4 +131,19 @@ fn rows_and_parts() {
     assert_eq!(row((0, u32::MAX, u32::MAX)).part(&message), None);
     assert_eq!(reading.member(3), None);
     assert_eq!(lent[3 * ROW_SIZE..], [0xA5; 13 * ROW_SIZE]);
+}
+
+/// The member view: a part of the message, the fallback, no bytes, or the reader's refusal.
+#[test]
+fn member_view() {
+    let (table, message) = (p2_table(), bytes(P2));
+    let seen = |message, number| member(&table, LIST, message, number, b"other");
+    assert_eq!(seen(&message, 1), Ok(&message[9..17]));
+    assert_eq!(seen(&message, 3), Ok(&b""[..]));
+    // The required short alone: optional 1 is missing.
+    let short = bytes("08 00 00 00 01 01 0C FE");
+    assert_eq!(seen(&short, 0), Ok(&short[6..8]));
+    assert_eq!(seen(&short, 1), Ok(&b"other"[..]));
+    let refused = seen(&message[..21], 1).unwrap_err();
+    assert_eq!((refused.number, refused.place), (5, 0));
 }

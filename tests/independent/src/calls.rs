@@ -91,6 +91,20 @@ impl Call {
         }
     }
 
+    /// The view of a member of the message that this call reads.
+    pub fn view(&self, member: u32) -> Option<Call> {
+        match self {
+            Call::Read { table, top, message, .. } => Some(Call::View {
+                table: table.clone(),
+                top: *top,
+                message: message.clone(),
+                member,
+                fallback: vec![LENT; 3],
+            }),
+            _ => None,
+        }
+    }
+
     /// The call and its answer from a line.
     pub fn parse(line: &str) -> Option<(Call, Answer)> {
         let call = Json::parse(line)?;

@@ -15,6 +15,27 @@ extern "C" {
         rows: *mut u8,
         rows_length: usize,
     ) -> u32;
+    fn icehub_read_numbers(
+        table: *const u8,
+        table_length: usize,
+        top: u32,
+        message: *const u8,
+        message_length: usize,
+        rows: *mut u8,
+        rows_length: usize,
+        numbers: *mut u8,
+        numbers_length: usize,
+    ) -> u32;
+    fn icehub_member(
+        table: *const u8,
+        table_length: usize,
+        top: u32,
+        message: *const u8,
+        message_length: usize,
+        member: u32,
+        numbers: *mut u8,
+        numbers_length: usize,
+    ) -> u32;
     fn icehub_write(
         table: *const u8,
         table_length: usize,
@@ -72,6 +93,41 @@ pub fn read(table: &[u8], top: u32, message: &[u8], rows: &mut [u8]) -> u32 {
     }
 }
 
+/// The reader with its five numbers: 0 or the refusal number.
+pub fn read_numbers(table: &[u8], top: u32, message: &[u8], rows: &mut [u8], numbers: &mut [u8]) -> u32 {
+    // SAFETY: as above; only `rows` and `numbers` are written.
+    unsafe {
+        icehub_read_numbers(
+            table.as_ptr(),
+            table.len(),
+            top,
+            message.as_ptr(),
+            message.len(),
+            rows.as_mut_ptr(),
+            rows.len(),
+            numbers.as_mut_ptr(),
+            numbers.len(),
+        )
+    }
+}
+
+/// The member view: 0 or the refusal number.
+pub fn member(table: &[u8], top: u32, message: &[u8], member: u32, numbers: &mut [u8]) -> u32 {
+    // SAFETY: as above; only `numbers` is written.
+    unsafe {
+        icehub_member(
+            table.as_ptr(),
+            table.len(),
+            top,
+            message.as_ptr(),
+            message.len(),
+            member,
+            numbers.as_mut_ptr(),
+            numbers.len(),
+        )
+    }
+}
+
 /// The writer: 0 or the refusal number.
 pub fn write(table: &[u8], of: u32, format: u32, count: u32, rows: &[u8], buffer: &[u8], out: &mut [u8]) -> u32 {
     // SAFETY: as above; only `out` is written.
@@ -108,6 +164,68 @@ const READ_NUMBERS: [(&str, ReadNumber); 6] = [
 const WRITE_NUMBERS: [(&str, WriteNumber); 2] =
     [("icehub_write_place", icehub_write_place), ("icehub_write_length", icehub_write_length)];
 
+/// The bytes of the numbers of a reading, and of a member view.
+const NUMBERS: usize = 20;
+const VIEW: usize = 12;
+
+/// The numbers as they are lent.
+fn numbers_of(bytes: &[u8]) -> Vec<u32> {
+    bytes.as_chunks().0.iter().map(|&number| u32::from_le_bytes(number)).collect()
+}
+
+/// Whether the reader with its numbers agrees with the reader and its further calls, for numbers that are too short,
+/// exact and too long. What it should leave in the list is what the reader left there.
+fn numbers_agree(call: (&[u8], u32, &[u8]), refusal: u32, reading: &Reading, list: &[u8]) -> bool {
+    let (table, top, message) = call;
+    [0, NUMBERS - 1, NUMBERS, NUMBERS + 3].into_iter().all(|length| {
+        let (mut rows, mut numbers) = (vec![LENT; list.len()], vec![LENT; length]);
+        let given = read_numbers(table, top, message, &mut rows, &mut numbers);
+        let (first, beyond) = numbers.split_at(length.min(NUMBERS));
+        let kept = |bytes: &[u8]| bytes.iter().all(|&byte| byte == LENT);
+        if refusal != 0 {
+            given == refusal && rows == list && kept(&numbers)
+        } else if length < NUMBERS {
+            given == 22 && kept(&rows) && kept(&numbers)
+        } else {
+            let Reading { first: of, format, rows: count, optionals_skipped, slices_skipped } = *reading;
+            let expected = [of, format, count, optionals_skipped, slices_skipped];
+            given == 0 && rows == list && numbers_of(first) == expected && kept(beyond)
+        }
+    })
+}
+
+/// The member view's answer, for numbers that are too short, exact and too long: the bytes found, or a refusal, which
+/// is the reader's with room for all rows.
+fn view(call: (&[u8], u32, &[u8]), wanted: u32, fallback: &[u8]) -> Answer {
+    let (table, top, message) = call;
+    let refusal = read(table, top, message, &mut vec![LENT; 12 * 1_024]);
+    let kept = |bytes: &[u8]| bytes.iter().all(|&byte| byte == LENT);
+    for length in [0, VIEW - 1] {
+        let mut numbers = vec![LENT; length];
+        let given = member(table, top, message, wanted, &mut numbers);
+        if given != if refusal != 0 { refusal } else { 22 } || !kept(&numbers) {
+            return Answer::Astray;
+        }
+    }
+    let mut numbers = [LENT; VIEW + 3];
+    let given = member(table, top, message, wanted, &mut numbers);
+    let (first, beyond) = numbers.split_at(VIEW);
+    if given != refusal || !kept(beyond) || given != 0 && !kept(first) {
+        return Answer::Astray;
+    }
+    let (from, bytes) = match (given, &numbers_of(first)[..]) {
+        (0, &[1, place, length]) => match message.get(place as usize..).and_then(|rest| rest.get(..length as usize)) {
+            Some(part) => ("msg", part),
+            None => return Answer::Astray,
+        },
+        (0, [2, 0, 0]) => ("fallback", fallback),
+        (0, [0, 0, 0]) => ("empty", &[][..]),
+        (0, _) => return Answer::Astray,
+        _ => ("empty", &[][..]),
+    };
+    Answer::View { from: if bytes.is_empty() { "empty" } else { from }, bytes: bytes.to_vec() }
+}
+
 /// Hands `run` each call of the library on this input, with its name, to be made once.
 pub fn each(call: &Call, mut run: impl FnMut(&'static str, &mut dyn FnMut())) {
     match call {
@@ -115,6 +233,13 @@ pub fn each(call: &Call, mut run: impl FnMut(&'static str, &mut dyn FnMut())) {
             let mut lent = vec![LENT; *room];
             run("icehub_read", &mut || {
                 black_box(read(table, *top, message, &mut lent));
+            });
+            let mut numbers = [LENT; NUMBERS];
+            run("icehub_read_numbers", &mut || {
+                black_box(read_numbers(table, *top, message, &mut lent, &mut numbers));
+            });
+            run("icehub_member", &mut || {
+                black_box(member(table, *top, message, 0, &mut numbers));
             });
             let (table, message) = (&table[..], &message[..]);
             for (name, number) in READ_NUMBERS {
@@ -152,7 +277,7 @@ pub fn each(call: &Call, mut run: impl FnMut(&'static str, &mut dyn FnMut())) {
     }
 }
 
-/// The library's answer to a call of the reader or the writer; none to the others, which C does not have.
+/// The library's answer to a call of the reader, the writer or the member view; none to a check, which C does not have.
 pub fn answer(call: &Call) -> Option<Answer> {
     match call {
         Call::Read { table, top, message, room } => {
@@ -170,6 +295,9 @@ pub fn answer(call: &Call) -> Option<Answer> {
                 optionals_skipped: further(icehub_read_optionals_skipped),
                 slices_skipped: further(icehub_read_slices_skipped),
             };
+            if !numbers_agree((table, *top, message), refusal, &reading, &lent) {
+                return Some(Answer::Astray);
+            }
             Some(Answer::of_read((refusal, further(icehub_read_place)), reading, &lent))
         }
         Call::Write { table, of, format, count, rows, buffer, room } => {
@@ -184,6 +312,7 @@ pub fn answer(call: &Call) -> Option<Answer> {
             };
             Some(Answer::of_write((refusal, further(icehub_write_place)), further(icehub_write_length), &lent))
         }
-        Call::Check { .. } | Call::View { .. } => None,
+        Call::View { table, top, message, member, fallback } => Some(view((table, *top, message), *member, fallback)),
+        Call::Check { .. } => None,
     }
 }

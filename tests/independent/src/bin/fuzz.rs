@@ -1,7 +1,9 @@
-//! fuzz [CALLS [SEED]]: makes calls (1,000,000 by default) of the reader and the writer and compares the proved
-//! library with this implementation in every number and every lent byte. A difference is printed as a line like those
-//! of the recorded calls, the library's answer after it as `got`; with any, the exit status is 1.
+//! fuzz [CALLS [SEED]]: makes calls (1,000,000 by default) of the reader and the writer, and a member view of each
+//! message read, and compares the proved library with this implementation in every number and every lent byte. A
+//! difference is printed as a line like those of the recorded calls, the library's answer after it as `got`; with any,
+//! the exit status is 1.
 
+use independent::calls::{Answer, Call};
 use independent::ffi;
 use independent::gen::Calls;
 use std::time::{Instant, SystemTime, UNIX_EPOCH};
@@ -25,16 +27,22 @@ fn main() {
     let start = Instant::now();
     let mut differences = 0;
     let mut refusals = [0; 24];
-    for call in Calls::new(seed).take(calls as usize) {
-        let expected = call.answer();
-        refusals[expected.refusal() as usize] += 1;
-        let Some(got) = ffi::answer(&call) else { continue };
-        if got != expected {
+    let mut compare = |call: &Call, expected: &Answer| {
+        let Some(got) = ffi::answer(call) else { return };
+        if got != *expected {
             differences += 1;
             if differences <= SHOWN {
-                let line = call.json(&expected);
+                let line = call.json(expected);
                 println!("{},\"got\":{}}}", &line[..line.len() - 1], got.json());
             }
+        }
+    };
+    for (index, call) in Calls::new(seed).take(calls as usize).enumerate() {
+        let expected = call.answer();
+        refusals[expected.refusal() as usize] += 1;
+        compare(&call, &expected);
+        if let Some(view) = call.view(index as u32 % 8) {
+            compare(&view, &view.answer());
         }
     }
     let reached: Vec<_> = refusals.iter().enumerate().map(|(number, calls)| format!("{number}: {calls}")).collect();
