@@ -129,8 +129,8 @@ uint32_t icehub_read(const uint8_t *table, size_t table_len, uint32_t top, const
 
 /* Reads a message and gives its numbers, by one read: as icehub_read, and where it accepts, `numbers` begins with five
  * numbers of 32 bits, little-endian: first known type, format, rows, optionals skipped, slices skipped, as the calls
- * below give them (icehub_number reads one). Bytes beyond ICEHUB_NUMBERS_SIZE are untouched; on a refusal `rows` and
- * `numbers` are untouched.
+ * below give them (icehub_number reads one). Bytes beyond ICEHUB_NUMBERS_SIZE are unchanged; on a refusal `rows` and
+ * `numbers` are unchanged.
  *
  * If numbers_len is below ICEHUB_NUMBERS_SIZE, a message that nothing else is wrong with is refused by
  * ICEHUB_OUTPUT_TOO_LONG; its place is ICEHUB_NUMBERS_SIZE. Every other refusal is that of icehub_read, and
@@ -149,7 +149,7 @@ enum icehub_origin {
 /* Finds one member, without a list: `member` is the number of its member row. Returns ICEHUB_OK: `numbers` begins with
  * three numbers of 32 bits, little-endian: the origin (enum icehub_origin), then the place and the length of the
  * member's bytes in the message, as in a row; both are 0 for another origin. Bytes beyond ICEHUB_VIEW_SIZE are
- * untouched. Or returns a refusal: `numbers` is untouched.
+ * unchanged. Or returns a refusal: `numbers` is unchanged.
  *
  * If numbers_len is below ICEHUB_VIEW_SIZE, a message that nothing else is wrong with is refused by
  * ICEHUB_OUTPUT_TOO_LONG; its place is ICEHUB_VIEW_SIZE. Every other refusal is that of icehub_read with a list of
