@@ -8,7 +8,7 @@ ghost use mathlib.Core.Path.{_≡_};
 ghost use Prim.Native.Nat.{_+_, _*_, _≤_, _<_};
 ghost use lib.ListN.{length, drop};
 ghost use Rattle.encoding.specs.Types.{allows};
-ghost use Rattle.encoding.specs.Table.{types, members, names, typesAt, rowAt, membersAt, memberAt, namesAt, fieldAt, isRecord, owns, kind, field, allowed, typeRows, trees, tyOf, memberTy};
+ghost use Rattle.encoding.specs.Table.{types, members, names, typesAt, rowAt, membersAt, memberAt, namesAt, fieldAt, isRecord, owns, kind, field, memberType, mark, tag, allowed, typeRows, trees, tyOf, memberTy};
 ghost use Rattle.table.specs.Rows.{IsTypeRow, IsMemberRow, greatestOf};
 
 // A row number, if there is one.
@@ -197,20 +197,20 @@ pub fn field_b(table: &[u8], t: usize) -> usize
     field(table, t, 1)
 }
 
-// Type row t where it is not wholly inside the table: what is missing is 0. Called at two places, so that the compiler does not inline it and `type_row` stays small.
+// Type row t where it is not wholly inside the table: what is missing is 0.
+// Called at two places and long, since each field is looked up by itself: so the compiler does not inline it, and `type_row` stays small.
 fn type_row_outside(table: &[u8], t: usize) -> TypeRow
     ensures { λ r. ⌜ IsTypeRow (now (table .entry)) t r ⌝ }
 {
     let start = row_or_end(table, t);
-    let bytes = &table[start..];
     TypeRow {
-        kind: wire::byte_at(bytes, 0),
-        spare: wire::byte_at(bytes, 1),
-        a: wire::short_at(bytes, field_at(0)),
-        b: wire::short_at(bytes, field_at(1)),
-        c: wire::short_at(bytes, field_at(2)),
-        d: wire::short_at(bytes, field_at(3)),
-        e: wire::short_at(bytes, field_at(4)),
+        kind: kind(table, t),
+        spare: wire::byte_at(&table[start..], 1),
+        a: field(table, t, 0),
+        b: field(table, t, 1),
+        c: field(table, t, 2),
+        d: field(table, t, 3),
+        e: field(table, t, 4),
     }
 }
 
@@ -264,17 +264,40 @@ pub fn type_row(table: &[u8], t: usize) -> TypeRow
     type_row_in(table, t)
 }
 
-// Member row m where it is not wholly inside the table: what is missing is 0. Called at two places, so that the compiler does not inline it and `member_row` stays small.
+// The type of member row m.
+fn member_type(table: &[u8], m: usize) -> usize
+    ensures { λ r. ⌜ (r ≡ memberType (now (table .entry)) m) × (r < 65536) ⌝ }
+{
+    let a = member_or_end(table, m);
+    wire::short_at(&table[a..], 0)
+}
+
+// The mark of member row m.
+fn mark(table: &[u8], m: usize) -> usize
+    ensures { λ r. ⌜ (r ≡ mark (now (table .entry)) m) × (r < 256) ⌝ }
+{
+    let a = member_or_end(table, m);
+    wire::byte_at(&table[a..], 2)
+}
+
+// The tag of member row m.
+fn tag(table: &[u8], m: usize) -> usize
+    ensures { λ r. ⌜ (r ≡ tag (now (table .entry)) m) × (r < 4294967296) ⌝ }
+{
+    let a = member_or_end(table, m);
+    wire::int_at(&table[a..], 4)
+}
+
+// Member row m where it is not wholly inside the table: what is missing is 0. It is kept out of `member_row` in the same way.
 fn member_row_outside(table: &[u8], m: usize) -> MemberRow
     ensures { λ r. ⌜ IsMemberRow (now (table .entry)) m r ⌝ }
 {
     let start = member_or_end(table, m);
-    let bytes = &table[start..];
     MemberRow {
-        of: wire::short_at(bytes, 0),
-        mark: wire::byte_at(bytes, 2),
-        spare: wire::byte_at(bytes, 3),
-        tag: wire::int_at(bytes, 4),
+        of: member_type(table, m),
+        mark: mark(table, m),
+        spare: wire::byte_at(&table[start..], 3),
+        tag: tag(table, m),
     }
 }
 
