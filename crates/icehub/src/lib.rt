@@ -34,7 +34,7 @@ fn number(a: Reading, i: usize) -> u32
 }
 
 // Number i of the reader's answer with a lent list of `room` bytes.
-fn told(table: &[u8], top: u32, message: &[u8], room: usize, i: usize) -> u32
+fn read_number(table: &[u8], top: u32, message: &[u8], room: usize, i: usize) -> u32
     ensures { λ r. ⌜ r ≡ readNumber (now (table .entry)) top (now (message .entry)) room i ⌝ }
 {
     number(codec::answer(table, top, message, room), i)
@@ -56,7 +56,7 @@ pub extern "C" fn icehub_read(table: &[u8], top: u32, message: &[u8], rows: &mut
 pub extern "C" fn icehub_read_place(table: &[u8], top: u32, message: &[u8], room: usize) -> u32
     ensures { λ r. ⌜ r ≡ readNumber (now (table .entry)) top (now (message .entry)) room 1 ⌝ }
 {
-    told(table, top, message, room, 1)
+    read_number(table, top, message, room, 1)
 }
 
 // The first known type.
@@ -65,7 +65,7 @@ pub extern "C" fn icehub_read_place(table: &[u8], top: u32, message: &[u8], room
 pub extern "C" fn icehub_read_type(table: &[u8], top: u32, message: &[u8], room: usize) -> u32
     ensures { λ r. ⌜ r ≡ readNumber (now (table .entry)) top (now (message .entry)) room 2 ⌝ }
 {
-    told(table, top, message, room, 2)
+    read_number(table, top, message, room, 2)
 }
 
 // The format: 0 compact, 1 sliced or a parameter list.
@@ -74,7 +74,7 @@ pub extern "C" fn icehub_read_type(table: &[u8], top: u32, message: &[u8], room:
 pub extern "C" fn icehub_read_format(table: &[u8], top: u32, message: &[u8], room: usize) -> u32
     ensures { λ r. ⌜ r ≡ readNumber (now (table .entry)) top (now (message .entry)) room 3 ⌝ }
 {
-    told(table, top, message, room, 3)
+    read_number(table, top, message, room, 3)
 }
 
 // The row count.
@@ -83,7 +83,7 @@ pub extern "C" fn icehub_read_format(table: &[u8], top: u32, message: &[u8], roo
 pub extern "C" fn icehub_read_count(table: &[u8], top: u32, message: &[u8], room: usize) -> u32
     ensures { λ r. ⌜ r ≡ readNumber (now (table .entry)) top (now (message .entry)) room 4 ⌝ }
 {
-    told(table, top, message, room, 4)
+    read_number(table, top, message, room, 4)
 }
 
 // How many optionals were skipped.
@@ -97,7 +97,7 @@ pub extern "C" fn icehub_read_optionals_skipped(
 ) -> u32
     ensures { λ r. ⌜ r ≡ readNumber (now (table .entry)) top (now (message .entry)) room 5 ⌝ }
 {
-    told(table, top, message, room, 5)
+    read_number(table, top, message, room, 5)
 }
 
 // How many slices were skipped.
@@ -111,7 +111,7 @@ pub extern "C" fn icehub_read_slices_skipped(
 ) -> u32
     ensures { λ r. ⌜ r ≡ readNumber (now (table .entry)) top (now (message .entry)) room 6 ⌝ }
 {
-    told(table, top, message, room, 6)
+    read_number(table, top, message, room, 6)
 }
 
 // The reader with its five numbers: 0 or the refusal number, the rows in the lent list, and first known type, format, rows, optionals and slices skipped in the lent numbers.

@@ -14,7 +14,7 @@ pub enum Prepared {
 }
 
 // How many bytes there are; each is below 256.
-pub fn count(s: &[u8]) -> usize
+pub fn byte_count(s: &[u8]) -> usize
     ensures { λ r. ⌜ (r ≡ length (now (s .entry))) × Bytes (now (s .entry)) ⌝ }
 {
     if 0 < s.len() {

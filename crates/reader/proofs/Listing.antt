@@ -37,14 +37,14 @@ use Rattle.level.specs.declared.Optional.the-variants.{Known, Skipped, Wrong}
 use Rattle.slices.specs.declared.Walk.{Walk}
 use Rattle.slices.specs.declared.Walk.the-variants.{Done, Stop}
 use Rattle.slices.specs.Walks.{listWalk}
-use Rattle.slices.specs.Left.{Outcome, listed, refused, answerOf, optionalsFrom, finish, listClose, listing}
+use Rattle.slices.specs.Left.{WalkEnd, listed, refused, answerOf, optionalsFrom, finish, listClose, listing}
 use Rattle.slices.specs.LeftLaws.{parameters-required, parameters-refused, finish-end, finish-wrong, finish-known, finish-skipped}
 use Rattle.slices.specs.MemberLaws.{required-few, optional-two}
 use Rattle.slices.proofs.Endings.{Ends, ends-same, ends-refused, ends-listed, ends-answer, ends-list, Small, field-below}
 
 -- ---- the whole walk
 
-abbrev inList : List ℕ → ℕ → ℕ → List ℕ → Res (List Piece) → Outcome
+abbrev inList : List ℕ → ℕ → ℕ → List ℕ → Res (List Piece) → WalkEnd
 inList T top at out r = finish T top (listClose top) refused false at 0 0 out r
 
 list-whole : (T : List ℕ) (top at : ℕ) (out : List ℕ) (r : Res (List Piece)) → answerOf (inList T top at out r) ≡ listWalk T top at r
@@ -78,7 +78,7 @@ not-end m at h = go (drop at m) (omega (arith, length-drop at m))
     go [] h = absurd (omega arith)
     go (x ∷ l) h = refl
 
-pub record Listing (T : List ℕ) (top : ℕ) (m : List ℕ) (whole : Outcome) (stop at least row k o : ℕ) (out : List ℕ) : Type 0 where
+pub record Listing (T : List ℕ) (top : ℕ) (m : List ℕ) (whole : WalkEnd) (stop at least row k o : ℕ) (out : List ℕ) : Type 0 where
   pub small : Small T
   pub room : length m < 2 ^ 63
   pub inside : at ≤ length m
@@ -146,7 +146,7 @@ list-begin T top m start n j i out em stop e h S l =
       rest = refl;
     }
 
-module _ {T : List ℕ} {top : ℕ} {m : List ℕ} {whole : Outcome} {stop at least row k o : ℕ} {out : List ℕ} (inv : Listing T top m whole stop at least row k o out) where
+module _ {T : List ℕ} {top : ℕ} {m : List ℕ} {whole : WalkEnd} {stop at least row k o : ℕ} {out : List ℕ} (inv : Listing T top m whole stop at least row k o out) where
   -- the rows of the list's own members end before the bound of the look-ups
   pub listing-bound : stop ≤ 131072
   listing-bound = omega (arith, inv .passed .ends, field-below T (inv .small) top 0, field-below T (inv .small) top 1)

@@ -109,7 +109,7 @@ fn checked(table: &[u8], top: usize, message: &[u8], rows: &mut [u8]) -> Reading
     ensures { λ r. ⌜ r ≡ readingOf (reading (now (table .entry)) top (now (message .entry)) (length (now (rows .entry)))) ⌝ }
     ensures { λ _. ⌜ now (rows .exit) ≡ listed (reading (now (table .entry)) top (now (message .entry)) (length (now (rows .entry)))) (now (rows .entry)) ⌝ }
 {
-    let n = prepare::count(message);
+    let n = prepare::byte_count(message);
     let mut shapes = [0u8; 256];
     let p = prepare::prepare(table, top, 1, n, &mut shapes);
     match p {
@@ -132,7 +132,7 @@ pub fn read(table: &[u8], top: u32, message: &[u8], rows: &mut [u8]) -> Reading
 pub fn answer(table: &[u8], top: u32, message: &[u8], room: usize) -> Reading
     ensures { λ r. ⌜ r ≡ readingOf (reading (now (table .entry)) top (now (message .entry)) room) ⌝ }
 {
-    let n = prepare::count(message);
+    let n = prepare::byte_count(message);
     let t = top as usize;
     let mut shapes = [0u8; 256];
     let p = prepare::prepare(table, t, 1, n, &mut shapes);

@@ -44,7 +44,7 @@ fn rows_of(bytes: &[u8], n: usize, rows: &mut [Row]) -> usize
 }
 
 // The row count of an answer; 0 on a refusal.
-fn told(answer: Reading) -> usize
+fn rows_given(answer: Reading) -> usize
     ensures { λ r. ⌜ r ≡ rowsOf answer ⌝ }
 {
     match answer {
@@ -58,7 +58,7 @@ fn listing(table: &[u8], top: u32, message: &[u8], room: usize, list: &mut [u8])
     requires { ⌜ length (now list) ≡ 12288 ⌝ }
     ensures { λ r. ⌜ (r ≡ readingOf (reading (now (table .entry)) top (now (message .entry)) (12 * room))) × ((rowsOf r ≤ 1024) × (records (now (list .exit)) 0 (rowsOf r) ≡ map recordOf (reading (now (table .entry)) top (now (message .entry)) (12 * room) .rows))) ⌝ }
 {
-    prepare::count(message);
+    prepare::byte_count(message);
     let n = 12 * wire::least(room, 1024);
     reading::read(table, top, message, &mut list[..n])
 }
@@ -70,6 +70,6 @@ pub fn read_rows(table: &[u8], top: u32, message: &[u8], rows: &mut [Row]) -> Re
 {
     let mut list = [0u8; 12288];
     let answer = listing(table, top, message, rows.len(), &mut list);
-    rows_of(&list, told(answer), rows);
+    rows_of(&list, rows_given(answer), rows);
     answer
 }

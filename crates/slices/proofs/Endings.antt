@@ -19,30 +19,30 @@ use Rattle.wire.specs.Put.{put}
 use Rattle.wire.specs.PutLaws.{put-length}
 use Rattle.slices.specs.declared.Walk.{Walk}
 use Rattle.slices.specs.declared.Walk.the-variants.{Stop}
-use Rattle.slices.specs.Left.{Outcome, listed, refused, answerOf}
+use Rattle.slices.specs.Left.{WalkEnd, listed, refused, answerOf}
 
 -- ---- how a walk ends
 
 -- an answer is the walk's, and so is the lent list where the walk accepts
-pub data Ends : Outcome → Walk → List ℕ → Type 0 where
+pub data Ends : WalkEnd → Walk → List ℕ → Type 0 where
   accepted : {w : Walk} {out : List ℕ} → Ends (listed w out) w out
   stopped : {c p : ℕ} {out : List ℕ} → Ends (refused c p) (Stop c p) out
 
-pub ends-refused : (whole : Outcome) (c p : ℕ) (v : Walk) (out : List ℕ) → whole ≡ refused c p → v ≡ Stop c p → Ends whole v out
+pub ends-refused : (whole : WalkEnd) (c p : ℕ) (v : Walk) (out : List ℕ) → whole ≡ refused c p → v ≡ Stop c p → Ends whole v out
 ends-refused whole c p v out e h = rw (e, h) stopped
 
-pub ends-listed : (whole : Outcome) (w : Walk) (out : List ℕ) → whole ≡ listed w out → Ends whole w out
+pub ends-listed : (whole : WalkEnd) (w : Walk) (out : List ℕ) → whole ≡ listed w out → Ends whole w out
 ends-listed whole w out e = rw e accepted
 
-pub ends-same : {whole other : Outcome} {v : Walk} {out : List ℕ} → whole ≡ other → Ends other v out → Ends whole v out
-ends-same {v = v} {out = out} e E = subst (λ (x : Outcome). Ends x v out) (sym e) E
+pub ends-same : {whole other : WalkEnd} {v : Walk} {out : List ℕ} → whole ≡ other → Ends other v out → Ends whole v out
+ends-same {v = v} {out = out} e E = subst (λ (x : WalkEnd). Ends x v out) (sym e) E
 
-pub ends-answer : {o : Outcome} {v : Walk} {out : List ℕ} → Ends o v out → v ≡ answerOf o
+pub ends-answer : {o : WalkEnd} {v : Walk} {out : List ℕ} → Ends o v out → v ≡ answerOf o
 unfolding answerOf
 ends-answer accepted = refl
 ends-answer stopped = refl
 
-pub ends-list : {o : Outcome} {v : Walk} {out : List ℕ} → Ends o v out → (w : Walk) (l : List ℕ) → o ≡ listed w l → out ≡ l
+pub ends-list : {o : WalkEnd} {v : Walk} {out : List ℕ} → Ends o v out → (w : Walk) (l : List ℕ) → o ≡ listed w l → out ≡ l
 ends-list accepted w l e = cc
 ends-list stopped w l e = let z : _≡_ {A = ℕ} 0 1 = cc in absurd (omega arith)
 

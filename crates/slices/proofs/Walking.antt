@@ -52,7 +52,7 @@ use Rattle.slices.specs.declared.Walk.the-variants.{Done, Stop}
 use Rattle.heads.specs.Stages.{stageOf}
 use Rattle.slices.specs.Openings.{opening, turnOf, firstOr}
 use Rattle.slices.specs.Walks.{chainRows, sliceWalk}
-use Rattle.slices.specs.Left.{Outcome, answerOf, recallTo, firstFrom, onward, rowsFrom, left, closing, recalling, optionalsFrom, finish, amid}
+use Rattle.slices.specs.Left.{WalkEnd, answerOf, recallTo, firstFrom, onward, rowsFrom, left, closing, recalling, optionalsFrom, finish, amid}
 use Rattle.slices.specs.LeftLaws.{left-whole, left-listed, left-refused, left-skipped, left-known, onward-ended, fields-required, fields-refused, finish-end, finish-early, finish-wrong, finish-known, finish-skipped}
 use Rattle.slices.specs.OpeningLaws.{Opened, Skipped, opening-wrong, opening-place, opening-skip, opening-known, opened-eats, opened-sized, row-below, row-base, passed-never}
 use Rattle.slices.specs.MemberLaws.{required-few, optional-two, mark-byte}
@@ -78,7 +78,7 @@ credit (Following z b) = b
 -- ---- the loop over slices
 
 -- the outcome comes of the slices ahead
-pub record Outer (T : List ℕ) (top : ℕ) (m : List ℕ) (whole : Outcome) (stage : Stage) (pos k o s fst : ℕ) (out : List ℕ) : Type 0 where
+pub record Outer (T : List ℕ) (top : ℕ) (m : List ℕ) (whole : WalkEnd) (stage : Stage) (pos k o s fst : ℕ) (out : List ℕ) : Type 0 where
   pub small : Small T
   pub room : length m < 2 ^ 63
   pub inside : pos ≤ length m
@@ -89,7 +89,7 @@ pub record Outer (T : List ℕ) (top : ℕ) (m : List ℕ) (whole : Outcome) (st
   pub rest : whole ≡ left T (stageOf stage) pos k o s fst out (onward T top (stageOf stage) (drop pos m))
 
 -- the outcome comes of the optionals ahead, where there may be more, or of what is behind the slice's members
-pub record Inner (T : List ℕ) (top : ℕ) (m : List ℕ) (whole : Outcome) (stage : Stage) (pos t : ℕ) (z : Bool) (from end s fst stop : ℕ) (at least row k o : ℕ) (more : Bool) (out : List ℕ) : Type 0 where
+pub record Inner (T : List ℕ) (top : ℕ) (m : List ℕ) (whole : WalkEnd) (stage : Stage) (pos t : ℕ) (z : Bool) (from end s fst stop : ℕ) (at least row k o : ℕ) (more : Bool) (out : List ℕ) : Type 0 where
   pub small : Small T
   pub room : length m < 2 ^ 63
   pub begun : pos < at
@@ -107,7 +107,7 @@ module _ (T : List ℕ) (top : ℕ) (m : List ℕ) (at : ℕ) (out : List ℕ) w
   unfolding credit stageOf finished slices onward
   outer-begin S l h = record { small = S; room = l; inside = h; few = omega arith; fewer = omega arith; fewest = omega arith; on = refl; rest = refl }
 
-module _ {T : List ℕ} {top : ℕ} {m : List ℕ} {whole : Outcome} {stage : Stage} {pos k o s fst : ℕ} {out : List ℕ} (inv : Outer T top m whole stage pos k o s fst out)
+module _ {T : List ℕ} {top : ℕ} {m : List ℕ} {whole : WalkEnd} {stage : Stage} {pos k o s fst : ℕ} {out : List ℕ} (inv : Outer T top m whole stage pos k o s fst out)
     {r : Opening} (e : r ≡ opening T top (stageOf stage) (take (length m - pos) (drop pos m))) where
   opens : r ≡ opening T top (stageOf stage) (drop pos m)
   opens = e ∙ ap (opening T top (stageOf stage)) (rest-is m pos)
@@ -204,7 +204,7 @@ module _ {T : List ℕ} {top : ℕ} {m : List ℕ} {whole : Outcome} {stage : St
     abbrev part : List ℕ
     part = take (pos + b - (pos + a)) (drop (pos + a) m)
 
-    abbrev close : (at k o : ℕ) → List ℕ → Outcome
+    abbrev close : (at k o : ℕ) → List ℕ → WalkEnd
     close = closing T top m z (base T t) s (firstOr (stageOf stage) fst t) (pos + a) (pos + b)
 
     by-members : whole ≡ finish T t close (recalling pos) false (pos + a) k o out (fields T t opt part)
@@ -265,13 +265,13 @@ module _ {T : List ℕ} {top : ℕ} {m : List ℕ} {whole : Outcome} {stage : St
 
 -- ---- the loop over optionals
 
-module _ {T : List ℕ} {top : ℕ} {m : List ℕ} {whole : Outcome} {stage : Stage} {pos t : ℕ} {z : Bool} {from end s fst stop : ℕ} {at least row k o : ℕ} {more : Bool} {out : List ℕ}
+module _ {T : List ℕ} {top : ℕ} {m : List ℕ} {whole : WalkEnd} {stage : Stage} {pos t : ℕ} {z : Bool} {from end s fst stop : ℕ} {at least row k o : ℕ} {more : Bool} {out : List ℕ}
     (inv : Inner T top m whole stage pos t z from end s fst stop at least row k o more out) where
   -- the rows of the owner's members end before the bound of the look-ups
   pub inner-bound : stop ≤ 131072
   inner-bound = omega (arith, inv .passed .ends, field-below T (inv .small) t 0, field-below T (inv .small) t 1)
 
-  abbrev close-in : (at k o : ℕ) → List ℕ → Outcome
+  abbrev close-in : (at k o : ℕ) → List ℕ → WalkEnd
   close-in = closing T top m z (base T t) s (firstOr (stageOf stage) fst t) from end
 
   abbrev part-in : List ℕ
@@ -470,7 +470,7 @@ pub size-place : (z : Bool) (from at end : ℕ) → (z ≡ true → 4 ≤ from) 
 size-place z from at end f b eb over = f (both-true z (not (eqb at end)) (sym eb ∙ over) .0)
 
 -- an outcome by another name
-pub outer-join : {T : List ℕ} {top : ℕ} {m : List ℕ} {whole other : Outcome} {stage : Stage} {pos k o s fst : ℕ} {out : List ℕ}
+pub outer-join : {T : List ℕ} {top : ℕ} {m : List ℕ} {whole other : WalkEnd} {stage : Stage} {pos k o s fst : ℕ} {out : List ℕ}
     → whole ≡ other → Outer T top m other stage pos k o s fst out → Outer T top m whole stage pos k o s fst out
 outer-join e inv = record {
   small = inv .small;
@@ -518,7 +518,7 @@ stop-never T start (ok y i) c p h x n e out l = let z : _≡_ {A = ℕ} 0 1 = cc
 stop-never T start (bad d q) c p h x n e out l = let z : _≡_ {A = ℕ} 0 1 = cc in absurd (omega arith)
 
 -- inside a slice, where the answer is known to be that of the outcome
-module _ (T : List ℕ) (top : ℕ) (m : List ℕ) (start : ℕ) (whole : Outcome) (stage : Stage) (pos t : ℕ) (z : Bool) (from end s fst stop : ℕ) (at least row k o : ℕ) (more : Bool) (out : List ℕ)
+module _ (T : List ℕ) (top : ℕ) (m : List ℕ) (start : ℕ) (whole : WalkEnd) (stage : Stage) (pos t : ℕ) (z : Bool) (from end s fst stop : ℕ) (at least row k o : ℕ) (more : Bool) (out : List ℕ)
     (inv : Inner T top m whole stage pos t z from end s fst stop at least row k o more out) (answer : sliceWalk T start (slices T top (drop start m)) ≡ answerOf whole) where
   -- an optional is refused
   module _ (go-on : more ≡ true) (r : Turn) (e : r ≡ turnOf (optionalFrom T stop row) least (take (end - at) (drop at m))) (c p : ℕ) (q : r ≡ Wrong c p) (v : Walk) (h : v ≡ answerOf (recalling pos c (at + p))) where

@@ -1,6 +1,6 @@
 -- What is left of a walk, from where it stands: its answer and the lent list come of what was counted so far and of the bytes ahead.
 --
---   Outcome              how a walk ends: its answer with the lent list, or a refusal; answerOf the answer
+--   WalkEnd              how a walk ends: its answer with the lent list, or a refusal; answerOf the answer
 --   recallTo             14 stands at the flags
 --   owners, firstFrom    the rows whose slices are to come, and the first known type, from a stage on
 --   onward               the walk over the slices ahead
@@ -27,11 +27,11 @@ use Rattle.slices.specs.declared.Walk.{Walk}
 use Rattle.slices.specs.declared.Walk.the-variants.{Done, Stop}
 use Rattle.slices.specs.Openings.{firstOr}
 
-pub data Outcome : Type 0 where
-  listed : Walk → List ℕ → Outcome
-  refused : ℕ → ℕ → Outcome
+pub data WalkEnd : Type 0 where
+  listed : Walk → List ℕ → WalkEnd
+  refused : ℕ → ℕ → WalkEnd
 
-unfoldable pub answerOf : Outcome → Walk
+unfoldable pub answerOf : WalkEnd → Walk
 answerOf (listed w out) = w
 answerOf (refused c p) = Stop c p
 
@@ -56,7 +56,7 @@ unfoldable pub rowsFrom : List ℕ → Stage → ℕ → Chain → List Row
 rowsFrom T st at c = sliceRows T (c .format) (standOf st) at (owners T st (c .list)) (c .list)
 
 -- k rows, o optionals and s slices skipped so far, and the first known type, if there is one yet
-unfoldable pub left : List ℕ → Stage → (at k o s first : ℕ) → List ℕ → Res Chain → Outcome
+unfoldable pub left : List ℕ → Stage → (at k o s first : ℕ) → List ℕ → Res Chain → WalkEnd
 left T st at k o s first out (ok c n) =
     listed
     (Done (firstFrom T st first (c .list)) (formatNumber (c .format)) (k + length (rowsFrom T st at c)) (o + skippedIn (c .list)) (s + passedIn (c .list)) (at + n))
@@ -64,13 +64,13 @@ left T st at k o s first out (ok c n) =
 left T st at k o s first out (bad c p) = refused c (at + p)
 
 -- behind the members of a slice, sliced or not, whose data lie between two places and whose base row + 1 is b
-unfoldable pub closing : List ℕ → ℕ → List ℕ → Bool → (b s first from end : ℕ) → (at k o : ℕ) → List ℕ → Outcome
+unfoldable pub closing : List ℕ → ℕ → List ℕ → Bool → (b s first from end : ℕ) → (at k o : ℕ) → List ℕ → WalkEnd
 closing T top m z b s first from end at k o out =
     pick (z && not (eqb at end)) (refused 11 (from - 4))
     (left T (follow (pick z sliced compact) b) at k o s first out (onward T top (follow (pick z sliced compact) b) (drop at m)))
 
 -- a refusal inside a slice whose flags are at a place
-unfoldable pub recalling : ℕ → ℕ → ℕ → Outcome
+unfoldable pub recalling : ℕ → ℕ → ℕ → WalkEnd
 recalling flags c p = refused c (recallTo c flags p)
 
 -- ---- optionals
@@ -82,23 +82,23 @@ unfoldable pub noPiece : List Piece → Bool
 noPiece [] = true
 noPiece (p ∷ ps) = false
 
-unfoldable pub finish : List ℕ → ℕ → ((at k o : ℕ) → List ℕ → Outcome) → (ℕ → ℕ → Outcome) → Bool → (at k o : ℕ) → List ℕ → Res (List Piece) → Outcome
+unfoldable pub finish : List ℕ → ℕ → ((at k o : ℕ) → List ℕ → WalkEnd) → (ℕ → ℕ → WalkEnd) → Bool → (at k o : ℕ) → List ℕ → Res (List Piece) → WalkEnd
 finish T t go refuse due at k o out (ok ps n) =
     pick (due && noPiece ps) (refuse 14 at)
     (go (at + n) (k + length (pieceRows T t at ps)) (o + skippedPieces ps) (fill k (pieceRows T t at ps) out))
 finish T t go refuse due at k o out (bad c p) = refuse c (at + p)
 
 -- in a known slice of row t, at its optionals, where there may be more, or behind its members
-unfoldable pub amid : List ℕ → ℕ → List ℕ → Stage → (pos t : ℕ) → Bool → (from end s first : ℕ) → (at least k o : ℕ) → Bool → List ℕ → Outcome
+unfoldable pub amid : List ℕ → ℕ → List ℕ → Stage → (pos t : ℕ) → Bool → (from end s first : ℕ) → (at least k o : ℕ) → Bool → List ℕ → WalkEnd
 amid T top m st pos t z from end s first at least k o more out =
     pick more
     (finish T t (closing T top m z (base T t) s (firstOr st first t) from end) (recalling pos) (eqb least 0) at k o out
     (optionalsFrom atMark (optionalMembers T t) least (take (end - at) (drop at m))))
     (closing T top m z (base T t) s (firstOr st first t) from end at k o out)
 
-unfoldable pub listClose : ℕ → (at k o : ℕ) → List ℕ → Outcome
+unfoldable pub listClose : ℕ → (at k o : ℕ) → List ℕ → WalkEnd
 listClose top at k o out = listed (Done top 1 k o 0 at) out
 
 -- at the optionals of a parameter list
-unfoldable pub listing : List ℕ → ℕ → List ℕ → (at least k o : ℕ) → List ℕ → Outcome
+unfoldable pub listing : List ℕ → ℕ → List ℕ → (at least k o : ℕ) → List ℕ → WalkEnd
 listing T top m at least k o out = finish T top (listClose top) refused false at k o out (optionalsFrom atEnd (optionalMembers T top) least (drop at m))

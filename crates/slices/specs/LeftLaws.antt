@@ -41,7 +41,7 @@ use Rattle.heads.specs.declared.Stage
 use Rattle.heads.specs.Stages.{stageOf}
 use Rattle.slices.specs.Walks.{chainRows, sliceWalk}
 use Rattle.slices.specs.Openings.{ended, firstOr}
-use Rattle.slices.specs.Left.{Outcome, listed, refused, answerOf, recallTo, owners, firstFrom, onward, rowsFrom, left, closing, recalling, optionalsFrom, noPiece, finish}
+use Rattle.slices.specs.Left.{WalkEnd, listed, refused, answerOf, recallTo, owners, firstFrom, onward, rowsFrom, left, closing, recalling, optionalsFrom, noPiece, finish}
 use Rattle.slices.specs.MemberLaws.{required-plain, fields-weight, rows-append, skipped-append}
 use Rattle.slices.specs.OpeningLaws.{Marks, Opened, Skipped, format-kept, owners-known, first-known, known-place, opened-sized, passed-end, passed-never}
 
@@ -148,7 +148,7 @@ module _ (T : List ℕ) (stand : Stand) (b : Bool) (nm d : List ℕ) (at n : ℕ
   skipped-step w k o s fst out (bad c p) f = ap (refused c) (omega arith)
 
 module _ (T : List ℕ) (top : ℕ) (xs : List ℕ) (at k o s fst : ℕ) (out : List ℕ) (n : ℕ) where
-  abbrev thereafter : Outcome
+  abbrev thereafter : WalkEnd
   thereafter = left T (seek (later sliced)) (at + n) k o (s + 1) fst out (onward T top (seek (later sliced)) (drop n xs))
 
   pub left-skipped : (stage : Stage.Stage) → Skipped T top (stageOf stage) xs n → left T (stageOf stage) at k o s fst out (onward T top (stageOf stage) xs) ≡ thereafter
@@ -205,10 +205,10 @@ module _ (T : List ℕ) (top : ℕ) (st : Stage) (m : List ℕ) (pos t : ℕ) (o
       go sliced true h = refl
       go sliced false h = let x : _≡_ {A = ℕ} 0 1 = cc in absurd (omega arith)
 
-  abbrev whole : Outcome
+  abbrev whole : WalkEnd
   whole = left T st pos k o s fst out (onward T top st (drop pos m))
 
-  abbrev close : (at k o : ℕ) → List ℕ → Outcome
+  abbrev close : (at k o : ℕ) → List ℕ → WalkEnd
   close = closing T top m z (base T t) s (firstOr st fst t) (pos + a) (pos + e)
 
   abbrev inPart : List ℕ
@@ -276,11 +276,11 @@ module _ (T : List ℕ) (top : ℕ) (st : Stage) (m : List ℕ) (pos t : ℕ) (o
 -- ---- members, one behind another
 
 -- where there is a piece, none is missing
-never : (b : Bool) (x y : Outcome) → pick (b && false) x y ≡ y
+never : (b : Bool) (x y : WalkEnd) → pick (b && false) x y ≡ y
 never true x y = refl
 never false x y = refl
 
-module _ (T : List ℕ) (t : ℕ) (go : (at k o : ℕ) → List ℕ → Outcome) (refuse : ℕ → ℕ → Outcome) where
+module _ (T : List ℕ) (t : ℕ) (go : (at k o : ℕ) → List ℕ → WalkEnd) (refuse : ℕ → ℕ → WalkEnd) where
   -- required members, then what was read behind them
   module _ (xs : List ℕ) (ps : List Piece) (n : ℕ) (e : requireds (Table.requiredMembers T t) xs ≡ ok ps n) (at k o : ℕ) (out : List ℕ) where
     finish-append : (r : Res (List Piece))
@@ -345,7 +345,7 @@ module _ (T : List ℕ) (t : ℕ) (go : (at k o : ℕ) → List ℕ → Outcome)
   -- ---- optionals, one behind another
 
   module _ (stop : List ℕ → Option ℕ) (due : Bool) (least : ℕ) (xs : List ℕ) (at k o : ℕ) (out : List ℕ) where
-    abbrev pub ahead-of : Outcome
+    abbrev pub ahead-of : WalkEnd
     ahead-of = finish T t go refuse due at k o out (optionalsFrom stop (Table.optionalMembers T t) least xs)
 
     pub finish-end : (j : ℕ) → stop xs ≡ some j → due ≡ false → ahead-of ≡ go (at + j) k o out

@@ -40,7 +40,7 @@ fn look(table: &[u8], top: usize, message: &[u8], member: usize) -> View
     ensures { λ r. ⌜ r ≡ viewAnswer (now (table .entry)) top (now (message .entry)) member ⌝ }
     ensures { λ r. ⌜ PartInside (length (now (message .entry))) r ⌝ }
 {
-    let n = prepare::count(message);
+    let n = prepare::byte_count(message);
     let mut shapes = [0u8; 256];
     let p = prepare::prepare(table, top, 1, n, &mut shapes);
     match p {

@@ -79,7 +79,7 @@ fn fit(o: Outcome, room: usize) -> Outcome
 }
 
 // The answer of an outcome.
-fn told(o: Outcome) -> Writing
+fn writing_of(o: Outcome) -> Writing
     requires { ⌜ Fits o ⌝ }
     ensures { λ r. ⌜ r ≡ tells o ⌝ }
 {
@@ -112,7 +112,7 @@ pub fn write(
         buffer,
         out,
     );
-    told(o)
+    writing_of(o)
 }
 
 // The writer's answer for an output of `room` bytes; no output is touched.
@@ -138,5 +138,5 @@ pub fn written(
         buffer,
         &mut none,
     );
-    told(fit(o, room))
+    writing_of(fit(o, room))
 }

@@ -18,7 +18,7 @@ pub checked-spec : {M : Type 1} → statement M
 checked-spec =
     tie.close
     (tie.spec
-    (λ c κs. search needs)  -- count-requires
+    (λ c κs. search needs)  -- byte-count-requires
     (λ c κs. search needs)  -- prepare-requires
     (λ c. search needs)  -- enum-known-p
     (λ c κs. search needs)  -- low-requires

@@ -1,5 +1,5 @@
 -- `rowlist::read_rows` meets its contract: a walk of its MIR, by hand. A local array of bytes is lent to `listing` as a `&mut` slice, for a lifetime that is made for the call, and comes back; then it is lent to `rows_of` as a `&` slice, for another lifetime, and `rows` is passed on for good.
--- All that the proof knows of `listing`, `told` and `rows_of` is that they meet their contracts. The laws about lists are in `Laying.antt`.
+-- All that the proof knows of `listing`, `rows_given` and `rows_of` is that they meet their contracts. The laws about lists are in `Laying.antt`.
 -- Assumes nothing.
 use mathlib.Core.Path.{_≡_, refl, sym, _∙_, ap, subst}
 use Prim.Native.Nat.{ℕ, _*_, _/_, _<_, _≤_, _^_, min}
@@ -61,10 +61,10 @@ use Rattle.rowlist.proofs.listing as listing
 use Rattle.rowlist.proofs.listing.Symbol as listing-def
 use Rattle.rowlist.proofs.listing.Symbol.{name as #rowlist·listing}
 use Rattle.rowlist.proofs.listing.Met as listing-thm
-use Rattle.rowlist.proofs.told as told
-use Rattle.rowlist.proofs.told.Symbol as told-def
-use Rattle.rowlist.proofs.told.Symbol.{name as #rowlist·told}
-use Rattle.rowlist.proofs.told.Met as told-thm
+use Rattle.rowlist.proofs.rows_given as rows-given
+use Rattle.rowlist.proofs.rows_given.Symbol as rows-given-def
+use Rattle.rowlist.proofs.rows_given.Symbol.{name as #rowlist·rows-given}
+use Rattle.rowlist.proofs.rows_given.Met as rows-given-thm
 use Rattle.rowlist.proofs.rows_of as rows-of
 use Rattle.rowlist.proofs.rows_of.Symbol as rows-of-def
 use Rattle.rowlist.proofs.rows_of.Symbol.{name as #rowlist·rows-of}
@@ -109,8 +109,8 @@ module _ {M : Type 1} (𝓤 : URA M) (H : Heap 𝓤) (A : Atoms 𝓤) (mem : Mem
   abbrev Listing : Contract 𝓤
   Listing = tripleOf 𝓤 H A listing.signature (listing.spec 𝓤 H A mem run)
 
-  abbrev Told : Contract 𝓤
-  Told = tripleOf 𝓤 H A told.signature (told.spec 𝓤 H A mem run)
+  abbrev Rows-given : Contract 𝓤
+  Rows-given = tripleOf 𝓤 H A rows-given.signature (rows-given.spec 𝓤 H A mem run)
 
   abbrev RowsOf : Contract 𝓤
   RowsOf = tripleOf 𝓤 H A rows-of.signature (rows-of.spec 𝓤 H A mem run)
@@ -207,14 +207,14 @@ module _ {M : Type 1} (𝓤 : URA M) (H : Heap 𝓤) (A : Atoms 𝓤) (W : Given
   abbrev Listing-says : Reading → List ℕ → Type 0
   Listing-says r zs = (r ≡ readingOf given) × ((rowsOf r ≤ 1024) × (records zs 0 (rowsOf r) ≡ map recordOf (given .rows)))
 
-  abbrev to-told : Reading → Val → Told 𝓤 H A mem run .Ghost
-  to-told r v = ((tt, tt, tt, (r, tt), (v ∷ [], tt)), tt)
+  abbrev to-rows-given : Reading → Val → Rows-given 𝓤 H A mem run .Ghost
+  to-rows-given r v = ((tt, tt, tt, (r, tt), (v ∷ [], tt)), tt)
 
-  goes-told : (r : Reading) (v : Val) → ent 𝓤 (sem 𝓤 H A (E.the-row .own r (v ∷ []))) (Told 𝓤 H A mem run .pre (to-told r v))
-  goes-told r v = qed W (‵ (E.the-row .own r (v ∷ [])) ∷ []) ∵ nothing ! $ move ! (1 ∷ 0 ∷ []) $ fjoin ! $ nothing ! $ join ! $ frame ! $ done !
+  goes-rows-given : (r : Reading) (v : Val) → ent 𝓤 (sem 𝓤 H A (E.the-row .own r (v ∷ []))) (Rows-given 𝓤 H A mem run .pre (to-rows-given r v))
+  goes-rows-given r v = qed W (‵ (E.the-row .own r (v ∷ [])) ∷ []) ∵ nothing ! $ move ! (1 ∷ 0 ∷ []) $ fjoin ! $ nothing ! $ join ! $ frame ! $ done !
 
-  said-told : (r : Reading) (n : ℕ) → ent 𝓤 (ensured 𝓤 H A told.ended (told.clauses 𝓤 H A mem run) tt (r, tt) tt n) (fact 𝓤 (n ≡ rowsOf r))
-  said-told r n = exE 𝓤 _ (λ ws. snd∗ 𝓤 (sem 𝓤 H A (lasts told.ended tt (r, tt) ws)) (fact 𝓤 (n ≡ rowsOf r)))
+  said-rows-given : (r : Reading) (n : ℕ) → ent 𝓤 (ensured 𝓤 H A rows-given.ended (rows-given.clauses 𝓤 H A mem run) tt (r, tt) tt n) (fact 𝓤 (n ≡ rowsOf r))
+  said-rows-given r n = exE 𝓤 _ (λ ws. snd∗ 𝓤 (sem 𝓤 H A (lasts rows-given.ended tt (r, tt) ws)) (fact 𝓤 (n ≡ rowsOf r)))
 
   -- `rows_of` has the array as `&`, at zs, for the lifetime ν, under the name ε, and n
   module _ (l ν : ℕ) (ε : GName) (zs : List ℕ) (n : ℕ) where
@@ -254,7 +254,7 @@ module _ {M : Type 1} (𝓤 : URA M) (H : Heap 𝓤) (A : Atoms 𝓤) (W : Given
       nothing ! $ move ! (1 ∷ 2 ∷ 3 ∷ 0 ∷ []) $ group ! 4 $ frame ! $ nothing ! $ move ! (3 ∷ 0 ∷ []) $ fjoin ! $ move ! (2 ∷ 0 ∷ []) $ fjoin ! $
       owned ! u32 (Is u32) (uint-makes 𝓤 H A W w32) top _ (refl, top-fits) $ fjoin ! $ move ! (1 ∷ 0 ∷ []) $ fjoin ! $ frame ! $ done !
 
-  module _ (C : Calls 𝓤 H) (Λ : Loops 𝓤 H) (fm : FmC 𝓤 H (W .laws) C) (known-listing : Triple 𝓤 (C #rowlist·listing) (Listing 𝓤 H A mem run)) (known-told : Triple 𝓤 (C #rowlist·told) (Told 𝓤 H A mem run))
+  module _ (C : Calls 𝓤 H) (Λ : Loops 𝓤 H) (fm : FmC 𝓤 H (W .laws) C) (known-listing : Triple 𝓤 (C #rowlist·listing) (Listing 𝓤 H A mem run)) (known-rows-given : Triple 𝓤 (C #rowlist·rows-given) (Rows-given 𝓤 H A mem run))
       (known-rows : Triple 𝓤 (C #rowlist·rows-of) (RowsOf 𝓤 H A mem run)) where
     walk : length (now x) < 2 ^ 64 → top < 2 ^ 32 → length (now y) < 2 ^ 64 → Room T.the-row (length rs) → ent 𝓤 (onEntry 𝓤 H A read-rows.signature κs (q₀, (q₁, (q₂, tt))) a vals) (WpFn 𝓤 H C Λ code.function (xv ∷ vint w32 top ∷ yv ∷ zv ∷ []) Post)
     walk x-fits top-fits y-fits room =
@@ -291,11 +291,11 @@ module _ {M : Type 1} (𝓤 : URA M) (H : Heap 𝓤) (A : Atoms 𝓤) (W : Given
         -- [the array's elements; κ₁'s token; κ₀'s; the answer; κ₂'s token; rows; message; table; _14; …]
         assigns ! (addr ! (from ! (stop !))) (from ! (stop !)) (init ! 16 refl (tt, tt)) $
         assigns ! (agg ! (and-then ! (load ! (from ! (stop !)) (look ! 16 refl)) (and-then ! (big-lit ! (record { fits = lit< tt })) (no-more !)))) (from ! (stop !)) (init ! 14 refl (tt, (tt, (record { fits = lit< tt }, tt)))) $
-        move ! (3 ∷ []) $ use1 W (‵ (E.the-row .own r (v ∷ [])) ⊛ ‵ (E.the-row .own r (v ∷ []))) (EL.copy E.the-type E′.the-copy 𝓤 H A W .twice r (v ∷ [])) $ split ! $ use1 W (raw (Told 𝓤 H A mem run .pre (to-told r v))) (goes-told r v) $
+        move ! (3 ∷ []) $ use1 W (‵ (E.the-row .own r (v ∷ [])) ⊛ ‵ (E.the-row .own r (v ∷ []))) (EL.copy E.the-type E′.the-copy 𝓤 H A W .twice r (v ∷ [])) $ split ! $ use1 W (raw (Rows-given 𝓤 H A mem run .pre (to-rows-given r v))) (goes-rows-given r v) $
         -- [pre; the answer; the array's elements; κ₁'s token; κ₀'s; κ₂'s; rows; message; table; _14; …]
-        calls-at ! fm (Told 𝓤 H A mem run) known-told (to-told r v) (and-then ! (load ! (from ! (stop !)) (look ! 25 refl)) (no-more !)) (λ u.
-        use1 W (later (some (λ (n : ℕ). (‵ ftrue ⊛ ‵ (usize .own n (u ∷ []))) ⊛ raw (ensured 𝓤 H A told.ended (told.clauses 𝓤 H A mem run) tt (r, tt) tt n)))) (id⊢ 𝓤 _) $ await ! tt $ pick ! (λ n.
-        split ! $ move ! (1 ∷ []) $ use1 W (raw (fact 𝓤 (n ≡ rowsOf r))) (said-told r n) $ heard ! (n ≡ rowsOf r) (λ e₁. split ! $ move ! (1 ∷ []) $ facts ! usize (Is usize) (shows 𝓤 H A usize) n (u ∷ []) (λ is₁.
+        calls-at ! fm (Rows-given 𝓤 H A mem run) known-rows-given (to-rows-given r v) (and-then ! (load ! (from ! (stop !)) (look ! 25 refl)) (no-more !)) (λ u.
+        use1 W (later (some (λ (n : ℕ). (‵ ftrue ⊛ ‵ (usize .own n (u ∷ []))) ⊛ raw (ensured 𝓤 H A rows-given.ended (rows-given.clauses 𝓤 H A mem run) tt (r, tt) tt n)))) (id⊢ 𝓤 _) $ await ! tt $ pick ! (λ n.
+        split ! $ move ! (1 ∷ []) $ use1 W (raw (fact 𝓤 (n ≡ rowsOf r))) (said-rows-given r n) $ heard ! (n ≡ rowsOf r) (λ e₁. split ! $ move ! (1 ∷ []) $ facts ! usize (Is usize) (shows 𝓤 H A usize) n (u ∷ []) (λ is₁.
         land ! (from ! (stop !)) (init ! 13 refl (uint-lawful 𝓤 H A W w64 .typed n _ is₁ .0)) $ rewrite ! 13 (λ (w : Val). ‵ (fat fullShare (tyInt w64) l₁₂ 0 w)) (ap only (is₁ .0)) refl $
         assigns ! (addr ! (from ! (fld ! refl (hop ! (look-in ! 28 (sub ! 0 refl (whole !))) (stop !))))) (from ! (stop !)) (init ! 11 refl (tt, tt)) $
         assigns ! (agg ! (and-then ! (load ! (from ! (stop !)) (look ! 11 refl)) (and-then ! (load ! (from ! (fld ! refl (stop !))) (look-in ! 28 (sub ! 1 refl (whole !)))) (no-more !)))) (from ! (stop !)) (init ! 9 refl (tt, (tt, (record { fits = room .0 }, tt)))) $
@@ -327,13 +327,13 @@ module _ {M : Type 1} (𝓤 : URA M) (H : Heap 𝓤) (A : Atoms 𝓤) (W : Given
         by ! (exits r v (ws .1 .1 .0) (e .0) (all-rows (zs .1 .1 .1 .1 .0) (ws .1 .1 .0) rs (map recordOf (given .rows)) (rowsOf r) n (long (zs .1 .1 .1 .1 .0) same) (e .1 .0) (e .1 .1) e₁ (e₂ .1)) same′ top-fits)))))))))))))))))))))))))))))))))))))
 
 module _ {M : Type 1} (𝓤 : URA M) (H : Heap 𝓤) (A : Atoms 𝓤) (W : Given 𝓤 H A) (mem : Memory → SProp 𝓤) (run : Routine → Fun 𝓤) (𝓣 : Tables 𝓤 H)
-    (known-listing : Triple 𝓤 (𝓣 .C #rowlist·listing) (Listing 𝓤 H A mem run)) (known-told : Triple 𝓤 (𝓣 .C #rowlist·told) (Told 𝓤 H A mem run)) (known-rows : Triple 𝓤 (𝓣 .C #rowlist·rows-of) (RowsOf 𝓤 H A mem run)) where
+    (known-listing : Triple 𝓤 (𝓣 .C #rowlist·listing) (Listing 𝓤 H A mem run)) (known-rows-given : Triple 𝓤 (𝓣 .C #rowlist·rows-given) (Rows-given 𝓤 H A mem run)) (known-rows : Triple 𝓤 (𝓣 .C #rowlist·rows-of) (RowsOf 𝓤 H A mem run)) where
   read-rows-walks : Walks 𝓤 H A read-rows.ended stayed (WpFn 𝓤 H (𝓣 .C) (𝓣 .Λ) code.function) (read-rows.clauses 𝓤 H A mem run)
   read-rows-walks = walked 𝓤 H A read-rows.ended stayed (read-rows.clauses 𝓤 H A mem run) (WpFn 𝓤 H (𝓣 .C) (𝓣 .Λ) code.function)
       (λ κs. (slice-vals, (uint-vals w32, (slice-vals, (slice-vals, tt))))) (λ κs. (shr-slice-tells (named 0) (κs .0) u8, (uint-tells w32, (shr-slice-tells (named 1) (κs .1 .0) u8, (mut-slice-tells (named 2) (κs .1 .1 .0) T.the-row, tt)))))
       (λ κs qs bounds a g are. via 𝓤 _ (fst∗ 𝓤 _ (emp 𝓤))
       (walk 𝓤 H A W mem run (κs .0) (κs .1 .0) (κs .1 .1 .0) (qs .0) (qs .1 .0) (qs .1 .1 .0) (a .0) (a .1 .0) (a .1 .1 .0) (a .1 .1 .1 .0 .ptr .0) (a .1 .1 .1 .0 .ptr .1) (a .1 .1 .1 .0 .name) (a .1 .1 .1 .0 .now)
-      (𝓣 .C) (𝓣 .Λ) (fmOf 𝓤 H (W .laws) 𝓣) known-listing known-told known-rows (are .0 .0 .1 .0) (are .1 .0 .1) (are .1 .1 .0 .0 .1 .0) (are .1 .1 .1 .0 .0 .1)))
+      (𝓣 .C) (𝓣 .Λ) (fmOf 𝓤 H (W .laws) 𝓣) known-listing known-rows-given known-rows (are .0 .0 .1 .0) (are .1 .0 .1) (are .1 .1 .0 .0 .1 .0) (are .1 .1 .1 .0 .0 .1)))
 
   read-rows-meets : Meets 𝓤 H A read-rows.signature (WpFn 𝓤 H (𝓣 .C) (𝓣 .Λ) code.function) (read-rows.spec 𝓤 H A mem run)
   read-rows-meets =
@@ -348,5 +348,5 @@ read-rows-spec 𝓤 H 𝓜 𝓖 𝓡 =
     (tables 𝓤 H 𝓜 𝓡 code.env .C) (tables 𝓤 H 𝓜 𝓡 code.env .Λ) #rowlist·read-rows code.function (code.unfolded 𝓤 H 𝓜 𝓡)
     (read-rows-meets 𝓤 H (𝓖 .A) (givenOf 𝓤 H 𝓜 𝓖) (𝓜 .mem) (𝓡 .run) (tablesOf 𝓤 H 𝓜 (tables 𝓤 H 𝓜 𝓡 code.env))
     (cited 𝓤 H (Listing 𝓤 H (𝓖 .A) (𝓜 .mem) (𝓡 .run)) 𝓜 𝓡 code.env #rowlist·listing listing-def.routine code.calls-rowlist·listing (listing-thm.met 𝓤 H 𝓜 𝓖 𝓡))
-    (cited 𝓤 H (Told 𝓤 H (𝓖 .A) (𝓜 .mem) (𝓡 .run)) 𝓜 𝓡 code.env #rowlist·told told-def.routine code.calls-rowlist·told (told-thm.met 𝓤 H 𝓜 𝓖 𝓡))
+    (cited 𝓤 H (Rows-given 𝓤 H (𝓖 .A) (𝓜 .mem) (𝓡 .run)) 𝓜 𝓡 code.env #rowlist·rows-given rows-given-def.routine code.calls-rowlist·rows-given (rows-given-thm.met 𝓤 H 𝓜 𝓖 𝓡))
     (cited 𝓤 H (RowsOf 𝓤 H (𝓖 .A) (𝓜 .mem) (𝓡 .run)) 𝓜 𝓡 code.env #rowlist·rows-of rows-of-def.routine code.calls-rowlist·rows-of (rows-of-thm.met 𝓤 H 𝓜 𝓖 𝓡)))

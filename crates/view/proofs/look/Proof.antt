@@ -27,7 +27,7 @@ pub look-spec : {M : Type 1} → statement M
 look-spec =
     tie.close
     (tie.spec
-    (λ c κs. search needs)  -- count-requires
+    (λ c κs. search needs)  -- byte-count-requires
     (λ c κs. search needs)  -- prepare-requires
     (λ c. search needs)  -- enum-known-p
     (λ c κs. search needs)  -- low-requires

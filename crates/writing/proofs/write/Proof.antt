@@ -12,6 +12,6 @@ write-spec =
     tie.close
     (tie.spec
     (λ c κs. search needs)  -- outcome-requires
-    (λ c κs. search needs)  -- told-requires
+    (λ c κs. search needs)  -- writing-of-requires
     (λ c. search needs)  -- same-length
     returns)

@@ -14,5 +14,5 @@ written-spec =
     (λ c. search needs)  -- slice-aggregate-outcome
     (λ c κs. search needs)  -- outcome-requires
     (λ c κs. search needs)  -- fit-requires
-    (λ c κs. search needs)  -- told-requires
+    (λ c κs. search needs)  -- writing-of-requires
     returns)

@@ -1,11 +1,11 @@
 -- Each case's numbers fit, and the answer has them. Assumes nothing.
 use borrow.Author.Needs.{needs}
 use Rattle.writing.proofs.Outcomes.{made-fits, number-fits, place-fits, told-made, told-stopped}
-use Rattle.writing.proofs.told.Statement.{statement}
-use Rattle.writing.proofs.told.Tie as tie
+use Rattle.writing.proofs.writing_of.Statement.{statement}
+use Rattle.writing.proofs.writing_of.Tie as tie
 
-pub told-spec : {M : Type 1} → statement M
-told-spec =
+pub writing-of-spec : {M : Type 1} → statement M
+writing-of-spec =
     tie.close
     (tie.spec
     (λ c. search needs)  -- enum-known-o

@@ -3,8 +3,8 @@ use mathlib.Core.Path.{refl}
 use borrow.Author.Needs.{needs}
 use native.Mathlib.Omega.{arith}
 use Rattle.prepare.proofs.Checking.{bytes-known, bytes-none}
-use Rattle.prepare.proofs.count.Statement.{statement}
-use Rattle.prepare.proofs.count.Tie as tie
+use Rattle.prepare.proofs.byte_count.Statement.{statement}
+use Rattle.prepare.proofs.byte_count.Tie as tie
 
 returns : tie.Need-returns
 returns c = (refl, bytes-known (c .before .before .before .before .args .s .now) (λ i. omega (arith, c .before .shared-slice-known2 .given i)))
@@ -12,8 +12,8 @@ returns c = (refl, bytes-known (c .before .before .before .before .args .s .now)
 returns-2 : tie.Need-returns-2
 returns-2 c = (refl, search bytes-none)
 
-pub count-spec : {M : Type 1} → statement M
-count-spec =
+pub byte-count-spec : {M : Type 1} → statement M
+byte-count-spec =
     tie.close
     (tie.spec
     (λ c. search needs)  -- shared-slice-read-wide

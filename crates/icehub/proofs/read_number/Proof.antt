@@ -1,11 +1,11 @@
 -- The number is that of the reader's answer. Assumes nothing.
 use borrow.Author.Needs.{needs}
 use Rattle.icehub.proofs.Numbering.{number-same}
-use Rattle.icehub.proofs.told.Statement.{statement}
-use Rattle.icehub.proofs.told.Tie as tie
+use Rattle.icehub.proofs.read_number.Statement.{statement}
+use Rattle.icehub.proofs.read_number.Tie as tie
 
-pub told-spec : {M : Type 1} → statement M
-told-spec =
+pub read-number-spec : {M : Type 1} → statement M
+read-number-spec =
     tie.close
     (tie.spec
     (λ c κs. search needs)  -- answer-requires
