@@ -57,13 +57,12 @@ enum icehub_format {
     ICEHUB_SLICED = 1   /* each slice has a type ID and a size */
 };
 
-/* What a call may be refused for, and what its place is then (icehub_read_place, icehub_write_place). A place
- * counts bytes from the start of the message; of the table for ICEHUB_BAD_TABLE; or it is the number named. */
+/* What a call may be refused for, and what its place is then (icehub_read_place, icehub_write_place,
+ * icehub_table_place). A place counts bytes from the start of the message; of the table for 31 to 38; or it is the
+ * number named. */
 enum icehub_refusal {
     /* Not refused. */
     ICEHUB_OK = 0,
-    /* the table breaks a rule. Place: 0 or the row's first byte, in the table. */
-    ICEHUB_BAD_TABLE = 1,
     /* the type is not in the table, or is no exception, class or parameter list. Place: 0. */
     ICEHUB_BAD_TYPE = 2,
     /* the message, or the writer's buffer, is over 65,536 bytes long. Place: 0. */
@@ -111,8 +110,39 @@ enum icehub_refusal {
     /* the output is longer than its room or 65,536 bytes. Place: the number of bytes needed. */
     ICEHUB_OUTPUT_TOO_LONG = 22,
     /* the format is not 0 or 1, or is 0 for a parameter list. Place: 0. */
-    ICEHUB_BAD_FORMAT = 23
+    ICEHUB_BAD_FORMAT = 23,
+    /* 31 to 38: the table breaks a rule, the first of this order that its first broken row breaks. */
+    /* the table's header is wrong, or its length is not what the header says. Place: 0. */
+    ICEHUB_BAD_TABLE_HEADER = 31,
+    /* in a row of the table a zero byte or an unused field is not 0, or a required member has a tag. Place: the
+     * row's first byte, in the table. */
+    ICEHUB_BAD_TABLE_ZEROS = 32,
+    /* a type row of the table has an unknown kind. Place: the row's first byte, in the table. */
+    ICEHUB_BAD_TABLE_KIND = 33,
+    /* a row of the table refers to a row that is not smaller, or is of the wrong kind. Place: the row's first
+     * byte, in the table. */
+    ICEHUB_BAD_TABLE_REFERENCE = 34,
+    /* the table's member rows are not taken in turn, or not all taken. Place: the row's first byte, in the table;
+     * 0 if not all are taken. */
+    ICEHUB_BAD_TABLE_MEMBERS = 35,
+    /* a struct of the table has no member, or a member's mark is wrong. Place: the row's first byte, in the table. */
+    ICEHUB_BAD_TABLE_MARK = 36,
+    /* a record's name lies outside the table's name bytes, is not 1 to 255 bytes long, or is another record's.
+     * Place: the row's first byte, in the table. */
+    ICEHUB_BAD_TABLE_NAME = 37,
+    /* a tag or an enum's greatest enumerator is over 2,147,483,647, or an owner has a tag twice. Place: the row's
+     * first byte, in the table. */
+    ICEHUB_BAD_TABLE_TAG = 38
 };
+
+/* ---- The table by itself ----
+ *
+ * Every call below checks its table first. These two check it without a message, for whoever makes tables. */
+
+/* Returns ICEHUB_OK, or the number of the first rule that the table breaks: 31 to 38. */
+uint32_t icehub_table(const uint8_t *table, size_t table_len);
+/* The place of that rule; 0 if the table breaks none. */
+uint32_t icehub_table_place(const uint8_t *table, size_t table_len);
 
 /* ---- The reader ----
  *
@@ -297,7 +327,6 @@ static inline const char *icehub_refusal_name(uint32_t refusal)
 {
     switch (refusal) {
     case ICEHUB_OK: return "OK";
-    case ICEHUB_BAD_TABLE: return "BAD_TABLE";
     case ICEHUB_BAD_TYPE: return "BAD_TYPE";
     case ICEHUB_INPUT_TOO_LONG: return "INPUT_TOO_LONG";
     case ICEHUB_CUT_OFF: return "CUT_OFF";
@@ -320,6 +349,14 @@ static inline const char *icehub_refusal_name(uint32_t refusal)
     case ICEHUB_BAD_ROW_BYTES: return "BAD_ROW_BYTES";
     case ICEHUB_OUTPUT_TOO_LONG: return "OUTPUT_TOO_LONG";
     case ICEHUB_BAD_FORMAT: return "BAD_FORMAT";
+    case ICEHUB_BAD_TABLE_HEADER: return "BAD_TABLE_HEADER";
+    case ICEHUB_BAD_TABLE_ZEROS: return "BAD_TABLE_ZEROS";
+    case ICEHUB_BAD_TABLE_KIND: return "BAD_TABLE_KIND";
+    case ICEHUB_BAD_TABLE_REFERENCE: return "BAD_TABLE_REFERENCE";
+    case ICEHUB_BAD_TABLE_MEMBERS: return "BAD_TABLE_MEMBERS";
+    case ICEHUB_BAD_TABLE_MARK: return "BAD_TABLE_MARK";
+    case ICEHUB_BAD_TABLE_NAME: return "BAD_TABLE_NAME";
+    case ICEHUB_BAD_TABLE_TAG: return "BAD_TABLE_TAG";
     default: return "";
     }
 }
@@ -329,7 +366,6 @@ static inline const char *icehub_refusal_text(uint32_t refusal)
 {
     switch (refusal) {
     case ICEHUB_OK: return "not refused";
-    case ICEHUB_BAD_TABLE: return "the table breaks a rule";
     case ICEHUB_BAD_TYPE: return "the type is not in the table, or is no exception, class or parameter list";
     case ICEHUB_INPUT_TOO_LONG: return "the message, or the writer's buffer, is over 65,536 bytes long";
     case ICEHUB_CUT_OFF: return "an item or a declared length runs past what holds it";
@@ -360,6 +396,20 @@ static inline const char *icehub_refusal_text(uint32_t refusal)
     case ICEHUB_BAD_ROW_BYTES: return "writer: the bytes are not exactly a value of the member's type";
     case ICEHUB_OUTPUT_TOO_LONG: return "the output is longer than its room or 65,536 bytes";
     case ICEHUB_BAD_FORMAT: return "the format is not 0 or 1, or is 0 for a parameter list";
+    case ICEHUB_BAD_TABLE_HEADER: return "the table's header is wrong, or its length is not what the header says";
+    case ICEHUB_BAD_TABLE_ZEROS:
+        return "in a row of the table a zero byte or an unused field is not 0, or a required member has a "
+               "tag";
+    case ICEHUB_BAD_TABLE_KIND: return "a type row of the table has an unknown kind";
+    case ICEHUB_BAD_TABLE_REFERENCE:
+        return "a row of the table refers to a row that is not smaller, or is of the wrong kind";
+    case ICEHUB_BAD_TABLE_MEMBERS: return "the table's member rows are not taken in turn, or not all taken";
+    case ICEHUB_BAD_TABLE_MARK: return "a struct of the table has no member, or a member's mark is wrong";
+    case ICEHUB_BAD_TABLE_NAME:
+        return "a record's name lies outside the table's name bytes, is not 1 to 255 bytes long, or is "
+               "another record's";
+    case ICEHUB_BAD_TABLE_TAG:
+        return "a tag or an enum's greatest enumerator is over 2,147,483,647, or an owner has a tag twice";
     default: return "";
     }
 }

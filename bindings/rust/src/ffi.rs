@@ -4,6 +4,8 @@
 //! empty, and as many bytes as its length says; a `&mut` slice overlaps nothing, and nobody else uses it meanwhile.
 
 extern "C" {
+    fn icehub_table(table: *const u8, table_len: usize) -> u32;
+    fn icehub_table_place(table: *const u8, table_len: usize) -> u32;
     fn icehub_read_numbers(
         table: *const u8,
         table_len: usize,
@@ -38,6 +40,18 @@ extern "C" {
         out: *mut u8,
         out_len: usize,
     ) -> u32;
+}
+
+/// Checks a table: 0, or the number of the first rule that it breaks.
+pub fn table(table: &[u8]) -> u32 {
+    // SAFETY: the pointer comes with the length of its slice; nothing is written.
+    unsafe { icehub_table(table.as_ptr(), table.len()) }
+}
+
+/// The place of the first rule that a table breaks; 0 if it breaks none.
+pub fn table_place(table: &[u8]) -> u32 {
+    // SAFETY: as above.
+    unsafe { icehub_table_place(table.as_ptr(), table.len()) }
 }
 
 /// Number i of lent numbers, little-endian.

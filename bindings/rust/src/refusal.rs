@@ -10,7 +10,7 @@ use core::fmt;
 pub struct Refusal {
     /// The number of document 01's table, as [`Reason::number`] has it.
     pub number: u32,
-    /// A place in the message, in the table for [`Reason::BadTable`], or what [`Reason::place_text`] says.
+    /// A place in the message, in the table where [`Reason::is_of_table`], or what [`Reason::place_text`] says.
     pub place: u32,
 }
 
@@ -90,8 +90,14 @@ macro_rules! reasons {
     };
 }
 
+impl Reason {
+    /// The table breaks a rule: 31 to 38, and the place is in the table.
+    pub const fn is_of_table(self) -> bool {
+        matches!(self.number(), 31..=38)
+    }
+}
+
 reasons! {
-    BadTable = 1, "BAD_TABLE": "the table breaks a rule", "0 or the row's first byte, in the table";
     BadType = 2, "BAD_TYPE": "the type is not in the table, or is no exception, class or parameter list", "0";
     InputTooLong = 3, "INPUT_TOO_LONG": "the message, or the writer's buffer, is over 65,536 bytes long", "0";
     CutOff = 4, "CUT_OFF": "an item or a declared length runs past what holds it", "its first byte";
@@ -124,6 +130,26 @@ reasons! {
     OutputTooLong = 22, "OUTPUT_TOO_LONG": "the output is longer than its room or 65,536 bytes",
         "the number of bytes needed";
     BadFormat = 23, "BAD_FORMAT": "the format is not 0 or 1, or is 0 for a parameter list", "0";
+    BadTableHeader = 31, "BAD_TABLE_HEADER": "the table's header is wrong, or its length is not what the header says",
+        "0";
+    BadTableZeros = 32, "BAD_TABLE_ZEROS":
+        "in a row of the table a zero byte or an unused field is not 0, or a required member has a tag",
+        "the row's first byte, in the table";
+    BadTableKind = 33, "BAD_TABLE_KIND": "a type row of the table has an unknown kind",
+        "the row's first byte, in the table";
+    BadTableReference = 34, "BAD_TABLE_REFERENCE":
+        "a row of the table refers to a row that is not smaller, or is of the wrong kind",
+        "the row's first byte, in the table";
+    BadTableMembers = 35, "BAD_TABLE_MEMBERS": "the table's member rows are not taken in turn, or not all taken",
+        "the row's first byte, in the table; 0 if not all are taken";
+    BadTableMark = 36, "BAD_TABLE_MARK": "a struct of the table has no member, or a member's mark is wrong",
+        "the row's first byte, in the table";
+    BadTableName = 37, "BAD_TABLE_NAME":
+        "a record's name lies outside the table's name bytes, is not 1 to 255 bytes long, or is another record's",
+        "the row's first byte, in the table";
+    BadTableTag = 38, "BAD_TABLE_TAG":
+        "a tag or an enum's greatest enumerator is over 2,147,483,647, or an owner has a tag twice",
+        "the row's first byte, in the table";
 }
 
 /// `refusal 19 at 3 (the number of rows needed): the lent list is too short`; without the brackets where the place is
@@ -189,11 +215,14 @@ mod tests {
 
     #[test]
     fn numbers() {
-        assert_eq!(Reason::ALL.iter().map(|reason| reason.number()).collect::<Vec<_>>(), (1..=23).collect::<Vec<_>>());
+        assert_eq!(
+            Reason::ALL.iter().map(|reason| reason.number()).collect::<Vec<_>>(),
+            (2..=23).chain(31..=38).collect::<Vec<_>>()
+        );
         for reason in Reason::ALL {
             assert_eq!(Reason::from_number(reason.number()), Some(*reason));
         }
-        assert_eq!((Reason::from_number(0), Reason::from_number(24)), (None, None));
+        assert!([0, 1, 24, 30, 39].into_iter().all(|number| Reason::from_number(number).is_none()));
     }
 
     #[test]

@@ -2,7 +2,7 @@
 //!
 //! The library judges a table; this module reads one that was accepted and decides nothing.
 
-use crate::{ffi, Reason, Refusal};
+use crate::{ffi, Refusal};
 use core::ops::Range;
 
 /// What a type is: the kinds of document 01.
@@ -115,14 +115,15 @@ pub struct Table<'a> {
 impl<'a> Table<'a> {
     /// The table of these bytes, if it breaks no rule: the library judges it.
     pub fn new(bytes: &'a [u8]) -> Result<Table<'a>, Refusal> {
-        // The last row number of 32 bits is in no table, so a table that breaks no rule is refused for its top.
-        let (top, message) = (u32::MAX, &[]);
-        match ffi::read(bytes, top, message, &mut []) {
-            Err(number) if number != Reason::BadType.number() => {
-                Err(Refusal { number, place: ffi::read_place(bytes, top, message, 0) })
-            }
-            _ => Ok(Table { bytes }),
+        match ffi::table(bytes) {
+            0 => Ok(Table { bytes }),
+            number => Err(Refusal { number, place: ffi::table_place(bytes) }),
         }
+    }
+
+    /// A table that breaks a rule, to show the rows before the one at the refusal's place: only those were judged.
+    pub fn broken(bytes: &'a [u8]) -> Table<'a> {
+        Table { bytes }
     }
 
     /// A table that the library has accepted.

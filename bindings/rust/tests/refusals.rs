@@ -41,10 +41,10 @@ fn writer(format: Format, rows: usize, length: u32, room: usize) -> Refused {
 
 #[test]
 fn table_and_arguments() {
-    assert_eq!(reader(&[], 0, &[]), (Reason::BadTable, 0));
+    assert_eq!(reader(&[], 0, &[]), (Reason::BadTableHeader, 0));
     let mut table = p2_table();
     table[14] = 1;
-    assert_eq!(reader(&table, LIST, &bytes(P2)), (Reason::BadTable, 12));
+    assert_eq!(reader(&table, LIST, &bytes(P2)), (Reason::BadTableZeros, 12));
     assert_eq!(reader(&p2_table(), INT.into(), &bytes(P2)), (Reason::BadType, 0));
     assert_eq!(reader(&p2_table(), LIST + 65_536, &bytes(P2)), (Reason::BadType, 0));
     assert_eq!(reader(&p2_table(), LIST, &[0; 65_537]), (Reason::InputTooLong, 0));

@@ -104,6 +104,6 @@ fn a_broken_table() {
     let mut bytes = TABLE.to_vec();
     bytes[108] = 99;
     let refusal = Table::new(&bytes).unwrap_err();
-    assert_eq!((refusal.reason(), refusal.place), (Some(Reason::BadTable), 108));
+    assert_eq!((refusal.reason(), refusal.place), (Some(Reason::BadTableKind), 108));
     assert_eq!(Table::new(&[]).unwrap_err().place, 0);
 }

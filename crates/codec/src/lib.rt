@@ -3,6 +3,7 @@ pub use reading::answer;
 pub use reading::read;
 pub use reading::read_numbers;
 pub use rowlist::read_rows;
+pub use verdict::check;
 pub use view::member;
 pub use view::member_numbers;
 pub use writing::write;

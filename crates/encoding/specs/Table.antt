@@ -9,7 +9,8 @@
 --   owns k, isRecord k           a row of kind k takes member rows; is an exception or a class
 --   ownRows t, takes t m         the member rows of row t; whether m is one
 --   Fault, faults                the first rule broken, as its rule class (31 to 38, below) and its place
---   ruleNumber                   the refusal's number of a class
+--   ruleNumber                   the refusal's number of a class: the class itself
+--   tableVerdict, verdictNumbers what the call for a table alone answers, and its two numbers
 --   typeRows                     how many rows have a tree
 --   tys, trees, tyOf t           the tree of each row, made from the trees of the rows below it
 --   partTy t i                   the tree of row i as a part of row t: broken unless i is below t
@@ -23,6 +24,8 @@ use mathlib.Core.List.{List, [], _∷_, _++_}
 use Prim.Native.Nat.{ℕ, zero, suc, _+_, _-_, _*_}
 use lib.ListN.{length, take, drop, getD}
 use lib.Dec.{eqb, leb, ltb}
+use Rattle.encoding.specs.declared.Verdict.{Verdict}
+use Rattle.encoding.specs.declared.Verdict.the-variants.{Sound, Broken}
 use Rattle.encoding.specs.Result.{pick, firstOf, sameBytes}
 use Rattle.encoding.specs.Number.{val, negative}
 use Rattle.encoding.specs.Types.{Allowed, upto, short, int, long, float, double, Ty, Tys, nil, cons, broken, bool, byte, string, proxy, num, enum, struct, seq, dict}
@@ -144,7 +147,7 @@ unfoldable pub any : (ℕ → Bool) → List ℕ → Bool
 any f [] = false
 any f (i ∷ l) = f i || any f l
 
--- Rules stand as judgements with their rule class in place of a number, each test true where the rule is broken:
+-- Rules are judgements with their rule class, which is the refusal's number; each test is true where the rule is broken:
 --   31  header and lengths                                  35  member rows not taken in turn, or their sum wrong
 --   32  unused or zero bytes, a required tag not 0          36  empty structs, wrong marks
 --   33  unknown kind (its fields unjudged)                  37  names outside, of bad length or alike
@@ -256,9 +259,19 @@ faults T =
     ∷ pass (memberAt T) (memberRules T) (range 0 (members T))
     ∷ [])
 
--- outside every class is 1
+-- 31 to 38: the class itself
 unfoldable pub ruleNumber : ℕ → ℕ
-ruleNumber class = 1
+ruleNumber class = class
+
+-- a fault as the call for a table alone returns it
+unfoldable pub tableVerdict : Fault → Verdict
+tableVerdict fine = Sound
+tableVerdict (fault c p) = Broken (ruleNumber c) p
+
+-- the rule's number, or 0, and its place
+unfoldable pub verdictNumbers : Verdict → List ℕ
+verdictNumbers Sound = 0 ∷ 0 ∷ []
+verdictNumbers (Broken n p) = n ∷ p ∷ []
 
 -- ---- what a row means
 

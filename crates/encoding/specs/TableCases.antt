@@ -150,9 +150,21 @@ changes =
     ∷ change 276 6 38 272  -- two optionals of an owner with one tag
     ∷ []
 
-pub changes-told : map (λ c. Table.faults (changed c)) changes ≡ map (λ c. Table.fault (c .class) (c .place)) changes
-unfolding sample changed changes Result.firstOf Result.sameBytes Number.val Number.negative Table.at Table.types Table.members Table.names Table.typesAt Table.kind Table.spare Table.field Table.memberType Table.mark Table.memberSpare Table.tag Table.takes Table.range Table.greatest Table.nameOf Table.orElse Table.faultAt Table.any Table.headerTests Table.headerRules Table.used Table.taken Table.noPart Table.noBase Table.alike Table.typeRules Table.sumRules Table.ownerOf Table.tagAlike Table.memberRules Table.pass Table.passes Table.faults
+pub changes-told : map (λ c. Table.verdictNumbers (Table.tableVerdict (Table.faults (changed c)))) changes ≡ map (λ c. c .class ∷ c .place ∷ []) changes
+unfolding sample changed changes Result.firstOf Result.sameBytes Number.val Number.negative Table.at Table.types Table.members Table.names Table.typesAt Table.kind Table.spare Table.field Table.memberType Table.mark Table.memberSpare Table.tag Table.takes Table.range Table.greatest Table.nameOf Table.orElse Table.faultAt Table.any Table.headerTests Table.headerRules Table.used Table.taken Table.noPart Table.noBase Table.alike Table.typeRules Table.sumRules Table.ownerOf Table.tagAlike Table.memberRules Table.pass Table.passes Table.faults Table.ruleNumber Table.tableVerdict Table.verdictNumbers
 changes-told = refl
+
+-- ---- two broken rules
+
+-- the sample with two bytes changed
+pub changedTwice : Change → Change → List ℕ
+changedTwice c d = take (d .at) (changed c) ++ (d .to ∷ drop (suc (d .at)) (changed c))
+
+-- of two rows the first is named, whatever the classes: an enumerator too great, and the zero byte of the next row;
+-- of one row the first class: a member passed over, and an empty name
+pub first-told : (Table.faults (changedTwice (change 113 128 38 108) (change 121 1 32 120)) ≡ Table.fault 38 108) × (Table.faults (changedTwice (change 178 0 37 168) (change 170 3 35 168)) ≡ Table.fault 35 168)
+unfolding sample changed changedTwice Result.firstOf Result.sameBytes Number.val Number.negative Table.at Table.types Table.members Table.names Table.typesAt Table.kind Table.spare Table.field Table.memberType Table.mark Table.memberSpare Table.tag Table.takes Table.range Table.greatest Table.nameOf Table.orElse Table.faultAt Table.any Table.headerTests Table.headerRules Table.used Table.taken Table.noPart Table.noBase Table.alike Table.typeRules Table.sumRules Table.ownerOf Table.tagAlike Table.memberRules Table.pass Table.passes Table.faults
+first-told = (refl, refl)
 
 -- ---- bytes left out
 

@@ -7,10 +7,11 @@
 --   TakenBefore T t n            the rows before t take the member rows before n
 --   Owner T o m                  row o takes member row m
 --   ValidHeader T                31: the header and the lengths
---   ValidType T t                32 to 38: a type row
---   ValidMember T o m            32, 34, 36, 38: a member row of owner o
+--   TypeZeros .. TypeEnumerator  32 to 38: what each class asks of a type row; ValidType T t all of it
+--   MemberZeros .. MemberTag     32, 34, 36, 38: what each class asks of a member row of owner o; ValidMember T o m all of it
+--   BrokenType T t c             type row t breaks a rule of class c and keeps those of the classes before; BrokenMember T o m c
 --   Valid T                      the whole table
---   FirstBroken T p              the first broken rule is at p: of the header, of a type row, of the member sum, of a member row
+--   FirstBroken T c p            the first broken rule is of class c and at p: of the header, of a type row, of the member sum, of a member row
 use mathlib.Core.Path.{_≡_}
 use mathlib.Core.List.{List, [], _∷_}
 use Prim.Native.Nat.{ℕ, suc, _+_, _*_, _^_, _≤_, _<_}
@@ -85,6 +86,10 @@ pub record TypeZeros (T : List ℕ) (t : ℕ) : Type 0 where
   pub zero-byte : at T 1 (rowAt T t + 1) ≡ 0
   pub unused : (n : ℕ) → Uses (kind T t) n → (i : ℕ) → n ≤ i → i < 5 → field T t i ≡ 0
 
+-- 33: a known kind
+abbrev pub TypeKnown : List ℕ → ℕ → Type 0
+TypeKnown T t = kind T t ≤ 15
+
 -- 34: a sequence's element; a dictionary's key and value; a record's base, its row + 1 or 0, of the same kind
 pub record TypeReferences (T : List ℕ) (t : ℕ) : Type 0 where
   pub element : kind T t ≡ 10 → ValuePart T t (field T t 0)
@@ -92,23 +97,48 @@ pub record TypeReferences (T : List ℕ) (t : ℕ) : Type 0 where
   pub value : kind T t ≡ 11 → ValuePart T t (field T t 1)
   pub base : RecordKind (kind T t) → (r : ℕ) → field T t 2 ≡ suc r → (r < t) × (kind T r ≡ kind T t)
 
--- 37: a record's name is 1..255 bytes long, lies within the name bytes, and no earlier record has it
+-- 35: an owner's a is the number taken before, also where b is 0
+abbrev pub TypeTurn : List ℕ → ℕ → Type 0
+TypeTurn T t = OwnerKind (kind T t) → TakenBefore T t (field T t 0)
+
+-- 36: a struct has at least one member
+abbrev pub TypeFilled : List ℕ → ℕ → Type 0
+TypeFilled T t = kind T t ≡ 9 → 1 ≤ field T t 1
+
+-- a name is 1..255 bytes long, lies within the name bytes, and no earlier record has it
 pub record TypeName (T : List ℕ) (t : ℕ) : Type 0 where
   pub some : 1 ≤ field T t 4
   pub most : field T t 4 ≤ 255
   pub inside : field T t 3 + field T t 4 ≤ names T
   pub new : (r : ℕ) → r < t → RecordKind (kind T r) → nameOf T r ≡ nameOf T t → ⊥
 
--- a type row by its classes: 35, an owner's a is the number taken before, also where b is 0; 36, a struct has at least one member;
--- 38, the greatest enumerator is at most 2^31 - 1
+-- 37: a record has such a name
+abbrev pub TypeNamed : List ℕ → ℕ → Type 0
+TypeNamed T t = RecordKind (kind T t) → TypeName T t
+
+-- 38: the greatest enumerator is at most 2^31 - 1
+abbrev pub TypeEnumerator : List ℕ → ℕ → Type 0
+TypeEnumerator T t = kind T t ≡ 8 → field T t 0 + 65536 * field T t 1 < 2 ^ 31
+
+-- a type row keeps the rules of each class
 pub record ValidType (T : List ℕ) (t : ℕ) : Type 0 where
   pub zeros : TypeZeros T t
-  pub known : kind T t ≤ 15
+  pub known : TypeKnown T t
   pub references : TypeReferences T t
-  pub in-turn : OwnerKind (kind T t) → TakenBefore T t (field T t 0)
-  pub filled : kind T t ≡ 9 → 1 ≤ field T t 1
-  pub name : RecordKind (kind T t) → TypeName T t
-  pub greatest : kind T t ≡ 8 → field T t 0 + 65536 * field T t 1 < 2 ^ 31
+  pub in-turn : TypeTurn T t
+  pub filled : TypeFilled T t
+  pub name : TypeNamed T t
+  pub enumerator : TypeEnumerator T t
+
+-- what is wrong with a type row, by class: it keeps the rules of the classes before, and breaks one of this class
+pub data BrokenType (T : List ℕ) (t : ℕ) : ℕ → Type 0 where
+  wrong-zeros : (TypeZeros T t → ⊥) → BrokenType T t 32
+  unknown-kind : TypeZeros T t → (TypeKnown T t → ⊥) → BrokenType T t 33
+  wrong-reference : TypeZeros T t → TypeKnown T t → (TypeReferences T t → ⊥) → BrokenType T t 34
+  out-of-turn : TypeZeros T t → TypeKnown T t → TypeReferences T t → (TypeTurn T t → ⊥) → BrokenType T t 35
+  empty-struct : TypeZeros T t → TypeKnown T t → TypeReferences T t → TypeTurn T t → (TypeFilled T t → ⊥) → BrokenType T t 36
+  wrong-name : TypeZeros T t → TypeKnown T t → TypeReferences T t → TypeTurn T t → TypeFilled T t → (TypeNamed T t → ⊥) → BrokenType T t 37
+  great-enumerator : TypeZeros T t → TypeKnown T t → TypeReferences T t → TypeTurn T t → TypeFilled T t → TypeNamed T t → (TypeEnumerator T t → ⊥) → BrokenType T t 38
 
 -- ---- a member row
 
@@ -116,6 +146,10 @@ pub record ValidType (T : List ℕ) (t : ℕ) : Type 0 where
 pub record MemberZeros (T : List ℕ) (m : ℕ) : Type 0 where
   pub zero-byte : at T 1 (memberAt T m + 3) ≡ 0
   pub untagged : mark T m ≡ 0 → tag T m ≡ 0
+
+-- 34: its type is a row before the owner, of kinds 0..12
+abbrev pub MemberReference : List ℕ → ℕ → ℕ → Type 0
+MemberReference T o m = ValuePart T o (memberType T m)
 
 -- 36: required or optional; the members of a struct are all required
 pub record MemberMark (T : List ℕ) (o m : ℕ) : Type 0 where
@@ -127,12 +161,19 @@ pub record MemberTag (T : List ℕ) (o m : ℕ) : Type 0 where
   pub small : tag T m < 2 ^ 31
   pub new : mark T m ≡ 1 → (i : ℕ) → i < m → Owner T o i → mark T i ≡ 1 → tag T i ≡ tag T m → ⊥
 
--- a member row of owner o by its classes: 34, its type is a row before the owner, of kinds 0..12
+-- a member row of owner o keeps the rules of each class
 pub record ValidMember (T : List ℕ) (o m : ℕ) : Type 0 where
   pub zeros : MemberZeros T m
-  pub type : ValuePart T o (memberType T m)
+  pub type : MemberReference T o m
   pub marked : MemberMark T o m
   pub tagged : MemberTag T o m
+
+-- what is wrong with a member row, by class, as of a type row
+pub data BrokenMember (T : List ℕ) (o m : ℕ) : ℕ → Type 0 where
+  wrong-spare : (MemberZeros T m → ⊥) → BrokenMember T o m 32
+  wrong-type : MemberZeros T m → (MemberReference T o m → ⊥) → BrokenMember T o m 34
+  wrong-mark : MemberZeros T m → MemberReference T o m → (MemberMark T o m → ⊥) → BrokenMember T o m 36
+  wrong-tag : MemberZeros T m → MemberReference T o m → MemberMark T o m → (MemberTag T o m → ⊥) → BrokenMember T o m 38
 
 -- ---- the table
 
@@ -149,11 +190,11 @@ pub record Valid (T : List ℕ) : Type 0 where
 abbrev pub TypesValid : List ℕ → ℕ → Type 0
 TypesValid T n = (t : ℕ) → t < n → ValidType T t
 
--- the order is header, type rows, member sum at place 0, member rows; a rule over two rows is judged at the later, one on a member at its member row;
--- a row's place is its first byte
-pub data FirstBroken (T : List ℕ) (p : ℕ) : Type 0 where
-  in-header : (ValidHeader T → ⊥) → p ≡ 0 → FirstBroken T p
-  in-type : ValidHeader T → (t : ℕ) → t < types T → TypesValid T t → (ValidType T t → ⊥) → p ≡ rowAt T t → FirstBroken T p
-  in-sum : ValidHeader T → TypesValid T (types T) → (TakenBefore T (types T) (members T) → ⊥) → p ≡ 0 → FirstBroken T p
+-- the first broken rule has class c and is at place p. The order is header, type rows, member sum at place 0, member rows: each row before is valid.
+-- A rule over two rows is judged at the later, one on a member at its member row; a row's place is its first byte.
+pub data FirstBroken (T : List ℕ) (c p : ℕ) : Type 0 where
+  in-header : (ValidHeader T → ⊥) → c ≡ 31 → p ≡ 0 → FirstBroken T c p
+  in-type : ValidHeader T → (t : ℕ) → t < types T → TypesValid T t → BrokenType T t c → p ≡ rowAt T t → FirstBroken T c p
+  in-sum : ValidHeader T → TypesValid T (types T) → (TakenBefore T (types T) (members T) → ⊥) → c ≡ 35 → p ≡ 0 → FirstBroken T c p
   in-member : ValidHeader T → TypesValid T (types T) → TakenBefore T (types T) (members T) → (o m : ℕ) → Owner T o m
-      → ((q i : ℕ) → i < m → Owner T q i → ValidMember T q i) → (ValidMember T o m → ⊥) → p ≡ memberAt T m → FirstBroken T p
+      → ((q i : ℕ) → i < m → Owner T q i → ValidMember T q i) → BrokenMember T o m c → p ≡ memberAt T m → FirstBroken T c p

@@ -1,4 +1,5 @@
 -- Laws that the proofs of the exported calls cite.
+pub mod Judged
 pub mod Numbering
 pub mod Numbered
 pub mod Viewed

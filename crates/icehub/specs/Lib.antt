@@ -1,3 +1,4 @@
 -- The numbers that the exported calls give.
+pub mod TableNumbers
 pub mod Numbers
 pub mod WriteNumbers

@@ -2,15 +2,56 @@
 // `room` is the length in bytes of the lent list or output, so that a further call judges what the first one judged.
 ghost use mathlib.Core.Path.{_≡_};
 ghost use lib.ListN.{length, getD};
+ghost use Rattle.encoding.specs.Table.{verdictNumbers};
 ghost use Rattle.encoding.specs.Message.{reading, listed, readingOf, readingNumbers};
 ghost use Rattle.encoding.specs.Write.{writing, output, writingNumbers};
 ghost use Rattle.reading.specs.Numbers.{readingNumbered, withNumbers};
 ghost use Rattle.view.specs.Views.{viewAnswer, viewWithin, withView};
+ghost use Rattle.icehub.specs.TableNumbers.{tableNumber};
 ghost use Rattle.icehub.specs.Numbers.{readNumber, viewNumber};
 ghost use Rattle.icehub.specs.WriteNumbers.{writeNumber};
 use encoding::Reading;
+use encoding::Verdict;
 use encoding::Writing;
 use view::View;
+
+// The number of a verdict.
+fn rule(v: Verdict) -> u32
+    ensures { λ r. ⌜ r ≡ getD (verdictNumbers v) 0 0 ⌝ }
+{
+    match v {
+        Verdict::Sound => 0,
+        Verdict::Broken(c, p) => c,
+    }
+}
+
+// The place of a verdict.
+fn rule_place(v: Verdict) -> u32
+    ensures { λ r. ⌜ r ≡ getD (verdictNumbers v) 1 0 ⌝ }
+{
+    match v {
+        Verdict::Sound => 0,
+        Verdict::Broken(c, p) => p,
+    }
+}
+
+// The check of a table by itself: 0, or the number of the first rule that it breaks, 31 to 38.
+// Wrong and ruled out: the rule's place in place of its number; 1 for every rule.
+#[no_mangle]
+pub extern "C" fn icehub_table(table: &[u8]) -> u32
+    ensures { λ r. ⌜ r ≡ tableNumber (now (table .entry)) 0 ⌝ }
+{
+    rule(codec::check(table))
+}
+
+// The place of the first broken rule; 0 if the table breaks none.
+// Wrong and ruled out: the rule's number in its place; 0 for every table.
+#[no_mangle]
+pub extern "C" fn icehub_table_place(table: &[u8]) -> u32
+    ensures { λ r. ⌜ r ≡ tableNumber (now (table .entry)) 1 ⌝ }
+{
+    rule_place(codec::check(table))
+}
 
 // Number i of an answer.
 fn number(a: Reading, i: usize) -> u32

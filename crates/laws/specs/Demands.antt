@@ -5,7 +5,7 @@
 --
 --   ExactTable     a table breaks no rule exactly if it is valid, said by properties apart from the passes that look for a broken rule
 --   OneOwner       each member row of a valid table has exactly one owner, and no owner takes a row that is not there
---   TablePlace     the place of a broken rule: 0, or the first byte of the first row that is not valid
+--   TableFault     the number and the place of a broken rule: 31 to 38 by what is wrong with the first row that is not valid; its first byte, or 0
 --   ReaderRefuses  demand 1: each refusal of the reader has its number and place of document 01's table; every other number is 0 and no lent byte changes
 --   NumbersTold    the numbers of the public calls are those of the reader's answer
 --   Exact          demand 2, first sentence: a message is accepted exactly when it is the encoding of pieces that conform, and those are read
@@ -23,7 +23,7 @@
 --   WriteAgain     demand 2: an accepted message with nothing skipped, written again in any format, is the encoding of its pieces in that format
 --   WriteSame      demand 2: in its own format, it is the same message
 --   OneMessage     demand 2: the members and their bytes, type and format fix the message
---   EarlyRefused   when the writer answers 1, 2, 23 or 3; the only other refusals are 20, 21 and 22
+--   EarlyRefused   when the writer answers 31 to 38, 2, 23 or 3; the only other refusals are 20, 21 and 22
 --   RightLists     when it answers 20, and where
 --   WrongBytes     when it answers 21, and where
 --   RightMakes     a right list makes exactly one message
@@ -73,9 +73,9 @@ OneOwner =
     (T : List ℕ) → Valid T
     → ((m : ℕ) → m < members T → (o : ℕ) × Owner T o m × ((q : ℕ) → Owner T q m → q ≡ o)) × ((o m : ℕ) → Owner T o m → m < members T)
 
--- Rules out a place that is made up, and rows judged in another order.
-abbrev pub TablePlace : Type 0
-TablePlace = (T : List ℕ) (p : ℕ) → ((class : ℕ) → faults T ≡ fault class p → FirstBroken T p) × (FirstBroken T p → (class : ℕ) × (faults T ≡ fault class p))
+-- Rules out a class given for another, one of a later rule of the same row, a place that is made up, and rows judged in another order.
+abbrev pub TableFault : Type 0
+TableFault = (T : List ℕ) (c p : ℕ) → (faults T ≡ fault c p → FirstBroken T c p) × (FirstBroken T c p → faults T ≡ fault c p)
 
 -- ---- demand 1: one refusal, with its number and its place
 
@@ -83,7 +83,7 @@ TablePlace = (T : List ℕ) (p : ℕ) → ((class : ℕ) → faults T ≡ fault 
 abbrev pub readAs : Format → Pieces → Read
 readAs f p = record { format = f; pieces = p }
 
--- 1, 2 and 3 have nothing to refuse
+-- 31 to 38, 2 and 3 have nothing to refuse
 pub record Admissible (T : List ℕ) (top : ℕ) (m : List ℕ) : Type 0 where
   pub table : faults T ≡ fine
   pub top-there : noTop T top ≡ false
@@ -95,9 +95,9 @@ pub record Sized (T : List ℕ) (top : ℕ) (m : List ℕ) : Type 0 where
   pub least : 6 ≤ length m
   pub size : val (take 4 m) ≡ length m
 
--- a refusal by the rules, its number and its place: 1 to 6 in their order, then what the encapsulation holds
+-- a refusal by the rules, its number and its place: 31 to 38, 2 to 6 in their order, then what the encapsulation holds
 pub data Refusal (T : List ℕ) (top : ℕ) (m : List ℕ) : ℕ → ℕ → Type 0 where
-  broken-table : {p : ℕ} → FirstBroken T p → Refusal T top m 1 p
+  broken-table : {c p : ℕ} → FirstBroken T c p → Refusal T top m c p
   no-top : faults T ≡ fine → noTop T top ≡ true → Refusal T top m 2 0
   too-great : faults T ≡ fine → noTop T top ≡ false → limit < length m → Refusal T top m 3 0
   no-size : Admissible T top m → length m < 4 → Refusal T top m 4 0
@@ -426,12 +426,12 @@ pub record Ready (T : List ℕ) (type format : ℕ) (buffer : List ℕ) : Type 0
 
 -- what is refused before the rows, by number and place: the first of the four that fails
 pub data Early (T : List ℕ) (type format : ℕ) (buffer : List ℕ) : (number place : ℕ) → Type 0 where
-  table-refused : {c p : ℕ} → faults T ≡ fault c p → Early T type format buffer 1 p
+  table-refused : {c p : ℕ} → FirstBroken T c p → Early T type format buffer c p
   type-refused : faults T ≡ fine → noTop T type ≡ true → Early T type format buffer 2 0
   format-refused : faults T ≡ fine → noTop T type ≡ false → noFormat (kind T type) format ≡ true → Early T type format buffer 23 0
   buffer-refused : faults T ≡ fine → noTop T type ≡ false → noFormat (kind T type) format ≡ false → limit < length buffer → Early T type format buffer 3 0
 
--- 1, 2, 23 and 3 come exactly where the table, the type, the format or the buffer is refused, and no other number but 20, 21 and 22 comes
+-- 31 to 38, 2, 23 and 3 come exactly where the table, the type, the format or the buffer is refused, and no other number but 20, 21 and 22 comes
 abbrev pub EarlyRefused : Type 0
 EarlyRefused =
     (T : List ℕ) (type format count : ℕ) (rs buffer : List ℕ) (room n i : ℕ)
@@ -533,7 +533,7 @@ pub data WrongFormat (T : List ℕ) (type format : ℕ) : Type 0 where
 
 -- demand 1 of the writer, its numbers and places: 20 and 21 at a row, 20 also at the count, 22 at the bytes needed
 pub data WriterRefusal (T : List ℕ) (type format count : ℕ) (rs buffer : List ℕ) (room : ℕ) : ℕ → ℕ → Type 0 where
-  wrong-table : {p : ℕ} → FirstBroken T p → WriterRefusal T type format count rs buffer room 1 p
+  wrong-table : {c p : ℕ} → FirstBroken T c p → WriterRefusal T type format count rs buffer room c p
   no-type : WriterRefusal T type format count rs buffer room 2 0
   great-buffer : limit < length buffer → WriterRefusal T type format count rs buffer room 3 0
   wrong-row : {i : ℕ} → i ≤ count → WriterRefusal T type format count rs buffer room 20 i

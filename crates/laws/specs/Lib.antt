@@ -7,7 +7,7 @@ pub mod OptionalExact
 pub mod SliceExact
 pub mod MessageExact
 pub mod TableExact
-pub mod TablePlace
+pub mod TableFault
 pub mod Refusals
 pub mod Small
 pub mod RowsBack

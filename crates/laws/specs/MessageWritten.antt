@@ -18,6 +18,7 @@ use Rattle.encoding.specs.Value.{exact}
 use Rattle.encoding.specs.Table.{kind, chain, range, Fault, fine, fault, faults, ruleNumber}
 use Rattle.encoding.specs.Message.{Row, encode, encapsulate, noTop, limit}
 use Rattle.encoding.specs.Write.{Out, out, stop, next, Given, noFormat, formatOfNumber, rowAt, tableRules, early, stoppedFirst, rowsGiven, judgeAll, judge, State, Reached, prepend, stillDue, reach, given, partOf, above, begin, gathered, message, bounded, writing}
+use Rattle.laws.specs.TableFault.{fault-class}
 use Rattle.laws.specs.Demands.{rowList}
 use Rattle.laws.specs.PlanLaws.{out≢stop, next-ok}
 use Rattle.laws.specs.PlanRules.{judging}
@@ -147,7 +148,7 @@ module _ (T : List ℕ) (type format count : ℕ) (rs buffer : List ℕ) where
     where
       table : (f : Fault) → faults T ≡ f → Others (tableRules T)
       table fine e = rw e tt
-      table (fault c p) e = rw e (λ (q : ruleNumber c ≡ 22). omega arith)
+      table (fault c p) e = rw e (λ (q : ruleNumber c ≡ 22). omega (arith, fault-class T c p e .0))
 
       first : (a b c : Bool) → Others (stoppedFirst (firstOf ((2, a) ∷ (23, b) ∷ (3, c) ∷ [])))
       first true b c = λ e. omega arith

@@ -1,8 +1,8 @@
 -- Every promise of `Demands`, with its proof.
 use Rattle.encoding.specs.ExactLaws.{exact-is, is-exact, extent-is, is-extent}
-use Rattle.laws.specs.Demands.{ExactTable, OneOwner, TablePlace, ReaderRefuses, NumbersTold, Exact, Reads, ExactRows, ListedRows, RowsApart, RowsRight, RowsOnce, Unambiguous, ExactCounts, ExactValues, ExactExtents, Viewed, ReadBack, ReadBackReading, WriteAgain, WriteSame, OneMessage, EarlyRefused, RightLists, WrongBytes, RightMakes, TooLong, RightWritten, WriterRefuses, WritingNumbersTold, ListFilled, OutputFilled, NewerRead, NewerRefused, NewerReading, NewerRefusedReading, OneCounterpart, NewerThere}
+use Rattle.laws.specs.Demands.{ExactTable, OneOwner, TableFault, ReaderRefuses, NumbersTold, Exact, Reads, ExactRows, ListedRows, RowsApart, RowsRight, RowsOnce, Unambiguous, ExactCounts, ExactValues, ExactExtents, Viewed, ReadBack, ReadBackReading, WriteAgain, WriteSame, OneMessage, EarlyRefused, RightLists, WrongBytes, RightMakes, TooLong, RightWritten, WriterRefuses, WritingNumbersTold, ListFilled, OutputFilled, NewerRead, NewerRefused, NewerReading, NewerRefusedReading, OneCounterpart, NewerThere}
 use Rattle.laws.specs.TableExact.{exact-table, one-owner}
-use Rattle.laws.specs.TablePlace.{table-place}
+use Rattle.laws.specs.TableFault.{table-fault}
 use Rattle.laws.specs.Refusals.{reader-refuses, numbers-told}
 use Rattle.laws.specs.MessageExact.{exact-message, exact-rows}
 use Rattle.laws.specs.RowsListed.{listed-rows}
@@ -23,7 +23,7 @@ use Rattle.laws.specs.Witness.{newer-there}
 pub record Promises : Type 0 where
   pub table : ExactTable
   pub owner : OneOwner
-  pub table-at : TablePlace
+  pub fault : TableFault
   pub refuses : ReaderRefuses
   pub numbers : NumbersTold
   pub exact : Exact
@@ -64,7 +64,7 @@ pub promises : Promises
 promises = record {
   table = exact-table;
   owner = one-owner;
-  table-at = table-place;
+  fault = table-fault;
   refuses = reader-refuses;
   numbers = numbers-told;
   exact = exact-message;

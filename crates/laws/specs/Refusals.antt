@@ -25,7 +25,7 @@ use Rattle.encoding.specs.Message.{Read, contents, ended, outerForm, versionFor
 use Rattle.encoding.specs.MessageLaws.{held-rest}
 use Rattle.encoding.specs.RefusalLaws.{Told, refuses-rest}
 use Rattle.laws.specs.Demands.{Admissible, Sized, Refusal, broken-table, no-top, too-great, no-size, wrong-size, wrong-version, cut-off, misread, ReaderRefusal, by-rules, short-list, NothingElse, ReaderRefuses, NumbersTold}
-use Rattle.laws.specs.TablePlace.{table-place}
+use Rattle.laws.specs.TableFault.{table-fault, broken-class}
 
 -- ---- what the encapsulation holds
 
@@ -101,7 +101,7 @@ module _ (T : List ℕ) (top : ℕ) (m : List ℕ) where
 
       table : (f : Fault) → faults T ≡ f → afterRules f (refusedFirst (firstOf ((2, noTop T top) ∷ (3, ltb limit (length m)) ∷ [])) (body T top m)) ≡ bad n p → Refusal T top m n p
       table fine e h = early e (noTop T top) refl (ltb limit (length m)) refl h
-      table (fault c q) e h = same (broken-table (table-place T q .0 c e)) h
+      table (fault c q) e h = same (broken-table (table-fault T c q .0 e)) h
 
 -- what a call needs to know of a refusal to give it in 32 bits: its number is one of document 01's table, its place is within the limit
 pub record Numbered (n p : ℕ) : Type 0 where
@@ -113,7 +113,7 @@ numbered : {n p : ℕ} → 1 ≤ n → n ≤ greatest → p ≤ limit → Number
 numbered a b c = record { some-number = a; known-number = b; small-place = c }
 
 pub refusal-numbered : {T : List ℕ} {top : ℕ} {m : List ℕ} {n p : ℕ} → Refusal T top m n p → Numbered n p
-refusal-numbered {T} (broken-table {p} B) = let f = table-place T p .1 B in numbered (omega arith) (omega arith) (omega (arith, fault-place T (f .0) p (f .1)))
+refusal-numbered {T} (broken-table {c} {p} B) = let k = broken-class B in numbered (omega (arith, k .0)) (omega (arith, k .1)) (omega (arith, fault-place T c p (table-fault T c p .1 B)))
 refusal-numbered (no-top F t) = numbered (omega arith) (omega arith) (omega arith)
 refusal-numbered (too-great F t l) = numbered (omega arith) (omega arith) (omega arith)
 refusal-numbered (no-size A l) = numbered (omega arith) (omega arith) (omega arith)

@@ -3,6 +3,8 @@
 --
 --   record-, owner-, uses-, part-, base-, taken-   -ok what a test or a look-up tells; -step the test or the look-up from what holds
 --   header-, type-, member-                        the same of the header, of a type row, of a member row
+--   Tells                                          a test, of all rules of one class, is true exactly where a property fails
+--   type-broken, broken-type                       the class that the rules give a row, from what is wrong with it, and back; of a member row member-broken, broken-member
 --   InTurn                                         each owner before a row begins at the number taken before it
 --   turned, rules-turned                           valid rows are in turn, and so are rows that break no rule
 --   owned, owned-taken                             a member row among those taken has an owner, and back
@@ -16,7 +18,7 @@ use Prim.Native.Nat.{ℕ, zero, suc, _+_, _-_, _*_, _^_, _≤_, _<_}
 use native.Mathlib.Omega.{arith}
 use native.Mathlib.Nat.{add-zero}
 use native.Mathlib.Decide.{ℕ-discrete}
-use lib.ListN.{length, take, drop, getD, length-drop, replicate, getD-replicate, List·getD-append}
+use lib.ListN.{length, take, drop, getD, length-drop, replicate, getD-replicate, List·getD-append, List·getD-eq-default}
 use lib.Seq.{take-add, take-take, length-take-le}
 use lib.Dec.{eqb, leb, ltb}
 use borrow.Author.Tests.{eqb-true, eqb-false, leb-true, leb-false, ltb-true, ltb-false, lt-leb, le-ltb, eq-eqb, ne-eqb, not-false}
@@ -26,7 +28,7 @@ use Rattle.encoding.specs.Number.{val, negative}
 use Rattle.encoding.specs.Table.{at, types, members, names, typesAt, rowAt, memberAt, kind, spare, field, memberType, mark, memberSpare, tag, greatest, isRecord, owns, nameOf, range, fine, orElse, faultAt, any, headerTests, headerRules, used, taken, noPart, noBase, alike, typeRules, sumRules, ownerOf, tagAlike, memberRules, pass, passes, faults}
 use Rattle.encoding.specs.RuleLaws.{any-none, record-kind, owns-record, taken-rises, taken-next, turn-apart, turn-owner, header-test, row-test, row-begins, member-row-test, header-right, type-right, taken-whole, member-right}
 use Rattle.laws.specs.Demands.{ExactTable, OneOwner}
-use Rattle.encoding.specs.Valid.{RecordKind, is-exception, is-class, OwnerKind, is-struct, is-record, is-parameters, Uses, of-basic, of-enum, of-struct, of-sequence, of-dictionary, of-proxy, of-record, of-parameters, ValuePart, NoOwner, TakenBefore, none-before, last-before, Owner, ValidHeader, TypeZeros, TypeReferences, TypeName, ValidType, ValidMember, Valid}
+use Rattle.encoding.specs.Valid.{RecordKind, is-exception, is-class, OwnerKind, is-struct, is-record, is-parameters, Uses, of-basic, of-enum, of-struct, of-sequence, of-dictionary, of-proxy, of-record, of-parameters, ValuePart, NoOwner, TakenBefore, none-before, last-before, Owner, ValidHeader, TypeZeros, TypeKnown, TypeReferences, TypeTurn, TypeFilled, TypeName, TypeNamed, TypeEnumerator, ValidType, BrokenType, wrong-zeros, unknown-kind, wrong-reference, out-of-turn, empty-struct, wrong-name, great-enumerator, MemberZeros, MemberReference, MemberMark, MemberTag, ValidMember, BrokenMember, wrong-spare, wrong-type, wrong-mark, wrong-tag, Valid}
 
 -- ---- kinds
 
@@ -77,7 +79,8 @@ uses-ok T k n (of-record (is-exception e)) = rw e
 uses-ok T k n (of-record (is-class e)) = rw e
 uses-ok T k n (of-parameters e) = rw e
 
-uses-step : (T : List ℕ) (k : ℕ) → k ≤ 15 → Uses k (used T k)
+-- a kind that leaves a field unused is known
+uses-step : (T : List ℕ) (k : ℕ) → used T k < 5 → Uses k (used T k)
 unfolding used
 uses-step T k h = go (leb k 7) refl
   where
@@ -90,7 +93,9 @@ uses-step T k h = go (leb k 7) refl
     above (suc (suc (suc (suc (suc zero))))) e = rw e (of-record (is-exception refl))
     above (suc (suc (suc (suc (suc (suc zero)))))) e = rw e (of-record (is-class refl))
     above (suc (suc (suc (suc (suc (suc (suc zero))))))) e = rw e (of-parameters refl)
-    above (suc (suc (suc (suc (suc (suc (suc (suc j)))))))) e = absurd (omega arith)
+    above (suc (suc (suc (suc (suc (suc (suc (suc j)))))))) e =
+        let all : used T k ≡ 5 = List·getD-eq-default (0 ∷ 0 ∷ 0 ∷ 0 ∷ 0 ∷ 0 ∷ 0 ∷ 0 ∷ 2 ∷ 2 ∷ 1 ∷ 2 ∷ 0 ∷ 5 ∷ 5 ∷ 2 ∷ []) 5 {n = k} (omega arith) in
+        absurd (omega arith)
 
     go : (b : Bool) → leb k 7 ≡ b → Uses k (used T k)
     go true e = let l : k ≤ 7 = leb-true k 7 e in subst (Uses k) (sym (used-basic T k l)) (of-basic l)
@@ -187,6 +192,25 @@ where-true : (a b : Bool) → (a ≡ true → b ≡ false) → a && b ≡ false
 where-true true b h = h refl
 where-true false b h = refl
 
+neither : (a b : Bool) → a ≡ false → b ≡ false → a || b ≡ false
+neither true b h e = absurd (true≢false h)
+neither false b h e = e
+
+-- a test is true exactly where a property fails
+record Tells (b : Bool) (P : Type 0) : Type 0 where
+  pub fair : b ≡ false → P
+  pub strict : P → b ≡ false
+
+failed : {b : Bool} {P : Type 0} → Tells b P → b ≡ true → P → ⊥
+failed S e p = true≢false (sym e ∙ S .strict p)
+
+fails : {b : Bool} {P : Type 0} → Tells b P → (P → ⊥) → b ≡ true
+fails {b} S n = go b refl
+  where
+    go : (c : Bool) → b ≡ c → c ≡ true
+    go true e = refl
+    go false e = absurd (n (S .fair e))
+
 -- two lists that differ
 bytes-differ : (xs ys : List ℕ) → (xs ≡ ys → ⊥) → sameBytes xs ys ≡ false
 bytes-differ xs ys h = go (sameBytes xs ys) refl
@@ -247,89 +271,210 @@ module _ (T : List ℕ) where
 
 -- ---- a type row, where the owners before it are in turn
 
+-- tests of one class are one test
+type-merged : (a b c d e f g h i j k l : Bool)
+    → firstOf ((32, a) ∷ (32, b) ∷ (33, c) ∷ (34, d) ∷ (34, e) ∷ (34, f) ∷ (35, g) ∷ (36, h) ∷ (37, i) ∷ (37, j) ∷ (37, k) ∷ (38, l) ∷ [])
+    ≡ firstOf ((32, a || b) ∷ (33, c) ∷ (34, d || (e || f)) ∷ (35, g) ∷ (36, h) ∷ (37, i || (j || k)) ∷ (38, l) ∷ [])
+unfolding firstOf
+type-merged true b c d e f g h i j k l = refl
+type-merged false true c d e f g h i j k l = refl
+type-merged false false true d e f g h i j k l = refl
+type-merged false false false true e f g h i j k l = refl
+type-merged false false false false true f g h i j k l = refl
+type-merged false false false false false true g h i j k l = refl
+type-merged false false false false false false true h i j k l = refl
+type-merged false false false false false false false true i j k l = refl
+type-merged false false false false false false false false true j k l = refl
+type-merged false false false false false false false false false true k l = refl
+type-merged false false false false false false false false false false true l = refl
+type-merged false false false false false false false false false false false true = refl
+type-merged false false false false false false false false false false false false = refl
+
 module _ (T : List ℕ) (t : ℕ) (turn : InTurn T t) where
-  module _ (right : firstOf (typeRules T t) ≡ 0) where
-    test : (i : ℕ) → getD (typeRules T t) i (0, false) .1 ≡ false
-    test = row-test T t right
+  -- test i of the row
+  abbrev test : ℕ → Bool
+  test i = getD (typeRules T t) i (0, false) .1
 
-    zeros-ok : TypeZeros T t
-    unfolding typeRules spare
-    zeros-ok = record {
-      zero-byte = eqb-true _ 0 (not-false _ (test 0));
-      unused = λ n u i l m.
-          let e = uses-ok T (kind T t) n u in
-          eqb-true (field T t i) 0 (not-false _ (any-none (λ i. not (eqb (field T t i) 0)) (used T (kind T t)) (5 - used T (kind T t)) (test 1) i (omega (arith, e)) (omega (arith, e))));
-    }
+  zeros : Tells (test 0 || test 1) (TypeZeros T t)
+  unfolding typeRules spare
+  zeros = record { fair = fair; strict = strict }
+    where
+      fair : test 0 || test 1 ≡ false → TypeZeros T t
+      fair h =
+          let b = either-false _ _ h in
+          record {
+            zero-byte = eqb-true _ 0 (not-false _ (b .0));
+            unused = λ n u i l m.
+                let e = uses-ok T (kind T t) n u in
+                eqb-true (field T t i) 0 (not-false _ (any-none (λ i. not (eqb (field T t i) 0)) (used T (kind T t)) (5 - used T (kind T t)) (b .1) i (omega (arith, e)) (omega (arith, e))));
+          }
 
-    references-ok : TypeReferences T t
-    unfolding typeRules
-    references-ok = record {
-      element = λ e. part-ok T t (field T t 0) (both-false (eqb (kind T t) 10 || eqb (kind T t) 11) _ (test 3) (rw e));
-      key = λ e. part-ok T t (field T t 0) (both-false (eqb (kind T t) 10 || eqb (kind T t) 11) _ (test 3) (rw e));
-      value = λ e. part-ok T t (field T t 1) (both-false (eqb (kind T t) 11) _ (test 4) (rw e));
-      base = λ k. base-ok T t (field T t 2) (both-false (isRecord (kind T t)) _ (test 5) (record-step (kind T t) k));
-    }
+      strict : TypeZeros T t → test 0 || test 1 ≡ false
+      strict Z =
+          neither _ _ (ap not (eq-eqb _ 0 (Z .zero-byte)))
+          (any-step (λ i. not (eqb (field T t i) 0)) (used T (kind T t)) (5 - used T (kind T t)) (λ i a b. ap not (eq-eqb (field T t i) 0 (Z .unused (used T (kind T t)) (uses-step T (kind T t) (omega arith)) i a (omega arith)))))
 
-    name-ok : RecordKind (kind T t) → TypeName T t
-    unfolding typeRules alike
-    name-ok k =
-        let r = record-step (kind T t) k in
-        let len = either-false (eqb (field T t 4) 0) (ltb 255 (field T t 4)) (both-false (isRecord (kind T t)) _ (test 8) r) in
-        record {
-          some = omega (arith, eqb-false (field T t 4) 0 (len .0));
-          most = ltb-false 255 (field T t 4) (len .1);
-          inside = ltb-false (names T) (field T t 3 + field T t 4) (both-false (isRecord (kind T t)) _ (test 9) r);
-          new = λ s l q e.
-              let a = any-none (λ r. isRecord (kind T r) && sameBytes (nameOf T r) (nameOf T t)) 0 t (both-false (isRecord (kind T t)) _ (test 10) r) s (omega arith) (omega arith) in
-              true≢false (sym (sameBytes-same (nameOf T s) (nameOf T t) e) ∙ both-false (isRecord (kind T s)) _ a (record-step (kind T s) q));
-        }
+  known : Tells (test 2) (TypeKnown T t)
+  unfolding typeRules
+  known = record { fair = ltb-false 15 (kind T t); strict = le-ltb 15 (kind T t) }
 
-    pub type-ok : ValidType T t
-    unfolding typeRules greatest negative
-    type-ok = record {
-      zeros = zeros-ok;
-      known = ltb-false 15 (kind T t) (test 2);
-      references = references-ok;
-      in-turn = λ k. taken-step T t (field T t 0) turn (row-begins T t right (owner-step (kind T t) k));
-      filled = λ e. omega (arith, eqb-false (field T t 1) 0 (both-false (eqb (kind T t) 9) _ (test 7) (rw e)));
-      name = name-ok;
-      greatest = λ e. leb-false (2 ^ 31) (field T t 0 + 65536 * field T t 1) (both-false (eqb (kind T t) 8) _ (test 11) (rw e));
-    }
+  references : Tells (test 3 || (test 4 || test 5)) (TypeReferences T t)
+  unfolding typeRules
+  references = record { fair = fair; strict = strict }
+    where
+      fair : test 3 || (test 4 || test 5) ≡ false → TypeReferences T t
+      fair h =
+          let a = either-false _ _ h in
+          let b = either-false _ _ (a .1) in
+          record {
+            element = λ e. part-ok T t (field T t 0) (both-false (eqb (kind T t) 10 || eqb (kind T t) 11) _ (a .0) (rw e));
+            key = λ e. part-ok T t (field T t 0) (both-false (eqb (kind T t) 10 || eqb (kind T t) 11) _ (a .0) (rw e));
+            value = λ e. part-ok T t (field T t 1) (both-false (eqb (kind T t) 11) _ (b .0) (rw e));
+            base = λ k. base-ok T t (field T t 2) (both-false (isRecord (kind T t)) _ (b .1) (record-step (kind T t) k));
+          }
 
-  module _ (R : ValidType T t) where
-    first-part : eqb (kind T t) 10 || eqb (kind T t) 11 ≡ true → ValuePart T t (field T t 0)
-    first-part h = go (eqb (kind T t) 10) refl h
-      where
-        go : (b : Bool) → eqb (kind T t) 10 ≡ b → b || eqb (kind T t) 11 ≡ true → ValuePart T t (field T t 0)
-        go true e h = R .references .element (eqb-true (kind T t) 10 e)
-        go false e h = R .references .key (eqb-true (kind T t) 11 h)
+      first-part : TypeReferences T t → (b : Bool) → eqb (kind T t) 10 ≡ b → b || eqb (kind T t) 11 ≡ true → ValuePart T t (field T t 0)
+      first-part R true e h = R .element (eqb-true (kind T t) 10 e)
+      first-part R false e h = R .key (eqb-true (kind T t) 11 h)
 
-    name-new : RecordKind (kind T t) → alike T t ≡ false
-    unfolding alike
-    name-new k =
-        any-step (λ r. isRecord (kind T r) && sameBytes (nameOf T r) (nameOf T t)) 0 t (λ r a b.
-        where-true (isRecord (kind T r)) _ (λ e. bytes-differ (nameOf T r) (nameOf T t) (R .name k .new r (omega arith) (record-ok (kind T r) e))))
+      strict : TypeReferences T t → test 3 || (test 4 || test 5) ≡ false
+      strict R =
+          neither _ _ (where-true (eqb (kind T t) 10 || eqb (kind T t) 11) _ (λ e. part-step T t (field T t 0) (first-part R (eqb (kind T t) 10) refl e)))
+          (neither _ _ (where-true (eqb (kind T t) 11) _ (λ e. part-step T t (field T t 1) (R .value (eqb-true (kind T t) 11 e))))
+          (where-true (isRecord (kind T t)) _ (λ e. base-step T t (field T t 2) (R .base (record-ok (kind T t) e)))))
 
-    pub type-step : firstOf (typeRules T t) ≡ 0
-    unfolding typeRules spare greatest negative
-    type-step =
-        let k = kind T t in
-        let rec : isRecord k ≡ true → RecordKind k = record-ok k in
-        first-none (typeRules T t) (ap not (eq-eqb _ 0 (R .zeros .zero-byte))
-        also any-step (λ i. not (eqb (field T t i) 0)) (used T k) (5 - used T k) (λ i a b. ap not (eq-eqb (field T t i) 0 (R .zeros .unused (used T k) (uses-step T k (R .known)) i a (omega arith))))
-        also le-ltb 15 k (R .known)
-        also where-true (eqb k 10 || eqb k 11) _ (λ e. part-step T t (field T t 0) (first-part e))
-        also where-true (eqb k 11) _ (λ e. part-step T t (field T t 1) (R .references .value (eqb-true k 11 e)))
-        also where-true (isRecord k) _ (λ e. base-step T t (field T t 2) (R .references .base (rec e)))
-        also where-true (owns k) _ (λ e. ap not (eq-eqb (field T t 0) (taken T t) (taken-ok T t (field T t 0) turn (R .in-turn (owner-ok k e)))))
-        also where-true (eqb k 9) _ (λ e. ne-eqb (field T t 1) 0 (λ z. omega (arith, R .filled (eqb-true k 9 e))))
-        also where-true (isRecord k) _ (λ e. let N = R .name (rec e) in rw (ne-eqb (field T t 4) 0 (λ z. omega (arith, N .some)), le-ltb 255 (field T t 4) (N .most)))
-        also where-true (isRecord k) _ (λ e. le-ltb (names T) (field T t 3 + field T t 4) (R .name (rec e) .inside))
-        also where-true (isRecord k) _ (λ e. name-new (rec e))
-        also where-true (eqb k 8) _ (λ e. lt-leb (2 ^ 31) (field T t 0 + 65536 * field T t 1) (R .greatest (eqb-true k 8 e)))
-        also tt)
+  in-turn : Tells (test 6) (TypeTurn T t)
+  unfolding typeRules
+  in-turn = record {
+    fair = λ h k. taken-step T t (field T t 0) turn (eqb-true (field T t 0) (taken T t) (not-false _ (both-false (owns (kind T t)) _ h (owner-step (kind T t) k))));
+    strict = λ P. where-true (owns (kind T t)) _ (λ e. ap not (eq-eqb (field T t 0) (taken T t) (taken-ok T t (field T t 0) turn (P (owner-ok (kind T t) e)))));
+  }
+
+  filled : Tells (test 7) (TypeFilled T t)
+  unfolding typeRules
+  filled = record {
+    fair = λ h e. omega (arith, eqb-false (field T t 1) 0 (both-false (eqb (kind T t) 9) _ h (rw e)));
+    strict = λ P. where-true (eqb (kind T t) 9) _ (λ e. ne-eqb (field T t 1) 0 (λ z. omega (arith, P (eqb-true (kind T t) 9 e))));
+  }
+
+  named : Tells (test 8 || (test 9 || test 10)) (TypeNamed T t)
+  unfolding typeRules alike
+  named = record { fair = fair; strict = strict }
+    where
+      fair : test 8 || (test 9 || test 10) ≡ false → TypeNamed T t
+      fair h k =
+          let a : (test 8 ≡ false) × (test 9 || test 10 ≡ false) = either-false _ _ h in
+          let b : (test 9 ≡ false) × (test 10 ≡ false) = either-false _ _ (a .1) in
+          let r = record-step (kind T t) k in
+          let len = either-false (eqb (field T t 4) 0) (ltb 255 (field T t 4)) (both-false (isRecord (kind T t)) _ (a .0) r) in
+          record {
+            some = omega (arith, eqb-false (field T t 4) 0 (len .0));
+            most = ltb-false 255 (field T t 4) (len .1);
+            inside = ltb-false (names T) (field T t 3 + field T t 4) (both-false (isRecord (kind T t)) _ (b .0) r);
+            new = λ s l q e.
+                let a = any-none (λ r. isRecord (kind T r) && sameBytes (nameOf T r) (nameOf T t)) 0 t (both-false (isRecord (kind T t)) _ (b .1) r) s (omega arith) (omega arith) in
+                true≢false (sym (sameBytes-same (nameOf T s) (nameOf T t) e) ∙ both-false (isRecord (kind T s)) _ a (record-step (kind T s) q));
+          }
+
+      name-new : TypeName T t → alike T t ≡ false
+      name-new N =
+          any-step (λ r. isRecord (kind T r) && sameBytes (nameOf T r) (nameOf T t)) 0 t (λ r a b.
+          where-true (isRecord (kind T r)) _ (λ e. bytes-differ (nameOf T r) (nameOf T t) (N .new r (omega arith) (record-ok (kind T r) e))))
+
+      strict : TypeNamed T t → test 8 || (test 9 || test 10) ≡ false
+      strict P =
+          let name : isRecord (kind T t) ≡ true → TypeName T t = λ e. P (record-ok (kind T t) e) in
+          neither _ _ (where-true (isRecord (kind T t)) _ (λ e. neither _ _ (ne-eqb (field T t 4) 0 (λ z. omega (arith, name e .some))) (le-ltb 255 (field T t 4) (name e .most))))
+          (neither _ _ (where-true (isRecord (kind T t)) _ (λ e. le-ltb (names T) (field T t 3 + field T t 4) (name e .inside)))
+          (where-true (isRecord (kind T t)) _ (λ e. name-new (name e))))
+
+  enumerator : Tells (test 11) (TypeEnumerator T t)
+  unfolding typeRules greatest negative
+  enumerator = record {
+    fair = λ h e. leb-false (2 ^ 31) (field T t 0 + 65536 * field T t 1) (both-false (eqb (kind T t) 8) _ h (rw e));
+    strict = λ P. where-true (eqb (kind T t) 8) _ (λ e. lt-leb (2 ^ 31) (field T t 0 + 65536 * field T t 1) (P (eqb-true (kind T t) 8 e)));
+  }
+
+  -- the class that the rules give a row
+  type-class : firstOf (typeRules T t) ≡ firstOf ((32, test 0 || test 1) ∷ (33, test 2) ∷ (34, test 3 || (test 4 || test 5)) ∷ (35, test 6) ∷ (36, test 7) ∷ (37, test 8 || (test 9 || test 10)) ∷ (38, test 11) ∷ [])
+  unfolding typeRules
+  type-class = type-merged _ _ _ _ _ _ _ _ _ _ _ _
+
+  -- what a row is that gets class n, or 0
+  abbrev TypeJudged : ℕ → Type 0
+  TypeJudged zero = ValidType T t
+  TypeJudged (suc c) = BrokenType T t (suc c)
+
+  type-judged : (n : ℕ) → firstOf (typeRules T t) ≡ n → TypeJudged n
+  unfolding firstOf
+  type-judged n h = go (test 0 || test 1) refl (test 2) refl (test 3 || (test 4 || test 5)) refl (test 6) refl (test 7) refl (test 8 || (test 9 || test 10)) refl (test 11) refl (sym type-class ∙ h)
+    where
+      go : (a : Bool) → test 0 || test 1 ≡ a → (b : Bool) → test 2 ≡ b → (c : Bool) → test 3 || (test 4 || test 5) ≡ c → (d : Bool) → test 6 ≡ d → (e : Bool) → test 7 ≡ e
+          → (f : Bool) → test 8 || (test 9 || test 10) ≡ f → (g : Bool) → test 11 ≡ g
+          → firstOf ((32, a) ∷ (33, b) ∷ (34, c) ∷ (35, d) ∷ (36, e) ∷ (37, f) ∷ (38, g) ∷ []) ≡ n → TypeJudged n
+      go true ea b eb c ec d ed e ee f ef g eg h = subst TypeJudged h (wrong-zeros (failed zeros ea))
+      go false ea true eb c ec d ed e ee f ef g eg h = subst TypeJudged h (unknown-kind (zeros .fair ea) (failed known eb))
+      go false ea false eb true ec d ed e ee f ef g eg h = subst TypeJudged h (wrong-reference (zeros .fair ea) (known .fair eb) (failed references ec))
+      go false ea false eb false ec true ed e ee f ef g eg h = subst TypeJudged h (out-of-turn (zeros .fair ea) (known .fair eb) (references .fair ec) (failed in-turn ed))
+      go false ea false eb false ec false ed true ee f ef g eg h =
+          subst TypeJudged h (empty-struct (zeros .fair ea) (known .fair eb) (references .fair ec) (in-turn .fair ed) (failed filled ee))
+      go false ea false eb false ec false ed false ee true ef g eg h =
+          subst TypeJudged h (wrong-name (zeros .fair ea) (known .fair eb) (references .fair ec) (in-turn .fair ed) (filled .fair ee) (failed named ef))
+      go false ea false eb false ec false ed false ee false ef true eg h =
+          subst TypeJudged h (great-enumerator (zeros .fair ea) (known .fair eb) (references .fair ec) (in-turn .fair ed) (filled .fair ee) (named .fair ef) (failed enumerator eg))
+      go false ea false eb false ec false ed false ee false ef false eg h = subst TypeJudged h (record {
+        zeros = zeros .fair ea;
+        known = known .fair eb;
+        references = references .fair ec;
+        in-turn = in-turn .fair ed;
+        filled = filled .fair ee;
+        name = named .fair ef;
+        enumerator = enumerator .fair eg;
+      })
+
+  pub type-ok : firstOf (typeRules T t) ≡ 0 → ValidType T t
+  type-ok h = type-judged 0 h
+
+  pub type-broken : (c : ℕ) → firstOf (typeRules T t) ≡ c → 0 < c → BrokenType T t c
+  type-broken zero h l = absurd (omega arith)
+  type-broken (suc c) h l = type-judged (suc c) h
+
+  pub type-step : ValidType T t → firstOf (typeRules T t) ≡ 0
+  unfolding firstOf
+  type-step R =
+      type-class
+      ∙ rw (
+        zeros .strict (R .zeros),
+        known .strict (R .known),
+        references .strict (R .references),
+        in-turn .strict (R .in-turn),
+        filled .strict (R .filled),
+        named .strict (R .name),
+        enumerator .strict (R .enumerator),
+      )
+
+  pub broken-type : (c : ℕ) → BrokenType T t c → firstOf (typeRules T t) ≡ c
+  unfolding firstOf
+  broken-type c (wrong-zeros n) = type-class ∙ rw (fails zeros n)
+  broken-type c (unknown-kind z n) = type-class ∙ rw (zeros .strict z, fails known n)
+  broken-type c (wrong-reference z k n) = type-class ∙ rw (zeros .strict z, known .strict k, fails references n)
+  broken-type c (out-of-turn z k r n) = type-class ∙ rw (zeros .strict z, known .strict k, references .strict r, fails in-turn n)
+  broken-type c (empty-struct z k r i n) = type-class ∙ rw (zeros .strict z, known .strict k, references .strict r, in-turn .strict i, fails filled n)
+  broken-type c (wrong-name z k r i f n) = type-class ∙ rw (zeros .strict z, known .strict k, references .strict r, in-turn .strict i, filled .strict f, fails named n)
+  broken-type c (great-enumerator z k r i f m n) = type-class ∙ rw (zeros .strict z, known .strict k, references .strict r, in-turn .strict i, filled .strict f, named .strict m, fails enumerator n)
 
 -- ---- a member row, where the owners are in turn
+
+member-merged : (a b c d e f g : Bool)
+    → firstOf ((32, a) ∷ (32, b) ∷ (34, c) ∷ (36, d) ∷ (36, e) ∷ (38, f) ∷ (38, g) ∷ []) ≡ firstOf ((32, a || b) ∷ (34, c) ∷ (36, d || e) ∷ (38, f || g) ∷ [])
+unfolding firstOf
+member-merged true b c d e f g = refl
+member-merged false true c d e f g = refl
+member-merged false false true d e f g = refl
+member-merged false false false true e f g = refl
+member-merged false false false false true f g = refl
+member-merged false false false false false true g = refl
+member-merged false false false false false false g = refl
 
 module _ (T : List ℕ) (turn : InTurn T (types T)) where
   -- a member row among those taken has an owner
@@ -357,54 +502,112 @@ module _ (T : List ℕ) (turn : InTurn T (types T)) where
     judged-by : ownerOf T m (types T) ≡ o
     judged-by = turn-owner T (λ t l e. turn t l (owner-ok (kind T t) e)) o m (own .there) (owner-step (kind T o) (own .owner-kind)) (own .from) (own .to)
 
+    -- test i of the row
+    abbrev member-test : ℕ → Bool
+    member-test i = getD (memberRules T m) i (0, false) .1
+
+    spare-zeros : Tells (member-test 0 || member-test 1) (MemberZeros T m)
+    unfolding memberRules memberSpare
+    spare-zeros = record {
+      fair = λ h.
+          let b = either-false _ _ h in
+          record {
+            zero-byte = eqb-true _ 0 (not-false _ (b .0));
+            untagged = λ e. eqb-true (tag T m) 0 (not-false _ (both-false (eqb (mark T m) 0) _ (b .1) (eq-eqb (mark T m) 0 e)));
+          };
+      strict = λ Z. neither _ _ (ap not (eq-eqb _ 0 (Z .zero-byte))) (where-true (eqb (mark T m) 0) _ (λ e. ap not (eq-eqb (tag T m) 0 (Z .untagged (eqb-true (mark T m) 0 e)))));
+    }
+
+    typed : Tells (member-test 2) (MemberReference T o m)
+    unfolding memberRules
+    typed = record { fair = λ h. part-ok T o (memberType T m) (rw judged-by at h); strict = λ P. rw judged-by (part-step T o (memberType T m) P) }
+
+    marked : Tells (member-test 3 || member-test 4) (MemberMark T o m)
+    unfolding memberRules
+    marked = record { fair = fair; strict = strict }
+      where
+        fair : member-test 3 || member-test 4 ≡ false → MemberMark T o m
+        fair h =
+            let b = either-false _ _ h in
+            let few : mark T m ≤ 1 = ltb-false 1 (mark T m) (b .0) in
+            record {
+              known = few;
+              in-struct = λ e.
+                  let s : eqb (mark T m) 1 && eqb (kind T o) 9 ≡ false = rw judged-by at (b .1) in
+                  let one : mark T m ≡ 1 → ⊥ = λ a. eqb-false (kind T o) 9 (both-false (eqb (mark T m) 1) (eqb (kind T o) 9) s (eq-eqb (mark T m) 1 a)) e in
+                  omega (arith, few, one);
+            }
+
+        strict : MemberMark T o m → member-test 3 || member-test 4 ≡ false
+        strict M =
+            neither _ _ (le-ltb 1 (mark T m) (M .known))
+            (where-true (eqb (mark T m) 1) _ (λ e. rw judged-by (ne-eqb (kind T o) 9 (λ q. omega (arith, eqb-true (mark T m) 1 e, M .in-struct q)))))
+
+    tagged : Tells (member-test 5 || member-test 6) (MemberTag T o m)
+    unfolding memberRules negative tagAlike
+    tagged = record { fair = fair; strict = strict }
+      where
+        fair : member-test 5 || member-test 6 ≡ false → MemberTag T o m
+        fair h =
+            let b = either-false _ _ h in
+            record {
+              small = leb-false (2 ^ 31) (tag T m) (b .0);
+              new = λ a i l q c e.
+                  let s = both-false (eqb (mark T m) 1) _ (b .1) (eq-eqb (mark T m) 1 a) in
+                  let u : any (λ i. eqb (mark T i) 1 && eqb (tag T i) (tag T m)) (range (field T o 0) (m - field T o 0)) ≡ false = rw judged-by at s in
+                  let v = any-none (λ i. eqb (mark T i) 1 && eqb (tag T i) (tag T m)) (field T o 0) (m - field T o 0) u i (q .from) (omega (arith, q .from)) in
+                  eqb-false (tag T i) (tag T m) (both-false (eqb (mark T i) 1) _ v (eq-eqb (mark T i) 1 c)) e;
+            }
+
+        tag-new : MemberTag T o m → mark T m ≡ 1 → tagAlike T o m ≡ false
+        tag-new G a =
+            any-step (λ i. eqb (mark T i) 1 && eqb (tag T i) (tag T m)) (field T o 0) (m - field T o 0) (λ i l h.
+            let k : i < m = omega (arith, own .from) in
+            let own-i : Owner T o i = record { there = own .there; owner-kind = own .owner-kind; from = l; to = omega (arith, own .to) } in
+            where-true (eqb (mark T i) 1) _ (λ b. ne-eqb (tag T i) (tag T m) (G .new a i k own-i (eqb-true (mark T i) 1 b))))
+
+        strict : MemberTag T o m → member-test 5 || member-test 6 ≡ false
+        strict G = neither _ _ (lt-leb (2 ^ 31) (tag T m) (G .small)) (where-true (eqb (mark T m) 1) _ (λ e. rw judged-by (tag-new G (eqb-true (mark T m) 1 e))))
+
+    -- the class that the rules give it
+    member-class : firstOf (memberRules T m) ≡ firstOf ((32, member-test 0 || member-test 1) ∷ (34, member-test 2) ∷ (36, member-test 3 || member-test 4) ∷ (38, member-test 5 || member-test 6) ∷ [])
+    unfolding memberRules
+    member-class = member-merged _ _ _ _ _ _ _
+
+    abbrev MemberJudged : ℕ → Type 0
+    MemberJudged zero = ValidMember T o m
+    MemberJudged (suc c) = BrokenMember T o m (suc c)
+
+    member-judged : (n : ℕ) → firstOf (memberRules T m) ≡ n → MemberJudged n
+    unfolding firstOf
+    member-judged n h = go (member-test 0 || member-test 1) refl (member-test 2) refl (member-test 3 || member-test 4) refl (member-test 5 || member-test 6) refl (sym member-class ∙ h)
+      where
+        go : (a : Bool) → member-test 0 || member-test 1 ≡ a → (b : Bool) → member-test 2 ≡ b → (c : Bool) → member-test 3 || member-test 4 ≡ c → (d : Bool) → member-test 5 || member-test 6 ≡ d
+            → firstOf ((32, a) ∷ (34, b) ∷ (36, c) ∷ (38, d) ∷ []) ≡ n → MemberJudged n
+        go true ea b eb c ec d ed h = subst MemberJudged h (wrong-spare (failed spare-zeros ea))
+        go false ea true eb c ec d ed h = subst MemberJudged h (wrong-type (spare-zeros .fair ea) (failed typed eb))
+        go false ea false eb true ec d ed h = subst MemberJudged h (wrong-mark (spare-zeros .fair ea) (typed .fair eb) (failed marked ec))
+        go false ea false eb false ec true ed h = subst MemberJudged h (wrong-tag (spare-zeros .fair ea) (typed .fair eb) (marked .fair ec) (failed tagged ed))
+        go false ea false eb false ec false ed h =
+            subst MemberJudged h (record { zeros = spare-zeros .fair ea; type = typed .fair eb; marked = marked .fair ec; tagged = tagged .fair ed })
+
     pub member-ok : firstOf (memberRules T m) ≡ 0 → ValidMember T o m
-    unfolding memberRules memberSpare negative tagAlike
-    member-ok right =
-        let test = member-row-test T m right in
-        let few : mark T m ≤ 1 = ltb-false 1 (mark T m) (test 3) in
-        record {
-          zeros = record {
-            zero-byte = eqb-true _ 0 (not-false _ (test 0));
-            untagged = λ e. eqb-true (tag T m) 0 (not-false _ (both-false (eqb (mark T m) 0) _ (test 1) (eq-eqb (mark T m) 0 e)));
-          };
-          type = part-ok T o (memberType T m) (rw judged-by at (test 2));
-          marked = record {
-            known = few;
-            in-struct = λ e.
-                let s : eqb (mark T m) 1 && eqb (kind T o) 9 ≡ false = rw judged-by at (test 4) in
-                let one : mark T m ≡ 1 → ⊥ = λ a. eqb-false (kind T o) 9 (both-false (eqb (mark T m) 1) (eqb (kind T o) 9) s (eq-eqb (mark T m) 1 a)) e in
-                omega (arith, few, one);
-          };
-          tagged = record {
-            small = leb-false (2 ^ 31) (tag T m) (test 5);
-            new = λ a i l q b e.
-                let s = both-false (eqb (mark T m) 1) _ (test 6) (eq-eqb (mark T m) 1 a) in
-                let u : any (λ i. eqb (mark T i) 1 && eqb (tag T i) (tag T m)) (range (field T o 0) (m - field T o 0)) ≡ false = rw judged-by at s in
-                let v = any-none (λ i. eqb (mark T i) 1 && eqb (tag T i) (tag T m)) (field T o 0) (m - field T o 0) u i (q .from) (omega (arith, q .from)) in
-                eqb-false (tag T i) (tag T m) (both-false (eqb (mark T i) 1) _ v (eq-eqb (mark T i) 1 b)) e;
-          };
-        }
+    member-ok h = member-judged 0 h
 
-    module _ (R : ValidMember T o m) where
-      tag-new : mark T m ≡ 1 → tagAlike T o m ≡ false
-      unfolding tagAlike
-      tag-new a =
-          any-step (λ i. eqb (mark T i) 1 && eqb (tag T i) (tag T m)) (field T o 0) (m - field T o 0) (λ i l h.
-          let k : i < m = omega (arith, own .from) in
-          let own-i : Owner T o i = record { there = own .there; owner-kind = own .owner-kind; from = l; to = omega (arith, own .to) } in
-          where-true (eqb (mark T i) 1) _ (λ b. ne-eqb (tag T i) (tag T m) (R .tagged .new a i k own-i (eqb-true (mark T i) 1 b))))
+    pub member-broken : (c : ℕ) → firstOf (memberRules T m) ≡ c → 0 < c → BrokenMember T o m c
+    member-broken zero h l = absurd (omega arith)
+    member-broken (suc c) h l = member-judged (suc c) h
 
-      pub member-step : firstOf (memberRules T m) ≡ 0
-      unfolding memberRules memberSpare negative
-      member-step =
-          first-none (memberRules T m) (ap not (eq-eqb _ 0 (R .zeros .zero-byte))
-          also where-true (eqb (mark T m) 0) _ (λ e. ap not (eq-eqb (tag T m) 0 (R .zeros .untagged (eqb-true (mark T m) 0 e))))
-          also rw judged-by (part-step T o (memberType T m) (R .type))
-          also le-ltb 1 (mark T m) (R .marked .known)
-          also where-true (eqb (mark T m) 1) _ (λ e. rw judged-by (ne-eqb (kind T o) 9 (λ q. omega (arith, eqb-true (mark T m) 1 e, R .marked .in-struct q))))
-          also lt-leb (2 ^ 31) (tag T m) (R .tagged .small)
-          also where-true (eqb (mark T m) 1) _ (λ e. rw judged-by (tag-new (eqb-true (mark T m) 1 e)))
-          also tt)
+    pub member-step : ValidMember T o m → firstOf (memberRules T m) ≡ 0
+    unfolding firstOf
+    member-step R = member-class ∙ rw (spare-zeros .strict (R .zeros), typed .strict (R .type), marked .strict (R .marked), tagged .strict (R .tagged))
+
+    pub broken-member : (c : ℕ) → BrokenMember T o m c → firstOf (memberRules T m) ≡ c
+    unfolding firstOf
+    broken-member c (wrong-spare n) = member-class ∙ rw (fails spare-zeros n)
+    broken-member c (wrong-type z n) = member-class ∙ rw (spare-zeros .strict z, fails typed n)
+    broken-member c (wrong-mark z p n) = member-class ∙ rw (spare-zeros .strict z, typed .strict p, fails marked n)
+    broken-member c (wrong-tag z p k n) = member-class ∙ rw (spare-zeros .strict z, typed .strict p, marked .strict k, fails tagged n)
 
 -- ---- the table
 

@@ -25,6 +25,7 @@ use Rattle.encoding.specs.Message.{Row, list, exception, class, encode, noTop, 
 use Rattle.encoding.specs.MessageLaws.{top-there, length-encapsulate}
 use Rattle.encoding.specs.Write.{Slot, slots, planOf, plan, Out, out, stop, next, State, Reached, Given, reach, stillDue, partOf, judge, prepend, judgeAll, begin, above, piecesOf, slicesOf, gathered, noFormat, formatOfNumber, bounded, rowAt, tableRules, early, stoppedFirst, rowsGiven, message, writing}
 use Rattle.laws.specs.Demands.{All, end, more, SameMembers, no-members, same-member, UnderTop, rowList}
+use Rattle.laws.specs.TableFault.{fault-class}
 use Rattle.laws.specs.RowsExact.{all-map}
 use Rattle.laws.specs.RowsMost.{rows-most}
 use Rattle.laws.specs.PlanLaws.{Pairs, alone, before, givenOf, Judged, over, taken, missed, judged-ok, out≢stop}
@@ -255,7 +256,7 @@ module _ (T : List ℕ) (type format count : ℕ) (rs buffer : List ℕ) (few : 
     where
       table : (f : Fault) → faults T ≡ f → Stops (tableRules T)
       table fine e = rw e tt
-      table (fault c p) e = rw e (let h : (ruleNumber c < 4294967296) × (p < 4294967296) = (omega arith, omega (arith, fault-place T c p e)) in h)
+      table (fault c p) e = rw e (let h : (ruleNumber c < 4294967296) × (p < 4294967296) = (omega (arith, fault-class T c p e .1), omega (arith, fault-place T c p e)) in h)
 
       before-rows : (a b c : Bool) → Stops (stoppedFirst (firstOf ((2, a) ∷ (23, b) ∷ (3, c) ∷ [])))
       before-rows true b c = (omega arith, omega arith)

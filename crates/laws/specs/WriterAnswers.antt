@@ -1,7 +1,7 @@
 -- Which answer the writer gives, for every input: its judgements one after another, each with what the laws of the rows say of it.
 --
 --   Ends, message-ends, ends-message   where no message is made: before the rows, for want of row bytes, or at a row
---   early-refused                      1, 2, 23 and 3
+--   early-refused                      31 to 38, 2, 23 and 3
 --   right-lists, wrong-bytes           20 and 21
 --   message-one                        rows have one message
 --   right-makes                        a right list has a message: what `message` makes
@@ -22,6 +22,7 @@ use Rattle.encoding.specs.Message.{Pieces, Row, encode, encapsulate, noTop, lim
 use Rattle.encoding.specs.Write.{Out, out, stop, next, Given, noFormat, formatOfNumber, tableRules, early, stoppedFirst, rowsGiven, gathered, plan, message, bounded, writing}
 use Rattle.encoding.specs.Conform.{Conform}
 use Rattle.laws.specs.Demands.{readAs, SameMembers, no-members, same-member, UnderTop, rowList, Ready, Early, table-refused, type-refused, format-refused, buffer-refused, EarlyRefused, Twenty, too-few, none-right, RightLists, TwentyOne, WrongBytes, Writable, MessageOf, RightMakes, TwentyTwo, TooLong, WrittenAs, RightWritten}
+use Rattle.laws.specs.TableFault.{table-fault, broken-class}
 use Rattle.laws.specs.PlanLaws.{out≢stop, judged-ok}
 use Rattle.laws.specs.PlanRules.{chain-above, judging, judging-slots}
 use Rattle.laws.specs.MessageWritten.{Composed, message-ok, message-step, writing-ok, writing-step, too-long}
@@ -40,7 +41,7 @@ module _ (T : List ℕ) (type format count : ℕ) (rs buffer : List ℕ) where
 
   ends-message : {n i : ℕ} → Ends n i → message T type format count rs buffer ≡ stop n i
   unfolding message tableRules ruleNumber early stoppedFirst firstOf rowsGiven next
-  ends-message (before (table-refused e)) = rw e
+  ends-message (before (table-refused {c} {p} B)) = rw (table-fault T c p .1 B)
   ends-message (before (type-refused e a)) = rw (e, a)
   ends-message (before (format-refused e a b)) = rw (e, a, b)
   ends-message (before (buffer-refused e a b c)) = rw (e, a, b, lt-ltb limit (length buffer) c)
@@ -60,7 +61,7 @@ module _ (T : List ℕ) (type format count : ℕ) (rs buffer : List ℕ) where
 
       go : (f : Fault) → faults T ≡ f → (a : Bool) → noTop T type ≡ a → (b : Bool) → noFormat (kind T type) format ≡ b → (c : Bool) → ltb limit (length buffer) ≡ c
           → (d : Bool) → leb (12 * count) (length rs) ≡ d → (o : Out (List Given)) → judging T type buffer (rowList count rs) ≡ o → Ends n i
-      go (fault k p) e a ea b eb c ec d ed o eo = same (before (table-refused e))
+      go (fault k p) e a ea b eb c ec d ed o eo = same (before (table-refused (table-fault T k p .0 e)))
       go fine e true ea b eb c ec d ed o eo = same (before (type-refused e ea))
       go fine e false ea true eb c ec d ed o eo = same (before (format-refused e ea eb))
       go fine e false ea false eb true ec d ed o eo = same (before (buffer-refused e ea eb (ltb-true limit (length buffer) ec)))
@@ -93,7 +94,7 @@ module _ (T : List ℕ) (type format count : ℕ) (rs buffer : List ℕ) where
       go (stop k p) e h = inl (message-ends (e ∙ h))
 
   early-number : {n i : ℕ} → Early T type format buffer n i → 20 ≤ n → n ≤ 22 → ⊥
-  early-number (table-refused e) l h = omega arith
+  early-number (table-refused B) l h = omega (arith, broken-class B .0)
   early-number (type-refused e a) l h = omega arith
   early-number (format-refused e a b) l h = omega arith
   early-number (buffer-refused e a b c) l h = omega arith

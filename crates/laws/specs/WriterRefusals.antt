@@ -18,7 +18,7 @@ use Rattle.encoding.specs.Table.{kind, range}
 use Rattle.encoding.specs.RuleLaws.{length-range}
 use Rattle.encoding.specs.Write.{Out, out, stop, rowAt, noFormat, writing, output, writingOf, writingNumbers}
 use Rattle.laws.specs.Demands.{rowList, Early, table-refused, type-refused, format-refused, buffer-refused, at-row, at-count, Twenty, too-few, none-right, WrongFormat, unknown-format, compact-list, WriterRefusal, wrong-table, no-type, great-buffer, wrong-row, wrong-bytes, no-room, wrong-format, WriterRefuses, WritingNumbersTold}
-use Rattle.laws.specs.TablePlace.{table-place}
+use Rattle.laws.specs.TableFault.{broken-class}
 use Rattle.laws.specs.WriterAnswers.{early-refused, right-lists, too-long-written}
 use Rattle.laws.specs.WriterAnswers
 
@@ -38,7 +38,7 @@ module _ (T : List ℕ) (type format count : ℕ) (rs buffer : List ℕ) (room :
   Refused = WriterRefusal T type format count rs buffer room
 
   early-placed : {n p : ℕ} → Early T type format buffer n p → Refused n p
-  early-placed (table-refused {c} {p} e) = wrong-table (table-place T p .0 c e)
+  early-placed (table-refused B) = wrong-table B
   early-placed (type-refused e t) = no-type
   early-placed (format-refused e t f) = wrong-format (format-wrong T type format f)
   early-placed (buffer-refused e t f l) = great-buffer l
@@ -67,7 +67,7 @@ unfolding output
 writer-refuses T type format count rs buffer room n p h = (stopped T type format count rs buffer room n p h, λ lent. ap (λ (o : Out (List ℕ)). output o lent) h)
 
 some-number : {T : List ℕ} {type format count : ℕ} {rs buffer : List ℕ} {room n p : ℕ} → WriterRefusal T type format count rs buffer room n p → 1 ≤ n
-some-number (wrong-table R) = omega arith
+some-number (wrong-table B) = omega (arith, broken-class B .0)
 some-number no-type = omega arith
 some-number (great-buffer l) = omega arith
 some-number (wrong-row l) = omega arith

@@ -20,10 +20,10 @@ use Rattle.encoding.specs.Table.{types, kind, Fault, fine, fault, faults, ruleN
 use Rattle.encoding.specs.Message.{noTop, limit}
 use Rattle.encoding.specs.Write.{noFormat}
 use Rattle.wire.specs.StepLaws.{rest-is}
-use Rattle.rules.specs.Checks.{verdictOf}
+use Rattle.rules.specs.Checks.{findingOf}
 use Rattle.shapes.specs.Shapes.{shapesOf}
-use Rattle.rules.specs.declared.Verdict.{Verdict}
-use Rattle.rules.specs.declared.Verdict.the-variants.{Fine, Broken}
+use Rattle.rules.specs.declared.Finding.{Finding}
+use Rattle.rules.specs.declared.Finding.the-variants.{Fine, Broken}
 use Rattle.prepare.specs.declared.Prepared.{Prepared}
 use Rattle.prepare.specs.declared.Prepared.the-variants.{Ready, Refused}
 use Rattle.prepare.specs.Preparing.{before, checked, checks, ReadyShapes}
@@ -92,21 +92,21 @@ refused-shapes T c p shapes = record { same = λ e. let z : _≡_ {A = ℕ} 0 1 
 pub ready-shapes : (T shapes : List ℕ) → shapes ≡ shapesOf T → ReadyShapes T Ready shapes
 ready-shapes T shapes e = record { same = λ _. e }
 
-module _ (T : List ℕ) (top format len : ℕ) (v : Verdict) (ev : v ≡ verdictOf (faults T)) where
-  pub broken-checks : (c p : ℕ) → v ≡ Broken c p → Refused 1 p ≡ checks T top format len
-  unfolding verdictOf checks checked ruleNumber
+module _ (T : List ℕ) (top format len : ℕ) (v : Finding) (ev : v ≡ findingOf (faults T)) where
+  pub broken-checks : (c p : ℕ) → v ≡ Broken c p → Refused c p ≡ checks T top format len
+  unfolding findingOf checks checked ruleNumber
   broken-checks c p q = go (faults T) (sym q ∙ ev)
     where
-      go : (f : Fault) → Broken c p ≡ verdictOf f → Refused 1 p ≡ checked f (before T top format len)
+      go : (f : Fault) → Broken c p ≡ findingOf f → Refused c p ≡ checked f (before T top format len)
       go fine h = let z : _≡_ {A = ℕ} 0 1 = cc in absurd (omega arith)
-      go (fault d x) h = let ex : p ≡ x = cc in ap (Refused 1) ex
+      go (fault d x) h = let ed : c ≡ d = cc in let ex : p ≡ x = cc in rw (ed, ex)
 
   module _ (q : v ≡ Fine) (n : ℕ) (en : n ≡ before T top format len) where
     passed : checks T top format len ≡ checked fine n
-    unfolding verdictOf checks
+    unfolding findingOf checks
     passed = go (faults T) (sym q ∙ ev)
       where
-        go : (f : Fault) → Fine ≡ verdictOf f → checked f (before T top format len) ≡ checked fine n
+        go : (f : Fault) → Fine ≡ findingOf f → checked f (before T top format len) ≡ checked fine n
         go fine h = ap (checked fine) (sym en)
         go (fault d x) h = let z : _≡_ {A = ℕ} 0 1 = cc in absurd (omega arith)
 

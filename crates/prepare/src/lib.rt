@@ -5,7 +5,7 @@ ghost use Rattle.encoding.specs.Number.{Bytes};
 ghost use Rattle.encoding.specs.Message.{noTop};
 ghost use Rattle.encoding.specs.Write.{noFormat};
 ghost use Rattle.prepare.specs.Preparing.{before, checks, ReadyShapes};
-use rules::Verdict;
+use rules::Finding;
 
 // The table breaks no rule and the shapes are computed; or a refusal's number and place.
 pub enum Prepared {
@@ -69,8 +69,8 @@ fn checked(table: &[u8], top: usize, format: usize, len: usize, shapes: &mut [u8
 {
     let v = rules::check(table);
     match v {
-        Verdict::Broken(c, p) => Prepared::Refused(1, p),
-        Verdict::Fine => {
+        Finding::Broken(c, p) => Prepared::Refused(c, p),
+        Finding::Fine => {
             let n = early(table, top, format, len);
             if n != 0 {
                 return Prepared::Refused(n, 0);

@@ -4,7 +4,7 @@
 --   low x                      the low 32 bits of a number
 --   toldOf k w                 the answer of a walk where the list has room for k rows
 --   rowCount w                 the rows of an accepted message, none of a refused one
---   readingBody T top m bytes  the answer without 1, 2 and 3: `reading` under a prepared table
+--   readingBody T top m bytes  the answer without 31 to 38, 2 and 3: `reading` under a prepared table
 use mathlib.Core.Path.{_≡_}
 use mathlib.Core.List.{List}
 use Prim.Native.Nat.{ℕ, _%_, _^_}

@@ -1,8 +1,8 @@
-// Checks of a table. The line: the refusal's number, its place and its rule class; 0 0 0 if the table breaks no rule, and then the form of an optional of each of its rows as a letter, `a` for number 0.
+// Checks of a table. The line: the number of the first broken rule and its place; 0 0 if the table breaks none, and then the form of an optional of each of its rows as a letter, `a` for number 0.
 // One recorded table has 250 struct rows, each with four members of the row before: no call may walk the trees of its types.
 use crate::print;
+use encoding::Verdict;
 use libc::STDOUT_FILENO;
-use rules::Verdict;
 
 // Prints a form as a letter.
 fn letter(form: usize) {
@@ -25,16 +25,15 @@ fn forms(table: &[u8]) {
 
 // Checks a table.
 pub fn check_call(table: &[u8]) {
-    let v = rules::check(table);
+    let v = codec::check(table);
     match v {
-        Verdict::Fine => {
-            io::write_all(STDOUT_FILENO, b"0 0 0 ");
+        Verdict::Sound => {
+            io::write_all(STDOUT_FILENO, b"0 0 ");
             forms(table);
         }
-        Verdict::Broken(class, place) => {
-            print::number(1);
-            print::number(place as u64);
-            io::print_decimal(STDOUT_FILENO, class as u64);
+        Verdict::Broken(rule, place) => {
+            print::number(rule as u64);
+            io::print_decimal(STDOUT_FILENO, place as u64);
         }
     }
     io::write_all(STDOUT_FILENO, b"\n");

@@ -39,13 +39,13 @@ use Rattle.encoding.specs.Table.{at, types, members, names, typesAt, rowAt, mem
 use Rattle.wire.specs.At.{at-more, at-split}
 use Rattle.table.specs.Names.{nameStart, isNamed}
 use Rattle.table.specs.NamesLaws.{name-part}
-use Rattle.rules.specs.Checks.{verdictOf, isSetFrom, noBaseOf, alikeFrom, enumRules, structRules, seqRules, dictRules, recordRules, listRules, kindRules, rowRules, share, isBasic, past, typePass, memberPass, isOptionalOf, isTagBefore, isTagAlike, requiredRules, optionalRules, memberRulesBy, memberRulesOf, isUsual, ownerPass, ownersPass, MembersThere, OwnersThere}
+use Rattle.rules.specs.Checks.{findingOf, isSetFrom, noBaseOf, alikeFrom, enumRules, structRules, seqRules, dictRules, recordRules, listRules, kindRules, rowRules, share, isBasic, past, typePass, memberPass, isOptionalOf, isTagBefore, isTagAlike, requiredRules, optionalRules, memberRulesBy, memberRulesOf, isUsual, ownerPass, ownersPass, MembersThere, OwnersThere}
 use Rattle.rules.specs.ChecksLaws.{row-rules, or-assoc, table-length, owners-pass, owners-there}
 use Rattle.table.specs.Rows.{typeRowOf, memberRowOf, IsTypeRow, IsMemberRow, greatestOf}
 use Rattle.table.specs.declared.TypeRow.{TypeRow}
 use Rattle.table.specs.declared.MemberRow.{MemberRow}
-use Rattle.rules.specs.declared.Verdict.{Verdict}
-use Rattle.rules.specs.declared.Verdict.the-variants.{Fine, Broken}
+use Rattle.rules.specs.declared.Finding.{Finding}
+use Rattle.rules.specs.declared.Finding.the-variants.{Fine, Broken}
 use Rattle.table.proofs.Places.{row-shows}
 use Rattle.table.proofs.Ranges.{range-more, range-none, range-left, range-empty, any-here, any-next, any-none, any-never, any-past}
 use Rattle.table.proofs.ByKind.{by-kind}
@@ -609,11 +609,11 @@ module _ (T : List ℕ) (t : ℕ) (basic : isBasic T t ≡ true) where
 -- ---- a pass
 
 module _ (place : ℕ → ℕ) (f : ℕ → List (ℕ × Bool)) (r c : ℕ) (l : List ℕ) (e : c ≡ firstOf (f r)) where
-  pass-fault : (c ≡ 0 → ⊥) → verdictOf (pass place f (r ∷ l)) ≡ Broken c (place r)
-  unfolding pass verdictOf orElse faultAt
+  pass-fault : (c ≡ 0 → ⊥) → findingOf (pass place f (r ∷ l)) ≡ Broken c (place r)
+  unfolding pass findingOf orElse faultAt
   pass-fault h = rw (← e) (go c h)
     where
-      go : (c : ℕ) → (c ≡ 0 → ⊥) → verdictOf (orElse (faultAt (place r) c) (pass place f l)) ≡ Broken c (place r)
+      go : (c : ℕ) → (c ≡ 0 → ⊥) → findingOf (orElse (faultAt (place r) c) (pass place f l)) ≡ Broken c (place r)
       go zero h = absurd (h refl)
       go (suc c) h = refl
 
@@ -621,18 +621,18 @@ module _ (place : ℕ → ℕ) (f : ℕ → List (ℕ × Bool)) (r c : ℕ) (l :
   unfolding pass orElse faultAt
   pass-next h = rw (← e, h)
 
-or-verdict : (f g : Fault) → verdictOf f ≡ Fine → verdictOf (orElse f g) ≡ verdictOf g
-unfolding verdictOf orElse
-or-verdict fine g e = refl
-or-verdict (fault c p) g e = let z : _≡_ {A = ℕ} 0 1 = cc in absurd (omega arith)
+or-finding : (f g : Fault) → findingOf f ≡ Fine → findingOf (orElse f g) ≡ findingOf g
+unfolding findingOf orElse
+or-finding fine g e = refl
+or-finding (fault c p) g e = let z : _≡_ {A = ℕ} 0 1 = cc in absurd (omega arith)
 
-or-broken : (f g : Fault) (c p : ℕ) → verdictOf f ≡ Broken c p → verdictOf (orElse f g) ≡ Broken c p
-unfolding verdictOf orElse
+or-broken : (f g : Fault) (c p : ℕ) → findingOf f ≡ Broken c p → findingOf (orElse f g) ≡ Broken c p
+unfolding findingOf orElse
 or-broken fine g c p e = let z : _≡_ {A = ℕ} 0 1 = cc in absurd (omega arith)
 or-broken (fault k q) g c p e = e
 
-is-fine : (f : Fault) → verdictOf f ≡ Fine → f ≡ fine
-unfolding verdictOf
+is-fine : (f : Fault) → findingOf f ≡ Fine → f ≡ fine
+unfolding findingOf
 is-fine fine e = refl
 is-fine (fault c p) e = let z : _≡_ {A = ℕ} 0 1 = cc in absurd (omega arith)
 
@@ -642,7 +642,7 @@ pub record Types (T : List ℕ) (n t prior from : ℕ) : Type 0 where
   pub few : n < 65536
   pub sum : Sum T t prior
   pub plain : Plain T t from
-  pub rest : verdictOf (typePass T) ≡ verdictOf (pass (rowAt T) (typeRules T) (range t (n - t)))
+  pub rest : findingOf (typePass T) ≡ findingOf (pass (rowAt T) (typeRules T) (range t (n - t)))
 
 pub types-begin : (T : List ℕ) → ((i : ℕ) → getD T i 0 < 256) → (n : ℕ) → n ≡ types T → Types T n 0 0 0
 unfolding typePass types
@@ -650,19 +650,19 @@ types-begin T small n e = let z : n - 0 ≡ types T = omega arith in record { wi
 
 module _ (T : List ℕ) (n t prior from : ℕ) (inv : Types T n t prior from) where
   module _ (e : n ≡ types T) (h : n ≤ t) (m : ℕ) (em : m ≡ members T) where
-    rows-fine : verdictOf (orElse (typePass T) (sumRules T)) ≡ verdictOf (sumRules T)
-    unfolding verdictOf pass
-    rows-fine = or-verdict (typePass T) (sumRules T) (inv .rest ∙ rw (range-none t n h))
+    rows-fine : findingOf (orElse (typePass T) (sumRules T)) ≡ findingOf (sumRules T)
+    unfolding findingOf pass
+    rows-fine = or-finding (typePass T) (sumRules T) (inv .rest ∙ rw (range-none t n h))
 
     sum-is : prior ≡ taken T (types T)
     sum-is = let z : t ≡ types T = omega (arith, inv .within) in inv .sum .so-far ∙ ap (taken T) z
 
-    pub types-sum : (prior ≡ m → ⊥) → Broken 35 0 ≡ verdictOf (orElse (typePass T) (sumRules T))
-    unfolding sumRules faultAt verdictOf
+    pub types-sum : (prior ≡ m → ⊥) → Broken 35 0 ≡ findingOf (orElse (typePass T) (sumRules T))
+    unfolding sumRules faultAt findingOf
     types-sum z = sym (rows-fine ∙ rw (← sum-is, ← em, ne-eqb prior m z))
 
-    pub types-end : prior ≡ m → Fine ≡ verdictOf (orElse (typePass T) (sumRules T))
-    unfolding sumRules faultAt verdictOf
+    pub types-end : prior ≡ m → Fine ≡ findingOf (orElse (typePass T) (sumRules T))
+    unfolding sumRules faultAt findingOf
     types-end z = sym (rows-fine ∙ rw (← sum-is, ← em, eq-eqb prior m z))
 
   pub types-basic : t < n → (b : Bool) → b ≡ isBasic T t → b ≡ true → (f : ℕ) → f ≡ past from t true → Types T n (t + 1) prior f
@@ -673,7 +673,7 @@ module _ (T : List ℕ) (n t prior from : ℕ) (inv : Types T n t prior from) wh
         few = inv .few;
         sum = rw add-zero at (sum-next T t prior 0 (inv .sum) (basic-share T t basic) (omega arith));
         plain = rw ef (plain-next T t from (inv .plain) true (λ y. basic-plain T t basic));
-        rest = inv .rest ∙ rw (range-more t n h) (ap verdictOf (pass-next (rowAt T) (typeRules T) t 0 (range (t + 1) (n - (t + 1))) (basic-rules T t basic) refl));
+        rest = inv .rest ∙ rw (range-more t n h) (ap findingOf (pass-next (rowAt T) (typeRules T) t 0 (range (t + 1) (n - (t + 1))) (basic-rules T t basic) refl));
       }
 
   module _ (h : t < n) (r : TypeRow) (er : IsTypeRow T t r) (c : ℕ) (e : c ≡ firstOf (rowRules T t r prior (alikeFrom T from t))) where
@@ -682,7 +682,7 @@ module _ (T : List ℕ) (n t prior from : ℕ) (inv : Types T n t prior from) wh
         e ∙ ap₂ (λ (z : TypeRow) (y : ℕ). firstOf (rowRules T t z y (alikeFrom T from t))) (whole-type T t r er) (inv .sum .so-far)
         ∙ ap (λ (b : Bool). firstOf (rowRules T t (typeRowOf T t) (taken T t) b)) (alike-from T t from (inv .plain)) ∙ row-rules T t
 
-    pub types-fault : (c ≡ 0 → ⊥) → (p : ℕ) → p ≡ rowAt T t → Broken c p ≡ verdictOf (orElse (typePass T) (sumRules T))
+    pub types-fault : (c ≡ 0 → ⊥) → (p : ℕ) → p ≡ rowAt T t → Broken c p ≡ findingOf (orElse (typePass T) (sumRules T))
     types-fault z p ep = ap (Broken c) ep ∙ sym (or-broken (typePass T) (sumRules T) c (rowAt T t) (inv .rest ∙ rw (range-more t n h) (pass-fault (rowAt T) (typeRules T) t c (range (t + 1) (n - (t + 1))) types-row z)))
 
     pub types-next : c ≡ 0 → (s : ℕ) → s ≡ share r → s ≤ r .b → (b : Bool) → b ≡ isRecord (r .kind) → (f : ℕ) → f ≡ past from t (not b) → Types T n (t + 1) (prior + s) f
@@ -691,7 +691,7 @@ module _ (T : List ℕ) (n t prior from : ℕ) (inv : Types T n t prior from) wh
       few = inv .few;
       sum = sum-next T t prior s (inv .sum) (es ∙ ap share (whole-type T t r er)) (omega (arith, er .b-small));
       plain = rw ef (plain-next T t from (inv .plain) (not b) (λ q. sym (eb ∙ ap isRecord (er .kind-is)) ∙ not-true b q));
-      rest = inv .rest ∙ rw (range-more t n h) (ap verdictOf (pass-next (rowAt T) (typeRules T) t c (range (t + 1) (n - (t + 1))) types-row z));
+      rest = inv .rest ∙ rw (range-more t n h) (ap findingOf (pass-next (rowAt T) (typeRules T) t c (range (t + 1) (n - (t + 1))) types-row z));
     }
 
 -- ---- member rows
@@ -793,18 +793,18 @@ pub record Owner (T : List ℕ) (o : ℕ) (own : TypeRow) (left m above : ℕ) :
   pub bytes : (i : ℕ) → getD T i 0 < 256
   pub own-is : IsTypeRow T o own
   pub below : (i : ℕ) → field T o 0 ≤ i → i < m → tag T i < above
-  pub rest : verdictOf (ownerPass T o) ≡ verdictOf (pass (memberAt T) (memberRulesOf T o) (range m left))
+  pub rest : findingOf (ownerPass T o) ≡ findingOf (pass (memberAt T) (memberRulesOf T o) (range m left))
 
 -- none taken; some that are not there; the loop begins
 module _ (T : List ℕ) (o left : ℕ) (own : TypeRow) (eo : IsTypeRow T o own) (el : left ≡ share own) where
   left-is : left ≡ share (typeRowOf T o)
   left-is = el ∙ ap share (whole-type T o own eo)
 
-  pub owner-none : left ≡ 0 → Fine ≡ verdictOf (ownerPass T o)
-  unfolding ownerPass verdictOf pass range
+  pub owner-none : left ≡ 0 → Fine ≡ findingOf (ownerPass T o)
+  unfolding ownerPass findingOf pass range
   owner-none z = rw (← left-is, z)
 
-  pub owner-short : (left ≡ 0 → ⊥) → (k : ℕ) → k ≡ members T → k < own .a + left → MembersThere T o → Broken 35 0 ≡ verdictOf (ownerPass T o)
+  pub owner-short : (left ≡ 0 → ⊥) → (k : ℕ) → k ≡ members T → k < own .a + left → MembersThere T o → Broken 35 0 ≡ findingOf (ownerPass T o)
   owner-short z k ek h all = absurd (omega (arith, all .there (omega (arith, left-is)), left-is, eo .a-is))
 
   pub owner-begin : ((i : ℕ) → getD T i 0 < 256) → Owner T o own left (own .a) 0
@@ -895,8 +895,8 @@ module _ (T : List ℕ) (o : ℕ) (own : TypeRow) (r : MemberRow) (x above : ℕ
           usual-optional (eqb-false _ _ (not-true _ (sym eu ∙ a .0))) (eqb-true _ _ (d .0)) (leb-true _ _ (f .0)) (ltb-true _ _ (f .1))
 
 module _ (T : List ℕ) (o : ℕ) (own : TypeRow) (left m above : ℕ) (inv : Owner T o own left m above) where
-  pub owner-end : left ≤ 0 → Fine ≡ verdictOf (ownerPass T o)
-  unfolding verdictOf pass
+  pub owner-end : left ≤ 0 → Fine ≡ findingOf (ownerPass T o)
+  unfolding findingOf pass
   owner-end h = sym (inv .rest ∙ rw (range-empty m left h))
 
   -- a tag that is not below `above` is not among them
@@ -924,7 +924,7 @@ module _ (T : List ℕ) (o : ℕ) (own : TypeRow) (left m above : ℕ) (inv : Ow
   module _ (h : 0 < left) where
     -- a row of class c
     module _ (c : ℕ) (e : c ≡ firstOf (memberRulesOf T o m)) where
-      class-fault : (c ≡ 0 → ⊥) → (p : ℕ) → p ≡ memberAt T m → Broken c p ≡ verdictOf (ownerPass T o)
+      class-fault : (c ≡ 0 → ⊥) → (p : ℕ) → p ≡ memberAt T m → Broken c p ≡ findingOf (ownerPass T o)
       class-fault z p ep = ap (Broken c) ep ∙ sym (inv .rest ∙ rw (range-left m left h) (pass-fault (memberAt T) (memberRulesOf T o) m c (range (m + 1) (left - 1)) e z))
 
       class-next : c ≡ 0 → (a : ℕ) → a ≡ max above (tag T m + 1) → Owner T o own (left - 1) (m + 1) a
@@ -932,7 +932,7 @@ module _ (T : List ℕ) (o : ℕ) (own : TypeRow) (left m above : ℕ) (inv : Ow
         bytes = inv .bytes;
         own-is = inv .own-is;
         below = λ i l k. ⊎-elim (λ q. omega (arith, ap (tag T) q)) (λ q. omega (arith, inv .below i l q)) (eq-or-lt-of-le {n = i} {m = m} (omega arith));
-        rest = inv .rest ∙ rw (range-left m left h) (ap verdictOf (pass-next (memberAt T) (memberRulesOf T o) m c (range (m + 1) (left - 1)) e z));
+        rest = inv .rest ∙ rw (range-left m left h) (ap findingOf (pass-next (memberAt T) (memberRulesOf T o) m c (range (m + 1) (left - 1)) e z));
       }
 
     -- a row read whole
@@ -943,7 +943,7 @@ module _ (T : List ℕ) (o : ℕ) (own : TypeRow) (left m above : ℕ) (inv : Ow
           e ∙ ap₂ (λ (y : TypeRow) (z : MemberRow). firstOf (memberRulesBy T o y z (isTagAlike T (y .a) m above (z .tag)))) (whole-type T o own (inv .own-is)) (whole-member T m r er)
           ∙ ap (λ (b : Bool). firstOf (memberRulesBy T o (typeRowOf T o) (memberRowOf T m) b)) (tag-alike (tag T m))
 
-      pub owner-fault : (c ≡ 0 → ⊥) → (p : ℕ) → p ≡ memberAt T m → Broken c p ≡ verdictOf (ownerPass T o)
+      pub owner-fault : (c ≡ 0 → ⊥) → (p : ℕ) → p ≡ memberAt T m → Broken c p ≡ findingOf (ownerPass T o)
       owner-fault z = class-fault c owner-row z
 
       pub owner-next : c ≡ 0 → (a : ℕ) → a ≡ max above (r .tag + 1) → Owner T o own (left - 1) (m + 1) a
@@ -961,7 +961,7 @@ module _ (T : List ℕ) (o : ℕ) (own : TypeRow) (left m above : ℕ) (inv : Ow
           usual-rules T o (typeRowOf T o) (memberRowOf T m) x above parts (isTagBefore T (field T o 0) m (tag T m)) (tag-new (tag T m)) s (sym q ∙ eb ∙ ap (noPart T o) z)
           (not (eqb (own .kind) 9)) (ap (λ (k : ℕ). not (eqb k 9)) (inv .own-is .kind-is)) (sym eu ∙ not-false u usual)
 
-      pub usual-fault : b ≡ true → Broken 34 p ≡ verdictOf (ownerPass T o)
+      pub usual-fault : b ≡ true → Broken 34 p ≡ findingOf (ownerPass T o)
       usual-fault q = class-fault 34 (usual-class true q) (λ z. omega arith) p ep
 
       pub usual-next : b ≡ false → (a : ℕ) → a ≡ max above (x / 4294967296 + 1) → Owner T o own (left - 1) (m + 1) a
@@ -970,27 +970,27 @@ module _ (T : List ℕ) (o : ℕ) (own : TypeRow) (left m above : ℕ) (inv : Ow
 -- over the owners
 pub record Owners (T : List ℕ) (n o : ℕ) : Type 0 where
   pub within : o ≤ n
-  pub rest : OwnersThere T → verdictOf (ownersPass T (range 0 (types T))) ≡ verdictOf (ownersPass T (range o (n - o)))
+  pub rest : OwnersThere T → findingOf (ownersPass T (range 0 (types T))) ≡ findingOf (ownersPass T (range o (n - o)))
 
 pub owners-begin : (T : List ℕ) (n : ℕ) → n ≡ types T → Owners T n 0
 owners-begin T n e = let z : n - 0 ≡ types T = omega arith in record { within = omega arith; rest = λ there. rw z }
 
 module _ (T : List ℕ) (n o : ℕ) (inv : Owners T n o) where
-  pub owners-end : n ≤ o → OwnersThere T → Fine ≡ verdictOf (ownersPass T (range 0 (types T)))
-  unfolding verdictOf ownersPass
+  pub owners-end : n ≤ o → OwnersThere T → Fine ≡ findingOf (ownersPass T (range 0 (types T)))
+  unfolding findingOf ownersPass
   owners-end h there = sym (inv .rest there ∙ rw (range-none o n h))
 
-  module _ (h : o < n) (en : n ≡ types T) (v : Verdict) (e : MembersThere T o → v ≡ verdictOf (ownerPass T o)) where
-    owner-says : OwnersThere T → verdictOf (ownerPass T o) ≡ v
+  module _ (h : o < n) (en : n ≡ types T) (v : Finding) (e : MembersThere T o → v ≡ findingOf (ownerPass T o)) where
+    owner-says : OwnersThere T → findingOf (ownerPass T o) ≡ v
     owner-says there = sym (e (there .owners o (omega arith)))
 
-    pub owners-fault : (c p : ℕ) → v ≡ Broken c p → OwnersThere T → Broken c p ≡ verdictOf (ownersPass T (range 0 (types T)))
+    pub owners-fault : (c p : ℕ) → v ≡ Broken c p → OwnersThere T → Broken c p ≡ findingOf (ownersPass T (range 0 (types T)))
     unfolding ownersPass
     owners-fault c p q there = sym (inv .rest there ∙ rw (range-more o n h) (or-broken (ownerPass T o) _ c p (owner-says there ∙ q)))
 
     pub owners-next : v ≡ Fine → Owners T n (o + 1)
     unfolding ownersPass
-    owners-next q = record { within = omega arith; rest = λ there. inv .rest there ∙ rw (range-more o n h) (or-verdict (ownerPass T o) _ (owner-says there ∙ q)) }
+    owners-next q = record { within = omega arith; rest = λ there. inv .rest there ∙ rw (range-more o n h) (or-finding (ownerPass T o) _ (owner-says there ∙ q)) }
 
 -- ---- header, type rows and member sum, member rows
 
@@ -999,11 +999,11 @@ module _ (T : List ℕ) (h : ℕ) (eh : faultAt 0 h ≡ headerRules T) where
   unfolding faults passes typePass memberPass
   all = rw (eh, or-assoc)
 
-  pub check-header : (h ≡ 0 → ⊥) → Broken h 0 ≡ verdictOf (faults T)
-  unfolding verdictOf faultAt
-  check-header z = sym (ap verdictOf all ∙ or-broken (faultAt 0 h) _ h 0 (go h z))
+  pub check-header : (h ≡ 0 → ⊥) → Broken h 0 ≡ findingOf (faults T)
+  unfolding findingOf faultAt
+  check-header z = sym (ap findingOf all ∙ or-broken (faultAt 0 h) _ h 0 (go h z))
     where
-      go : (h : ℕ) → (h ≡ 0 → ⊥) → verdictOf (faultAt 0 h) ≡ Broken h 0
+      go : (h : ℕ) → (h ≡ 0 → ⊥) → findingOf (faultAt 0 h) ≡ Broken h 0
       go zero z = absurd (z refl)
       go (suc c) z = refl
 
@@ -1015,20 +1015,20 @@ module _ (T : List ℕ) (h : ℕ) (eh : faultAt 0 h ≡ headerRules T) where
     pub check-rows : (n : ℕ) → n ≡ types T → rowAt T n ≤ length T
     check-rows n en = omega (arith, check-all-rows (members T) refl)
 
-  module _ (head : h ≡ 0) (v : Verdict) (ev : v ≡ verdictOf (orElse (typePass T) (sumRules T))) where
-    past-header : verdictOf (faults T) ≡ verdictOf (orElse (orElse (typePass T) (sumRules T)) (orElse (memberPass T) fine))
-    unfolding faultAt verdictOf
-    past-header = ap verdictOf all ∙ rw head (or-verdict fine _ refl)
+  module _ (head : h ≡ 0) (v : Finding) (ev : v ≡ findingOf (orElse (typePass T) (sumRules T))) where
+    past-header : findingOf (faults T) ≡ findingOf (orElse (orElse (typePass T) (sumRules T)) (orElse (memberPass T) fine))
+    unfolding faultAt findingOf
+    past-header = ap findingOf all ∙ rw head (or-finding fine _ refl)
 
-    pub check-types : (c p : ℕ) → v ≡ Broken c p → Broken c p ≡ verdictOf (faults T)
+    pub check-types : (c p : ℕ) → v ≡ Broken c p → Broken c p ≡ findingOf (faults T)
     check-types c p q = sym (past-header ∙ or-broken (orElse (typePass T) (sumRules T)) _ c p (sym ev ∙ q))
 
-    pub check-members : v ≡ Fine → (w : Verdict) → (OwnersThere T → w ≡ verdictOf (ownersPass T (range 0 (types T)))) → w ≡ verdictOf (faults T)
-    unfolding orElse verdictOf
+    pub check-members : v ≡ Fine → (w : Finding) → (OwnersThere T → w ≡ findingOf (ownersPass T (range 0 (types T)))) → w ≡ findingOf (faults T)
+    unfolding orElse findingOf
     check-members q w e =
         let f = is-fine (orElse (typePass T) (sumRules T)) (sym ev ∙ q) in
-        e (owners-there T f) ∙ ap verdictOf (owners-pass T f) ∙ sym (past-header ∙ or-verdict (orElse (typePass T) (sumRules T)) _ (sym ev ∙ q) ∙ last (memberPass T))
+        e (owners-there T f) ∙ ap findingOf (owners-pass T f) ∙ sym (past-header ∙ or-finding (orElse (typePass T) (sumRules T)) _ (sym ev ∙ q) ∙ last (memberPass T))
       where
-        last : (f : Fault) → verdictOf (orElse f fine) ≡ verdictOf f
+        last : (f : Fault) → findingOf (orElse f fine) ≡ findingOf f
         last fine = refl
         last (fault c p) = refl

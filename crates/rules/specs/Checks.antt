@@ -1,6 +1,6 @@
 -- The rules of a table as the code takes them: the type rules by kind, the member rules by owner.
 --
---   verdictOf                 fine, or the class and the place of the first rule that is broken
+--   findingOf                 fine, or the class and the place of the first rule that is broken
 --   isSetFrom                 a field of a row, from field i on, is not 0
 --   noBaseOf                  row b - 1 is no base of row t of kind k
 --   alikeFrom                 a record among rows `from` to t - 1 has the name of row t
@@ -29,12 +29,12 @@ use Rattle.table.specs.Names.{isNamed}
 use Rattle.table.specs.Rows.{typeRowOf, memberRowOf, greatestOf}
 use Rattle.table.specs.declared.TypeRow.{TypeRow}
 use Rattle.table.specs.declared.MemberRow.{MemberRow}
-use Rattle.rules.specs.declared.Verdict.{Verdict}
-use Rattle.rules.specs.declared.Verdict.the-variants.{Fine, Broken}
+use Rattle.rules.specs.declared.Finding.{Finding}
+use Rattle.rules.specs.declared.Finding.the-variants.{Fine, Broken}
 
-unfoldable pub verdictOf : Fault → Verdict
-verdictOf fine = Fine
-verdictOf (fault c p) = Broken c p
+unfoldable pub findingOf : Fault → Finding
+findingOf fine = Fine
+findingOf (fault c p) = Broken c p
 
 -- ---- type rows
 

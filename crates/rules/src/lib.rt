@@ -8,10 +8,10 @@ ghost use lib.ListN.{length, take};
 ghost use Rattle.encoding.specs.Result.{firstOf, sameBytes};
 ghost use Rattle.encoding.specs.Table.{any, range, types, members, rowAt, membersAt, memberAt, headerRules, sumRules, orElse, used, noPart, faultAt, faults};
 ghost use Rattle.table.specs.Names.{isNamed};
-ghost use Rattle.rules.specs.Checks.{verdictOf, isSetFrom, noBaseOf, alikeFrom, enumRules, structRules, seqRules, dictRules, recordRules, listRules, kindRules, rowRules, share, isBasic, past, typePass, isOptionalOf, isTagBefore, isTagAlike, requiredRules, optionalRules, memberRulesBy, isUsual, ownerPass, ownersPass, MembersThere, OwnersThere};
+ghost use Rattle.rules.specs.Checks.{findingOf, isSetFrom, noBaseOf, alikeFrom, enumRules, structRules, seqRules, dictRules, recordRules, listRules, kindRules, rowRules, share, isBasic, past, typePass, isOptionalOf, isTagBefore, isTagAlike, requiredRules, optionalRules, memberRulesBy, isUsual, ownerPass, ownersPass, MembersThere, OwnersThere};
 
 // No rule is broken; or the class and the place of the first broken one.
-pub enum Verdict {
+pub enum Finding {
     Fine,
     Broken(usize, usize),
 }
@@ -345,10 +345,10 @@ fn past(from: usize, t: usize, plain: bool) -> usize
 }
 
 // The pass over the n type rows, then the member sum. A basic row breaks no rule and takes no member rows. No row before `from` is a record.
-fn type_rows(table: &[u8], n: usize) -> Verdict
+fn type_rows(table: &[u8], n: usize) -> Finding
     requires { ⌜ n ≡ types (now table) ⌝ }
     requires { ⌜ rowAt (now table) n ≤ length (now table) ⌝ }
-    ensures { λ r. ⌜ r ≡ verdictOf (orElse (typePass (now (table .entry))) (sumRules (now (table .entry)))) ⌝ }
+    ensures { λ r. ⌜ r ≡ findingOf (orElse (typePass (now (table .entry))) (sumRules (now (table .entry)))) ⌝ }
 {
     let mut prior = 0;
     let mut from = 0;
@@ -362,16 +362,16 @@ fn type_rows(table: &[u8], n: usize) -> Verdict
         let row = table::type_row_in(table, t);
         let c = type_class(table, t, row, prior, from);
         if c != 0 {
-            return Verdict::Broken(c, table::row_at(table, t));
+            return Finding::Broken(c, table::row_at(table, t));
         }
         prior += share(row);
         from = past(from, t, !table::is_record(row.kind));
         t += 1;
     }
     if prior != table::members(table) {
-        return Verdict::Broken(35, 0);
+        return Finding::Broken(35, 0);
     }
-    Verdict::Fine
+    Finding::Fine
 }
 
 // Member row i is optional and has this tag.
@@ -504,19 +504,19 @@ fn is_usual(x: usize, optional: bool, above: usize) -> bool
 
 // The rules of the member rows of owner o, if they are all there, as they are once the member sum is right. The table has k member rows, from `first` on.
 // The first loop judges usual rows, each as one number; from the first other row on, the second loop judges each row rule by rule. The tags before row m are below `above`.
-fn owner(table: &[u8], o: usize, first: usize, k: usize) -> Verdict
+fn owner(table: &[u8], o: usize, first: usize, k: usize) -> Finding
     requires { ⌜ rowAt (now table) (o + 1) ≤ length (now table) ⌝ }
     requires { ⌜ (first ≡ membersAt (now table)) × (k ≡ members (now table)) ⌝ }
     requires { ⌜ memberAt (now table) k ≤ length (now table) ⌝ }
-    ensures { λ r. ⌜ (MembersThere (now (table .entry)) o → r ≡ verdictOf (ownerPass (now (table .entry)) o)) ⌝ }
+    ensures { λ r. ⌜ (MembersThere (now (table .entry)) o → r ≡ findingOf (ownerPass (now (table .entry)) o)) ⌝ }
 {
     let own = table::type_row_in(table, o);
     let mut left = share(own);
     if left == 0 {
-        return Verdict::Fine;
+        return Finding::Fine;
     }
     if k < own.a + left {
-        return Verdict::Broken(35, 0);
+        return Finding::Broken(35, 0);
     }
     let mut m = own.a;
     let mut above = 0;
@@ -528,7 +528,7 @@ fn owner(table: &[u8], o: usize, first: usize, k: usize) -> Verdict
             break;
         }
         if no_part(table, o, x % 65536) {
-            return Verdict::Broken(34, p);
+            return Finding::Broken(34, p);
         }
         above = raised(above, x / 4294967296);
         m += 1;
@@ -538,51 +538,51 @@ fn owner(table: &[u8], o: usize, first: usize, k: usize) -> Verdict
         let row = table::member_row_in(table, first, m);
         let c = member_class(table, o, own, m, row, above);
         if c != 0 {
-            return Verdict::Broken(c, table::member_at(table, first, m));
+            return Finding::Broken(c, table::member_at(table, first, m));
         }
         above = raised(above, row.tag);
         m += 1;
         left -= 1;
     }
-    Verdict::Fine
+    Finding::Fine
 }
 
 // The pass over the k member rows, owner by owner of the n type rows, if the member rows of each owner are all there.
-fn member_rows(table: &[u8], n: usize, k: usize) -> Verdict
+fn member_rows(table: &[u8], n: usize, k: usize) -> Finding
     requires { ⌜ (n ≡ types (now table)) × (k ≡ members (now table)) ⌝ }
     requires { ⌜ memberAt (now table) k ≤ length (now table) ⌝ }
-    ensures { λ r. ⌜ (OwnersThere (now (table .entry)) → r ≡ verdictOf (ownersPass (now (table .entry)) (range 0 (types (now (table .entry)))))) ⌝ }
+    ensures { λ r. ⌜ (OwnersThere (now (table .entry)) → r ≡ findingOf (ownersPass (now (table .entry)) (range 0 (types (now (table .entry)))))) ⌝ }
 {
     let first = table::row_at(table, n);
     let mut o = 0;
     while o < n {
         let v = owner(table, o, first, k);
         match v {
-            Verdict::Fine => {}
-            Verdict::Broken(c, p) => {
-                return Verdict::Broken(c, p);
+            Finding::Fine => {}
+            Finding::Broken(c, p) => {
+                return Finding::Broken(c, p);
             }
         }
         o += 1;
     }
-    Verdict::Fine
+    Finding::Fine
 }
 
 // The first rule that the table breaks.
-pub fn check(table: &[u8]) -> Verdict
-    ensures { λ r. ⌜ r ≡ verdictOf (faults (now (table .entry))) ⌝ }
+pub fn check(table: &[u8]) -> Finding
+    ensures { λ r. ⌜ r ≡ findingOf (faults (now (table .entry))) ⌝ }
 {
     let h = header(table);
     if h != 0 {
-        return Verdict::Broken(h, 0);
+        return Finding::Broken(h, 0);
     }
     let n = table::types(table);
     let v = type_rows(table, n);
     match v {
-        Verdict::Broken(c, p) => {
-            return Verdict::Broken(c, p);
+        Finding::Broken(c, p) => {
+            return Finding::Broken(c, p);
         }
-        Verdict::Fine => {}
+        Finding::Fine => {}
     }
     member_rows(table, n, table::members(table))
 }

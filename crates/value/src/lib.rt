@@ -246,7 +246,7 @@ fn pair(
     }
 }
 
-// A value of row t of the table; a row that has no tree is refused by 1 here.
+// A value of row t of the table; a row that has no tree is refused by 4 here.
 pub fn read_value(table: &[u8], shapes: &[u8; 256], t: usize, s: &[u8]) -> Step
     requires { ⌜ now shapes ≡ shapesOf (now table) ⌝ }
     ensures { λ r. ⌜ r ≡ stepOf (value (tyOf (now (table .entry)) t) (now (s .entry))) ⌝ }

@@ -1,7 +1,7 @@
 //! Calls and their answers, as the recorded calls have them: one JSON object a line.
 
 use crate::json::{hex, Json};
-use crate::{check, class, member, read, write, Reading, Refusal};
+use crate::{check, member, read, write, Reading, Refusal};
 
 #[derive(Clone, Debug)]
 pub enum Call {
@@ -38,7 +38,6 @@ pub enum Call {
 pub enum Answer {
     Check {
         refusal: Refusal,
-        class: u32,
     },
     /// `reading.rows` is the number of `rows`.
     Read {
@@ -65,9 +64,7 @@ impl Call {
     /// The answer of this implementation.
     pub fn answer(&self) -> Answer {
         match self {
-            Call::Check { table } => {
-                Answer::Check { refusal: check(table).err().unwrap_or_default(), class: class(table) }
-            }
+            Call::Check { table } => Answer::Check { refusal: check(table).err().unwrap_or_default() },
             Call::Read { table, top, message, room } => {
                 let mut rows = vec![LENT; *room];
                 let result = read(table, *top, message, &mut rows);
@@ -112,7 +109,7 @@ impl Call {
         let refusal = || Some((expect.number("no")?, expect.number("place")?));
         let table = call.bytes("table")?;
         Some(match call.text("op")? {
-            "check" => (Call::Check { table }, Answer::Check { refusal: refusal()?, class: expect.number("class")? }),
+            "check" => (Call::Check { table }, Answer::Check { refusal: refusal()? }),
             "read" => {
                 let Json::List(rows) = expect.get("rows")? else { return None };
                 let rows = rows.iter().map(row).collect::<Option<Vec<_>>>()?;
@@ -197,16 +194,14 @@ impl Answer {
     /// The number of the refusal, or 0.
     pub fn refusal(&self) -> u32 {
         match self {
-            Answer::Check { refusal, .. } | Answer::Read { refusal, .. } | Answer::Write { refusal, .. } => refusal.0,
+            Answer::Check { refusal } | Answer::Read { refusal, .. } | Answer::Write { refusal, .. } => refusal.0,
             Answer::View { .. } | Answer::Astray => 0,
         }
     }
 
     pub fn json(&self) -> String {
         match self {
-            Answer::Check { refusal: (no, place), class } => {
-                format!(r#"{{"no":{no},"place":{place},"class":{class}}}"#)
-            }
+            Answer::Check { refusal: (no, place) } => format!(r#"{{"no":{no},"place":{place}}}"#),
             Answer::Read { refusal: (no, place), reading, rows } => {
                 let rows: Vec<_> = rows.iter().map(|[m, place, length]| format!("[{m},{place},{length}]")).collect();
                 format!(

@@ -6,6 +6,8 @@ use crate::Reading;
 use std::hint::black_box;
 
 extern "C" {
+    fn icehub_table(table: *const u8, table_length: usize) -> u32;
+    fn icehub_table_place(table: *const u8, table_length: usize) -> u32;
     fn icehub_read(
         table: *const u8,
         table_length: usize,
@@ -273,11 +275,21 @@ pub fn each(call: &Call, mut run: impl FnMut(&'static str, &mut dyn FnMut())) {
                 });
             }
         }
-        Call::Check { .. } | Call::View { .. } => {}
+        Call::Check { table } => {
+            run("icehub_table", &mut || {
+                // SAFETY: the pointer comes with the length of its slice; nothing is written.
+                black_box(unsafe { icehub_table(table.as_ptr(), table.len()) });
+            });
+            run("icehub_table_place", &mut || {
+                // SAFETY: as above.
+                black_box(unsafe { icehub_table_place(table.as_ptr(), table.len()) });
+            });
+        }
+        Call::View { .. } => {}
     }
 }
 
-/// The library's answer to a call of the reader, the writer or the member view; none to a check, which C does not have.
+/// The library's answer to a call; none to one that C does not have.
 pub fn answer(call: &Call) -> Option<Answer> {
     match call {
         Call::Read { table, top, message, room } => {
@@ -313,6 +325,11 @@ pub fn answer(call: &Call) -> Option<Answer> {
             Some(Answer::of_write((refusal, further(icehub_write_place)), further(icehub_write_length), &lent))
         }
         Call::View { table, top, message, member, fallback } => Some(view((table, *top, message), *member, fallback)),
-        Call::Check { .. } => None,
+        Call::Check { table } => {
+            // SAFETY: each pointer comes with the length of its slice; nothing is written.
+            let refusal =
+                unsafe { (icehub_table(table.as_ptr(), table.len()), icehub_table_place(table.as_ptr(), table.len())) };
+            Some(Answer::Check { refusal })
+        }
     }
 }

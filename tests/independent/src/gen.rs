@@ -160,7 +160,8 @@ impl Iterator for Calls {
         Some(match rng.below(1_000) {
             0 => large(rng),
             1 => large_table(rng),
-            2..=79 => {
+            2..=29 => Call::Check { table: damaged_table(rng, types) },
+            30..=79 => {
                 let table = damaged_table(rng, types);
                 let message = message(rng, types, top, 0);
                 read_call(rng, table, top.into(), message)

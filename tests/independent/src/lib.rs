@@ -20,7 +20,7 @@ mod value;
 mod write;
 
 pub use read::{member, read, Reading};
-pub use table::{check, class};
+pub use table::check;
 pub use write::write;
 
 /// A refusal: its number and its place.

@@ -32,17 +32,9 @@ pub(crate) const FSIZE: u8 = 6;
 /// The greatest enumerator or tag.
 pub(crate) const GREATEST: u32 = 0x7FFF_FFFF;
 
-/// The rules of a type table: refusal 1 at place 0 or the row's first byte.
+/// The rules of a type table: the class of the first broken one, 31 to 38, at place 0 or the row's first byte.
 pub fn check(table: &[u8]) -> Result<(), Refusal> {
     Table::check(table, &mut [Shape::NONE; 256]).map(drop)
-}
-
-/// The class (31 to 38) of the first rule that a table breaks, 0 if it breaks none.
-pub fn class(table: &[u8]) -> u32 {
-    match Table::judge(table, &mut [Shape::NONE; 256]) {
-        Ok(_) => 0,
-        Err((class, _)) => class,
-    }
 }
 
 /// A type row.
@@ -171,12 +163,8 @@ pub(crate) struct Table<'t> {
 }
 
 impl<'t> Table<'t> {
-    pub fn check(bytes: &'t [u8], shapes: &'t mut Shapes) -> Result<Table<'t>, Refusal> {
-        Table::judge(bytes, shapes).map_err(|(_, place)| (1, place))
-    }
-
     /// The table, or the class and the place of the first rule broken: header, type rows, member sum, member rows.
-    fn judge(bytes: &'t [u8], shapes: &'t mut Shapes) -> Result<Table<'t>, (u32, u32)> {
+    pub fn check(bytes: &'t [u8], shapes: &'t mut Shapes) -> Result<Table<'t>, Refusal> {
         let Some((header, rest)) = bytes.split_first_chunk::<12>() else {
             return Err((31, 0));
         };

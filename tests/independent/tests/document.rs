@@ -2,7 +2,7 @@
 
 use independent::json::unhex;
 use independent::spec::{Member, Spec};
-use independent::{check, class, member, read, write, Reading, Refusal};
+use independent::{check, member, read, write, Reading, Refusal};
 
 type Row = [u32; 3];
 
@@ -465,8 +465,8 @@ fn sample() -> Spec {
 }
 
 /// The rule class and the place of a table's first fault; zeros if it has none.
-fn fault(table: &[u8]) -> (u32, u32) {
-    (class(table), check(table).err().map_or(0, |(_, place)| place))
+fn fault(table: &[u8]) -> Refusal {
+    check(table).err().unwrap_or_default()
 }
 
 /// The fault of the sample table with another byte at a place.
@@ -518,7 +518,7 @@ fn table_rules() {
     assert_eq!(broken(&|table| table.rows.push((14, [4, 0, 0, 0, 1])), None), (37, 60));
     assert_eq!(broken(&|table| table.rows[1].1[1] = 0x8000, None), (38, 24));
     assert_eq!(broken(&|table| table.members[2].1 = Some(1), None), (38, 76));
-    assert_eq!(class(&[]), 31);
+    assert_eq!(fault(&[]), (31, 0));
     // A base of the other record kind; a record as element, as key and as member; tags that neither rise nor fall.
     assert_eq!(broken(&|table| table.rows.push((14, [4, 0, 4, 0, 1])), None), (34, 60));
     assert_eq!(broken(&|table| table.rows.push((10, [3, 0, 0, 0, 0])), None), (34, 60));
@@ -533,14 +533,14 @@ fn table_bounds() {
     let bounds = |rows: usize, members: usize, names: usize| {
         let mut table = Spec { rows: vec![(1, [0; 5]); rows - 1], names: vec![0; names], ..Spec::default() };
         table.owner(15, &vec![(0, None); members]);
-        class(&table.bytes())
+        fault(&table.bytes()).0
     };
     assert_eq!((bounds(256, 1_024, 8_192), bounds(1, 0, 0)), (0, 0));
     assert_eq!((bounds(257, 0, 0), bounds(2, 1_025, 0), bounds(1, 0, 8_193)), (31, 31, 31));
     let name = |length: u16| {
         let mut table = Spec { names: vec![0; 300], ..Spec::default() };
         table.record_named(13, None, (300 - length, length), &[]);
-        class(&table.bytes())
+        fault(&table.bytes()).0
     };
     assert_eq!((name(0), name(1), name(255), name(256)), (37, 0, 0, 37));
 }

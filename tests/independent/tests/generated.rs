@@ -2,7 +2,7 @@
 
 use independent::calls::{Answer, Call};
 use independent::gen::{message, Calls, Message, Rng, Types};
-use independent::{check, class, member, Reading};
+use independent::{check, member, Reading};
 
 /// Tables, each with a conforming message under some of its tops.
 fn conforming(seed: u64, tables: usize, mut with: impl FnMut(&Types, u32, Message)) {
@@ -84,18 +84,15 @@ fn the_view_gives_the_rows_of_the_reader() {
 
 #[test]
 fn generated_calls_reach_every_refusal() {
-    let (mut reached, mut classes) = ([0; 24], [0; 39]);
+    let mut reached = [0; 39];
     for call in Calls::new(4).take(200_000) {
         let answer = call.answer();
         assert_ne!(answer, Answer::Astray, "{}", call.json(&answer));
         reached[answer.refusal() as usize] += 1;
-        if let Call::Read { table, .. } = &call {
-            classes[class(table) as usize] += 1;
-        }
     }
-    assert!(reached.iter().all(|&calls| calls >= 20), "{reached:?}");
-    assert!(classes[31..].iter().all(|&calls| calls >= 20), "{classes:?}");
-    println!("{reached:?} {classes:?}");
+    let is_number = |number: usize| !matches!(number, 1 | 24..=30);
+    assert!((0..39).all(|number| reached[number] >= 20 || !is_number(number)), "{reached:?}");
+    println!("{reached:?}");
 }
 
 #[test]

@@ -53,7 +53,7 @@ const TABLE_HELP: &str = "\
 icehub table TABLE
 
 Shows a type table: its types with their members, names and bases, and which of them can be a top. If the table breaks a
-rule it shows the row, its fields and what the rules ask of such a row.
+rule it says which row breaks it and what is wrong with that row, and shows the rows before it.
 
   TABLE    the type table, a file; - is standard input
 

@@ -32,7 +32,7 @@ pub fn refused(file: &str, bytes: &[u8], top: u32, message: &[u8], refusal: Refu
         quoted(refusal.text()),
         refusal.place
     );
-    let in_message = !matches!(refusal.reason(), Some(Reason::BadTable | Reason::BadType | Reason::InputTooLong));
+    let in_message = !matches!(refusal.reason(), Some(Reason::BadType | Reason::InputTooLong));
     if let (true, Ok(table)) = (in_message, Table::new(bytes)) {
         let place = refusal.place as usize;
         let location = locate(table, top, message, place);

@@ -5,13 +5,14 @@
 //! - `arguments`: the command line and the help
 //! - `input`: files, standard input, hex text
 //! - `show`: the command `show`, with its summary and progress line
-//! - `table`: the command `table`
+//! - `table`: the command `table`; `broken`: what is wrong with a table that breaks a rule
 //! - `accepted`, `refused`: a message for a person; `json`: a message as a line of JSON
 //! - `locate`: the slice and the member at a place of a refused message
 //! - `values`: values for a person; `words`: text, bytes and types in words
 
 mod accepted;
 mod arguments;
+mod broken;
 mod input;
 mod json;
 mod locate;

@@ -1,7 +1,7 @@
 //! A refused message for a person: the refusal in words, the slice and member it fell in, and the bytes around it.
 
 use crate::locate::{locate, Location};
-use crate::{table, words};
+use crate::{broken, words};
 use icehub::{Reason, Refusal, Table};
 use std::io::{self, Write};
 
@@ -15,7 +15,7 @@ pub fn head(refusal: Refusal) -> String {
 pub fn write(out: &mut dyn Write, bytes: &[u8], top: u32, message: &[u8], refusal: Refusal) -> io::Result<()> {
     match (refusal.reason(), Table::new(bytes)) {
         (_, Err(refusal)) => {
-            table::write_broken(out, bytes, refusal.place as usize)?;
+            writeln!(out, "  {}", broken::sentence(bytes, refusal))?;
             write_around(out, "table", bytes, refusal.place as usize)
         }
         (Some(Reason::BadType), Ok(table)) => write_top(out, table, top),

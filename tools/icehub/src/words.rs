@@ -38,6 +38,14 @@ pub fn plain(text: &str) -> String {
     escape(text, "")
 }
 
+/// Bytes of a name: as text without quotes if they are UTF-8, else in hex.
+pub fn bare(bytes: &[u8]) -> String {
+    match std::str::from_utf8(bytes) {
+        Ok(text) => plain(text),
+        Err(_) => format!("bytes {}", hex(bytes)),
+    }
+}
+
 /// Bytes of a string: in quotes if they are UTF-8, else in hex.
 pub fn string(bytes: &[u8]) -> String {
     match std::str::from_utf8(bytes) {

@@ -1,7 +1,7 @@
-//! fuzz [CALLS [SEED]]: makes calls (1,000,000 by default) of the reader and the writer, and a member view of each
-//! message read, and compares the proved library with this implementation in every number and every lent byte. A
-//! difference is printed as a line like those of the recorded calls, the library's answer after it as `got`; with any,
-//! the exit status is 1.
+//! fuzz [CALLS [SEED]]: makes calls (1,000,000 by default) of the reader, the writer and the table check, and a member
+//! view of each message read, and compares the proved library with this implementation in every number and every lent
+//! byte. A difference is printed as a line like those of the recorded calls, the library's answer after it as `got`;
+//! with any, the exit status is 1.
 
 use independent::calls::{Answer, Call};
 use independent::ffi;
@@ -26,7 +26,7 @@ fn main() {
 
     let start = Instant::now();
     let mut differences = 0;
-    let mut refusals = [0; 24];
+    let mut refusals = [0; 39];
     let mut compare = |call: &Call, expected: &Answer| {
         let Some(got) = ffi::answer(call) else { return };
         if got != *expected {
@@ -45,7 +45,8 @@ fn main() {
             compare(&view, &view.answer());
         }
     }
-    let reached: Vec<_> = refusals.iter().enumerate().map(|(number, calls)| format!("{number}: {calls}")).collect();
+    let met = refusals.iter().enumerate().filter(|(number, _)| !matches!(number, 1 | 24..=30));
+    let reached: Vec<_> = met.map(|(number, calls)| format!("{number}: {calls}")).collect();
     println!("answers by refusal number: {}", reached.join(", "));
     println!("{differences} differences in {calls} calls from seed {seed}, {:.1} s", start.elapsed().as_secs_f64());
     process::exit(i32::from(differences != 0));

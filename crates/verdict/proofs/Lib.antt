@@ -1,0 +1,2 @@
+-- Laws that the proof of `check` cites.
+pub mod Telling
