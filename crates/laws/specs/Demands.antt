@@ -18,6 +18,7 @@
 --   Unambiguous    a message has one reading
 --   ExactCounts    the skip counts count what the rows leave out
 --   ExactValues    a value of a type is exactly a string of the grammar of values; ExactExtents: an extent is one of the grammar of extents
+--   ExactForms     an optional's form is the one that its type has, said apart from the equations
 --   Viewed         the member view: where it shows a part of the message, the fallback, nothing
 --   ReadBack       demand 2: what the writer makes is read as the members given; ReadBackReading of the reader's answer
 --   WriteAgain     demand 2: an accepted message with nothing skipped, written again in any format, is the encoding of its pieces in that format
@@ -47,7 +48,8 @@ use lib.ListN.{length, take, drop, getD}
 use lib.Dec.{eqb}
 use Rattle.encoding.specs.Result.{ok, bad, concat}
 use Rattle.encoding.specs.Number.{Bytes, val}
-use Rattle.encoding.specs.Types.{Ty, Form, Bits}
+use Rattle.encoding.specs.Types.{Ty, Form, formOf, Bits}
+use Rattle.encoding.specs.OptionalForm.{HasForm}
 use Rattle.encoding.specs.Value.{exact}
 use Rattle.encoding.specs.Grammar.{IsValue, IsExtent}
 use Rattle.encoding.specs.Table.{types, fine, faults, memberTy, trees, named, any, chain, range, kind, field, fault, members, Member, lookup}
@@ -135,9 +137,9 @@ NumbersTold =
 
 -- ---- demand 2: what is accepted
 
--- the table breaks no rule, the top is one, the message is within the limit, and it is the encoding of pieces that conform to table and top
+-- the table is valid, the top is one, the message is within the limit, and it is the encoding of pieces that conform to table and top
 pub record Follows (T : List ℕ) (top : ℕ) (m : List ℕ) (f : Format) (p : Pieces) : Type 0 where
-  pub table : faults T ≡ fine
+  pub table : Valid T
   pub top-there : noTop T top ≡ false
   pub short : length m ≤ limit
   pub conforms : Conform T top f p
@@ -290,6 +292,10 @@ ExactValues = (t : Ty) (b : List ℕ) → (exact t b ≡ true → IsValue t b) �
 -- so is what an optional declares, by the type in its header
 abbrev pub ExactExtents : Type 0
 ExactExtents = (k : Bits) (b : List ℕ) → ((d : List ℕ) × (extent k b ≡ ok d (length b)) → IsExtent k b) × (IsExtent k b → (d : List ℕ) × (extent k b ≡ ok d (length b)))
+
+-- the form of an optional is what document 01 says of its type, and no other
+abbrev pub ExactForms : Type 0
+ExactForms = (t : Ty) (f : Form) → (formOf t ≡ f → HasForm t f) × (HasForm t f → formOf t ≡ f)
 
 -- ---- the member view
 

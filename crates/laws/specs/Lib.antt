@@ -1,12 +1,12 @@
 -- The laws of reading and writing: `Demands` states the promises, `Promises` has them with their proofs.
 pub mod Demands
+pub mod TableExact
 pub mod RowsExact
 pub mod CountsExact
 pub mod RowsMost
 pub mod OptionalExact
 pub mod SliceExact
 pub mod MessageExact
-pub mod TableExact
 pub mod TableFault
 pub mod Refusals
 pub mod Small

@@ -25,6 +25,7 @@ use Rattle.encoding.specs.Message.{Pieces, list, exception, class, Read, encode
 use Rattle.encoding.specs.MessageLaws.{held-contents, ended-ok, length-encapsulate, body-encapsulated, top-there, rules-ok, rules-step}
 use Rattle.encoding.specs.Conform.{Conform}
 use Rattle.laws.specs.Demands.{readAs, Follows, Exact, ExactRows}
+use Rattle.laws.specs.TableExact.{valid, sound}
 use Rattle.laws.specs.RowsExact.{exact-rows-from}
 use Rattle.laws.specs.OptionalExact.{parameters-written, parameters-canonical}
 use Rattle.laws.specs.SliceExact.{slices-written, slices-canonical}
@@ -160,7 +161,7 @@ pub rules-written : (T : List ℕ) (top : ℕ) (m : List ℕ) (f : Format) (p : 
 rules-written T top m f p F =
     let b : body T top m ≡ ok (readAs f p) (length m) =
     subst (λ (z : List ℕ). Short (length z) → body T top z ≡ ok (readAs f p) (length z)) (sym (F .encoded)) (body-written T top f p (F .conforms)) (omega (arith, F .short)) in
-    rules-step T top m (record { table = F .table; top-right = F .top-there; short = F .short; read = b })
+    rules-step T top m (record { table = sound T (F .table); top-right = F .top-there; short = F .short; read = b })
 
 pub exact-message : Exact
 exact-message T top m f p n y = (read, rules-written T top m f p)
@@ -170,7 +171,7 @@ exact-message T top m f p n y = (read, rules-written T top m f p)
         let A = rules-ok T top m h in
         let t = top-there T top (A .top-right) in
         let B = body-canonical T top m y (omega (arith, A .short)) (t .1) (kind-known T (A .table) top (t .0)) (A .read) in
-        (record { table = A .table; top-there = A .top-right; short = A .short; conforms = B .0; encoded = B .1 }, B .2)
+        (record { table = valid T (A .table); top-there = A .top-right; short = A .short; conforms = B .0; encoded = B .1 }, B .2)
 
 pub exact-rows : ExactRows
 exact-rows = exact-rows-from exact-message

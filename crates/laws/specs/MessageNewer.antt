@@ -29,6 +29,7 @@ use Rattle.encoding.specs.Extends.{Extends, TopsMatch, as-records, as-lists, Sa
 use Rattle.laws.specs.Demands.{readAs, Follows, Kept, firstId, Foreign, an-exception, a-class, Newer, Understood, NewerRead, NewerRefused, NewerReading}
 use Rattle.laws.specs.Lose.{lose}
 use Rattle.laws.specs.SliceExact.{head-written}
+use Rattle.laws.specs.TableExact.{valid}
 use Rattle.laws.specs.MessageExact.{exact-message}
 use Rattle.laws.specs.LoseLaws.{lose-bytes, lose-passed}
 use Rattle.laws.specs.OptionalNewer.{owned-newer}
@@ -95,7 +96,7 @@ module _ (old new : List ℕ) (top top′ : ℕ) (m : List ℕ) (f : Format) (p 
         pieces = lose old top p;
         taken = length m;
         accepted = exact-message old top m f (lose old top p) (length m) (N .bytes) .1 (record {
-          table = N .extends .old-right;
+          table = valid old (N .extends .old-right);
           top-there = old-top old new top top′ (N .tops);
           short = E .short;
           conforms = conform-newer old new (N .extends) top top′ (N .tops) f p (E .conforms) short fit;

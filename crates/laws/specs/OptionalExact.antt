@@ -39,6 +39,7 @@ use Rattle.encoding.specs.Slice.{dataBytes, anyOptional, someForm, fields}
 use Rattle.encoding.specs.SliceLaws.{someForm-ok, someForm-step}
 use Rattle.encoding.specs.Message.{parameters}
 use Rattle.encoding.specs.Grammar.{IsValue, IsExtent}
+use Rattle.encoding.specs.OptionalFormLaws.{form-has, is-form}
 use Rattle.encoding.specs.Conform.{Known, Unknown, Level, Owned}
 use Rattle.encoding.specs.ExactLaws.{takes-value, exact-is, is-exact, takes-extent}
 
@@ -276,7 +277,7 @@ continue ms h = mapc (λ p _. (p, suc (h .tag))) (content (lookup (h .tag) ms) h
 known-written : (ms : List Member) (least t : ℕ) (f : Form) (b r : List ℕ) → Known ms least t f b
     → nextOptional ms least (pieceBytes (optional t f b) ++ r) ≡ ok (optional t f b, suc t) (length (pieceBytes (optional t f b)))
 unfolding nextOptional pieceBytes frontBytes contentBytes content headerOf wrongType
-known-written ms least t f b r K = rw (K .form, append-assoc hb (lengthBytes g b) b) (bind-written (header ms least) (continue ms) hb w r first next)
+known-written ms least t f b r K = rw (sym (is-form (K .form)), append-assoc hb (lengthBytes g b) b) (bind-written (header ms least) (continue ms) hb w r first next)
   where
     g : Form
     g = formOf (K .member .ty)
@@ -380,7 +381,7 @@ optional-canonical ms least xs y sh {p} {s} {n} e = top (bind-ok (header ms leas
         let ty : h .type ≡ bitsOf f = right-type (h .type) a (subst (λ (z : Option Member). wrongType (h .type) z ≡ false) eo (H .typed)) in
         let fits = held-took (content (some a) h) (held-content (some a) h) ys e in
         subst (λ (z : Piece). Good ms least (take k xs ++ take m ys) (z, suc (h .tag))) (sym (C .1)) (
-          known (record { member = a; found = eo; rises = H .rises; form = refl; one = C .2; tag-short = H .short; length-short = end-short ys (lengthBytes f b) b m fits (omega (arith, length-drop k xs)) (C .3) }),
+          known (record { member = a; found = eo; rises = H .rises; form = form-has (a .ty); one = C .2; tag-short = H .short; length-short = end-short ys (lengthBytes f b) b m fits (omega (arith, length-drop k xs)) (C .3) }),
           ap₂ _++_ (H .spelt ∙ ap (headerBytes (h .tag)) ty) (C .3) ∙ sym (append-assoc (headerBytes (h .tag) (bitsOf f)) (lengthBytes f b) b),
         )
 

@@ -22,6 +22,8 @@ use Rattle.encoding.specs.Table.{Member, lookup, mark, requiredsIn}
 use Rattle.encoding.specs.Table
 use Rattle.encoding.specs.Optional.{Piece, required, optional, skipped, part, lengthBytes}
 use Rattle.encoding.specs.OptionalLaws.{part-extent}
+use Rattle.encoding.specs.OptionalForm.{HasForm}
+use Rattle.encoding.specs.OptionalFormLaws.{is-form}
 use Rattle.encoding.specs.Conform.{Known, Unknown, Level, Owned}
 use Rattle.encoding.specs.Extends.{OptionalsMatch, OwnersMatch, typeOf}
 use Rattle.encoding.specs.ExactLaws.{extent-is}
@@ -104,7 +106,7 @@ module _ (ms ns : List Member) (match : OptionalsMatch ms ns) where
       record {
         absent = z;
         rises = K .rises;
-        whole = subst (λ (g : Form). IsExtent (bitsOf g) (lengthBytes g b ++ b)) (sym (K .form)) (known-extent (K .member .ty) b (K .one) (K .length-short));
+        whole = subst (λ (g : Form). IsExtent (bitsOf g) (lengthBytes g b ++ b)) (is-form (K .form)) (known-extent (K .member .ty) b (K .one) (K .length-short));
         tag-short = K .tag-short;
       }
 
@@ -114,7 +116,7 @@ module _ (ms ns : List Member) (match : OptionalsMatch ms ns) where
   known-newer least k f b K m e =
       let s : some (K .member .ty) ≡ some (m .ty) = ap typeOf (sym (K .found)) ∙ optionals-match k ms ns m match e in
       let y : K .member .ty ≡ m .ty = cc in
-      record { member = m; found = e; rises = K .rises; form = K .form ∙ ap formOf y; one = subst (λ (t : Ty). IsValue t b) y (K .one); tag-short = K .tag-short; length-short = K .length-short }
+      record { member = m; found = e; rises = K .rises; form = subst (λ (t : Ty). HasForm t f) y (K .form); one = subst (λ (t : Ty). IsValue t b) y (K .one); tag-short = K .tag-short; length-short = K .length-short }
 
   -- ---- all members of an owner
 

@@ -1,6 +1,9 @@
 -- Every promise of `Demands`, with its proof.
+use mathlib.Core.Path.{subst}
+use Rattle.encoding.specs.OptionalForm.{HasForm}
+use Rattle.encoding.specs.OptionalFormLaws.{form-has, is-form}
 use Rattle.encoding.specs.ExactLaws.{exact-is, is-exact, extent-is, is-extent}
-use Rattle.laws.specs.Demands.{ExactTable, OneOwner, TableFault, ReaderRefuses, NumbersTold, Exact, Reads, ExactRows, ListedRows, RowsApart, RowsRight, RowsOnce, Unambiguous, ExactCounts, ExactValues, ExactExtents, Viewed, ReadBack, ReadBackReading, WriteAgain, WriteSame, OneMessage, EarlyRefused, RightLists, WrongBytes, RightMakes, TooLong, RightWritten, WriterRefuses, WritingNumbersTold, ListFilled, OutputFilled, NewerRead, NewerRefused, NewerReading, NewerRefusedReading, OneCounterpart, NewerThere}
+use Rattle.laws.specs.Demands.{ExactTable, OneOwner, TableFault, ReaderRefuses, NumbersTold, Exact, Reads, ExactRows, ListedRows, RowsApart, RowsRight, RowsOnce, Unambiguous, ExactCounts, ExactValues, ExactExtents, ExactForms, Viewed, ReadBack, ReadBackReading, WriteAgain, WriteSame, OneMessage, EarlyRefused, RightLists, WrongBytes, RightMakes, TooLong, RightWritten, WriterRefuses, WritingNumbersTold, ListFilled, OutputFilled, NewerRead, NewerRefused, NewerReading, NewerRefusedReading, OneCounterpart, NewerThere}
 use Rattle.laws.specs.TableExact.{exact-table, one-owner}
 use Rattle.laws.specs.TableFault.{table-fault}
 use Rattle.laws.specs.Refusals.{reader-refuses, numbers-told}
@@ -37,6 +40,7 @@ pub record Promises : Type 0 where
   pub counts : ExactCounts
   pub values : ExactValues
   pub extents : ExactExtents
+  pub forms : ExactForms
   pub view : Viewed
   pub reads-back : ReadBack
   pub reads-back-answer : ReadBackReading
@@ -78,6 +82,7 @@ promises = record {
   counts = exact-counts-from exact-message;
   values = λ t b. (exact-is t b, is-exact t b);
   extents = λ k b. (λ w. extent-is k b (w .0) (w .1), is-extent k b);
+  forms = λ t f. (λ e. subst (HasForm t) e (form-has t), is-form);
   view = viewed;
   reads-back = read-back;
   reads-back-answer = read-back-reading;

@@ -26,6 +26,7 @@ use Rattle.encoding.specs.Message.{Pieces, limit, rules, Row, rows, rowBytes}
 use Rattle.encoding.specs.MessageLaws.{length-row}
 use Rattle.encoding.specs.Write.{rowAt}
 use Rattle.laws.specs.Demands.{readAs, All, end, more, RowExact}
+use Rattle.laws.specs.TableExact.{sound}
 use Rattle.laws.specs.MessageExact.{exact-message, exact-rows}
 
 pub record SmallRow (r : Row) : Type 0 where
@@ -104,4 +105,4 @@ rows-small T right m h (more {a = r} E L) =
 pub accepted-rows-small : (T : List ℕ) (top : ℕ) (m : List ℕ) (f : Format) (p : Pieces) (n : ℕ) → Bytes m → rules T top m ≡ ok (readAs f p) n → All SmallRow (rows T top f p)
 accepted-rows-small T top m f p n y h =
     let E = exact-message T top m f p n y .0 h .0 in
-    rows-small T (E .table) m (E .short) (exact-rows T top m f p n y h)
+    rows-small T (sound T (E .table)) m (E .short) (exact-rows T top m f p n y h)

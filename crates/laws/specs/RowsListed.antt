@@ -17,6 +17,7 @@ use Rattle.encoding.specs.Message.{Pieces, list, exception, class, encode, enca
 use Rattle.encoding.specs.Conform.{Level, Owned, Follow, Slices, Conform}
 use Rattle.laws.specs.Demands.{All, more, RowOf, ListedOf, a-required, an-optional, a-skipped, ListedIn, a-known, a-passed, Listed, ListedRows}
 use Rattle.laws.specs.RowsExact.{Stands, stands-first, stands-next, stands-there, stands-encapsulated, all-map, Found, required-found, content-stands, others-stand, data-stand, slices-stand}
+use Rattle.laws.specs.TableExact.{sound}
 use Rattle.laws.specs.MessageExact.{exact-message}
 use Rattle.laws.specs.PlanRules.{Rung, record-there, chain-rungs}
 
@@ -85,4 +86,4 @@ rows-listed T right top f (class ss) (k, C) = slices-listed T _ right top f ss C
 pub listed-rows : ListedRows
 listed-rows T top m f p n y h =
     let F = exact-message T top m f p n y .0 h .0 in
-    subst (λ (z : List ℕ). Listed T z top p (rows T top f p)) (sym (F .encoded)) (rows-listed T (F .table) top f p (F .conforms))
+    subst (λ (z : List ℕ). Listed T z top p (rows T top f p)) (sym (F .encoded)) (rows-listed T (sound T (F .table)) top f p (F .conforms))

@@ -12,6 +12,7 @@ use Rattle.encoding.specs.Message.{Row}
 use Rattle.encoding.specs.Write.{Slot, Chosen, chosen, left}
 use Rattle.encoding.specs.Write
 use Rattle.laws.specs.Demands.{readAs, All, end, more, RowsRight, Once, RowsOnce, Unambiguous}
+use Rattle.laws.specs.TableExact.{sound}
 use Rattle.laws.specs.MessageExact.{exact-message}
 use Rattle.laws.specs.RowsExact.{all-map}
 use Rattle.laws.specs.RowsMost.{rows-members}
@@ -39,7 +40,7 @@ pub rows-once : RowsOnce
 rows-once T top m f p n y h =
     let F = exact-message T top m f p n y .0 h .0 in
     let A = follows-again T top m f p F in
-    (chosen-once (plan-differ T (F .table) _ (A .there)) (judged-chosen (A .judged)), rows-members T (F .table) top f p (top-there T top (F .top-there) .0) (F .conforms))
+    (chosen-once (plan-differ T (sound T (F .table)) _ (A .there)) (judged-chosen (A .judged)), rows-members T (sound T (F .table)) top f p (top-there T top (F .top-there) .0) (F .conforms))
 
 pub unambiguous : Unambiguous
 unambiguous T top m f g p q y F G =

@@ -21,6 +21,7 @@ use Rattle.encoding.specs.Message.{Pieces, list, exception, class, encode, rule
 use Rattle.encoding.specs.MessageLaws.{top-there, length-encapsulate}
 use Rattle.encoding.specs.Conform.{Slices, Conform}
 use Rattle.laws.specs.Demands.{readAs}
+use Rattle.laws.specs.TableExact.{sound}
 use Rattle.laws.specs.MessageExact.{exact-message}
 use Rattle.laws.specs.RowsMost.{rows-most}
 
@@ -97,8 +98,8 @@ accepted-small T top m f p n y h =
     let few : length (encode f p) ≤ 65536 = omega (arith, E .short, ap length (E .encoded) ∙ length-encapsulate (encode f p)) in
     let S = skipped-small T top f p in
     record {
-      first = omega (arith, first-small T top f p l (E .conforms), types-most T (E .table));
-      count = rows-most T (E .table) top f p l (E .conforms);
+      first = omega (arith, first-small T top f p l (E .conforms), types-most T (sound T (E .table)));
+      count = rows-most T (sound T (E .table)) top f p l (E .conforms);
       optionals = omega (arith, S .0);
       slices = omega (arith, S .1);
     }

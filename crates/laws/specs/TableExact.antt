@@ -9,6 +9,7 @@
 --   turned, rules-turned                           valid rows are in turn, and so are rows that break no rule
 --   owned, owned-taken                             a member row among those taken has an owner, and back
 --   pass-none                                      a pass over rows that break no rule is fine
+--   valid, sound                                   a table that breaks no rule is valid, and a valid one breaks none
 --   exact-table, one-owner                         both directions; each member row has exactly one owner
 use mathlib.Core.Path.{_≡_, refl, sym, ap, ap₂, _∙_, subst}
 use mathlib.Core.Bool.{Bool, true, false, _&&_, _||_, not, true≢false}
@@ -619,7 +620,7 @@ turned T (suc n) R t l o = taken-ok T t (field T t 0) (λ r m. turned T n (λ s 
 pub rules-turned : (T : List ℕ) (n : ℕ) → ((t : ℕ) → t < n → firstOf (typeRules T t) ≡ 0) → InTurn T n
 rules-turned T n R t l o = row-begins T t (R t l) (owner-step (kind T t) o)
 
-valid : (T : List ℕ) → faults T ≡ fine → Valid T
+pub valid : (T : List ℕ) → faults T ≡ fine → Valid T
 valid T right =
     let turn = rules-turned T (types T) (type-right T right) in
     record {
@@ -634,7 +635,7 @@ unfolding pass range orElse faultAt
 pass-none place rules i zero h = refl
 pass-none place rules i (suc k) h = rw (h i (omega arith) (omega arith)) (pass-none place rules (suc i) k (λ r l m. h r (omega arith) (omega arith)))
 
-sound : (T : List ℕ) → Valid T → faults T ≡ fine
+pub sound : (T : List ℕ) → Valid T → faults T ≡ fine
 unfolding faults passes sumRules orElse faultAt
 sound T S =
     let turn = turned T (types T) (S .type) in

@@ -23,6 +23,7 @@ use Rattle.laws.specs.Demands.{All, end, more, Once, In, here, there, Li
 use Rattle.laws.specs.RowsExact.{all-map}
 use Rattle.laws.specs.PlanLaws.{judged-chosen}
 use Rattle.laws.specs.PlanRules.{all-with, Fit, plan-owner, plan-fit}
+use Rattle.laws.specs.TableExact.{sound}
 use Rattle.laws.specs.MessageExact.{exact-message, exact-rows}
 use Rattle.laws.specs.RowsRight.{chosen-among, rows-once}
 use Rattle.laws.specs.WriteAgain.{follows-again}
@@ -163,7 +164,7 @@ module _ (T : List ℕ) (top : ℕ) (m : List ℕ) (k : ℕ) where
       listed-chain i =
           let F = exact-message T top m (r .format) (r .pieces) n y .0 e .0 in
           let A = follows-again T top m (r .format) (r .pieces) F in
-          let fits : All Owned (plan T type) = all-with (λ s a b. (a, b)) (plan-fit T (F .table) type (A .there)) (plan-owner T (λ o. In o (chain T type)) (chain T type) (in-all (chain T type))) in
+          let fits : All Owned (plan T type) = all-with (λ s a b. (a, b)) (plan-fit T (sound T (F .table)) type (A .there)) (plan-owner T (λ o. In o (chain T type)) (chain T type) (in-all (chain T type))) in
           let S = all-in (chosen-among {P = Owned} fits (judged-chosen (A .judged))) i in
           record { owner = S .0 .owner; above = S .1 .1; from = omega (arith, S .1 .0 .place .from, S .2); to = omega (arith, S .1 .0 .place .to, S .2) }
 

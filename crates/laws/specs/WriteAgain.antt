@@ -25,11 +25,13 @@ use Rattle.encoding.specs.Slice.{Format, compact, sliced, formatNumber, Slice, 
 use Rattle.encoding.specs.Message.{Pieces, list, exception, class, encode, encapsulate, noTop, Row, listRow, pieceMember, pieceRows, sliceRows, orZero, firstIn, firstKnown, rows, rowBytes, skippedPieces, skippedIn, passedIn, optionalsSkipped, slicesSkipped}
 use Rattle.encoding.specs.MessageLaws.{length-rows}
 use Rattle.encoding.specs.Write.{Slot, rising, slot, slots, planOf, plan, out, Given, partOf, piecesOf, slicesOf, gathered, noFormat, formatOfNumber}
+use Rattle.encoding.specs.OptionalFormLaws.{is-form}
 use Rattle.encoding.specs.Conform.{Level, Owned, Follow, Slices, Conform}
 use Rattle.encoding.specs.ExactLaws.{is-exact}
 use Rattle.laws.specs.Demands.{Follows, All, more, SameMembers, same-member, Complete, WriteAgain, WriteSame, OneMessage}
 use Rattle.laws.specs.OptionalNewer.{lookup-key}
 use Rattle.laws.specs.RowsExact.{Stands, stands-first, stands-next, stands-inside, stands-there, stands-encapsulated, content-stands, others-stand, data-stand, slices-stand, Found, required-found}
+use Rattle.laws.specs.TableExact.{sound}
 use Rattle.laws.specs.MessageExact.{exact-message}
 use Rattle.laws.specs.RowsBack.{rows-back, accepted-rows-small}
 use Rattle.laws.specs.PlanLaws.{Pairs, alone, before, Ordered, from, from-zero, optional-spot, givenOf, Judged, over, taken, missed, SlotsDiffer, find-judged, judged-chosen, first-among, judged-step}
@@ -137,7 +139,7 @@ module _ (T m : List ℕ) (t : ℕ) where
       subst (λ (o : Option Member). Judged m (map (slot t false) (from least (rising (Table.optionalMembers T t)))) (listRow o (at + length (frontBytes p)) b (pieceRows T t (at + length (pieceBytes p)) ps)) (map (givenTo t) (p ∷ keptPieces ps)))
       (sym (K .found))
       (find-judged (map (slot t false) (from least (rising (Table.optionalMembers T t)))) _ (optional-spot t k least (O .rows) (O .keys) (K .found) (K .rises))
-      (row-taken (slot t false d) (givenTo t p) (at + length (frontBytes p)) b (ap₂ (λ (n : ℕ) (x : Form). givenTo t (optional n x b)) (sym key) (sym (K .form))) (K .one) (content-stands T m p ps at S)
+      (row-taken (slot t false d) (givenTo t p) (at + length (frontBytes p)) b (ap₂ (λ (n : ℕ) (x : Form). givenTo t (optional n x b)) (sym key) (is-form (K .form))) (K .one) (content-stands T m p ps at S)
       (subst (λ (n : ℕ). Judged m (map (slot t false) (from (suc n) (rising (Table.optionalMembers T t)))) (pieceRows T t (at + length (pieceBytes p)) ps) (map (givenTo t) (keptPieces ps))) key ih)))
   level-judged O [] F least (skipped k f b ∷ ps) (U, L) at S =
       judged-earlier least (suc k) (omega (arith, U .rises)) (rising (Table.optionalMembers T t))
@@ -271,7 +273,7 @@ format-again sliced = refl
 -- the rows of a message that follows the rules
 pub follows-again : (T : List ℕ) (top : ℕ) (m : List ℕ) (f : Format) (p : Pieces) → Follows T top m f p → Again T m f p (rows T top f p) (firstKnown T top p)
 follows-again T top m f p F =
-    subst (λ (z : List ℕ). Again T z f p (rows T top f p) (firstKnown T top p)) (sym (F .encoded)) (again T (F .table) top (F .top-there) f p (F .conforms))
+    subst (λ (z : List ℕ). Again T z f p (rows T top f p) (firstKnown T top p)) (sym (F .encoded)) (again T (sound T (F .table)) top (F .top-there) f p (F .conforms))
 
 pub write-again : WriteAgain
 write-again T top m f p n g room yM h Z formed short fits =
@@ -280,10 +282,10 @@ write-again T top m f p n g room yM h Z formed short fits =
     let type : ℕ = firstKnown T top p in
     let rs : List Row = rows T top f p in
     let S = accepted-rows-small T top m f p n yM h in
-    let right : judging T type m rs ≡ out (A .gives) = judging-slots T (F .table) type (A .there) m rs ∙ judged-step 0 (plan-differ T (F .table) type (A .there)) (A .judged) in
+    let right : judging T type m rs ≡ out (A .gives) = judging-slots T (sound T (F .table)) type (A .there) m rs ∙ judged-step 0 (plan-differ T (sound T (F .table)) type (A .there)) (A .judged) in
     writing-step T type (formatNumber g) (length rs) (concat rowBytes rs) m room (record {
       composed = record {
-        table = F .table;
+        table = sound T (F .table);
         there = A .there;
         formed = formed;
         short = F .short;
@@ -331,5 +333,5 @@ one-message T top top′ m m′ f p p′ n n′ yM yM′ h h′ t Z Z′ M =
     let F = exact-message T top m f p n yM .0 h .0 in
     let F′ = exact-message T top′ m′ f p′ n′ yM′ .0 h′ .0 in
     let N = subst₂ (λ (a b : List ℕ). SameMembers a b (rows T top f p) (rows T top′ f p′)) (F .encoded) (F′ .encoded) M in
-    let q = one-pieces T top top′ f p p′ (F .table) (F .top-there) (F′ .top-there) (F .conforms) (F′ .conforms) t Z Z′ N in
+    let q = one-pieces T top top′ f p p′ (sound T (F .table)) (F .top-there) (F′ .top-there) (F .conforms) (F′ .conforms) t Z Z′ N in
     F .encoded ∙ ap (λ (x : Pieces). encapsulate (encode f x)) q ∙ sym (F′ .encoded)

@@ -24,11 +24,13 @@ use Rattle.encoding.specs.Slice.{Format, compact, sliced, formatNumber, Slice, 
 use Rattle.encoding.specs.Message.{Pieces, list, exception, class, encode, encapsulate, noTop, limit, Row, listRow, pieceRows, sliceRows, orZero, firstIn, firstKnown, rows, skippedPieces, skippedIn, passedIn, optionalsSkipped, slicesSkipped}
 use Rattle.encoding.specs.Write
 use Rattle.encoding.specs.Write.{Slot, rising, slot, slots, planOf, plan, Given, partOf, piecesOf, slicesOf, gathered, noFormat, formatOfNumber}
+use Rattle.encoding.specs.OptionalFormLaws.{form-has}
 use Rattle.encoding.specs.Conform.{Level, Owned, Follow, Slices, Conform}
 use Rattle.encoding.specs.ExactLaws.{exact-is}
 use Rattle.laws.specs.Demands.{readAs, All, end, more, SameMembers, no-members, same-member, UnderTop, rowList, Complete, ReadBack}
 use Rattle.laws.specs.RowsExact.{Stands, stands-first, stands-next, stands-there, stands-encapsulated, content-stands, others-stand, data-stand, slices-stand}
 use Rattle.laws.specs.RecordNewer.{Line, here, above, descends-ok}
+use Rattle.laws.specs.TableExact.{valid}
 use Rattle.laws.specs.MessageExact.{rules-written}
 use Rattle.laws.specs.PlanLaws.{Pairs, before, KeysRise, all-rising, givenOf, Judged, over, taken, missed, judged-ok}
 use Rattle.laws.specs.PlanRules.{all-any, all-with, Owner, Fit, slots-owner, owner-ordered, optional-fit, slots-fit, Falls, plan-owner, chain-falls, chain-owners, chain-above, chain-top, list-chain, top-step, top-owner, base-record, judging-slots}
@@ -47,7 +49,7 @@ module _ (T : List ℕ) (t : ℕ) (buffer : List ℕ) where
       member = d;
       found = f .finds;
       rises = l;
-      form = refl;
+      form = form-has (d .ty);
       one = exact-is (d .ty) (partOf buffer r) x;
       tag-short = f .short refl;
       length-short = omega (arith, part-length buffer r i);
@@ -230,7 +232,7 @@ read-back T top type format count rs buffer room m h below =
     record {
       read = readAs (formatOfNumber format) p;
       taken = length m;
-      accepted = rules-written T top m (formatOfNumber format) p (record { table = C .table; top-there = there; short = W .short; conforms = G .0 .conforms; encoded = C .made });
+      accepted = rules-written T top m (formatOfNumber format) p (record { table = valid T (C .table); top-there = there; short = W .short; conforms = G .0 .conforms; encoded = C .made });
       of-type = G .0 .of-type;
       in-format = G .1;
       complete = G .0 .complete;
