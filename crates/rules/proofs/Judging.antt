@@ -144,7 +144,7 @@ module _ (T : List ℕ) (f : ℕ) (ef : f ≡ typesAt T) where
               unfolding headerRules headerTests firstOf
               header-spare h = rw (← es, marked, all-there, ← et, ne-eqb t 0 some, le-ltb _ _ few, ← em, le-ltb _ _ small, ← en, le-ltb _ _ short, ← eb, ne-eqb b 0 h)
 
-              module _ (spare : b ≡ 0) (p : ℕ) (ep : p ≡ namesAt T) where
+              module _ (spare : b ≡ 0) (p : ℕ) (ep : p ≡ memberAt T m) where
                 all-but-length : headerRules T ≡ faultAt 0 (pick (not (eqb (length T) (namesAt T + names T))) 31 0)
                 unfolding headerRules headerTests firstOf
                 all-but-length =

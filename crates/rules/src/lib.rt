@@ -55,7 +55,8 @@ fn header(table: &[u8]) -> usize
     if wire::byte_at(table, 11) != 0 {
         return 31;
     }
-    if table.len() != table::names_at(table) + n {
+    let first = table::row_at(table, t);
+    if table.len() != table::member_at(table, first, m) + n {
         return 31;
     }
     0
@@ -374,24 +375,28 @@ fn type_rows(table: &[u8], n: usize) -> Finding
     Finding::Fine
 }
 
-// Member row i is optional and has this tag.
-fn is_optional_of(table: &[u8], i: usize, tag: usize) -> bool
+// Member row i, which lies inside the table, is optional and has this tag. The member rows begin at `at`.
+fn is_optional_of(table: &[u8], at: usize, i: usize, tag: usize) -> bool
+    requires { ⌜ at ≡ membersAt (now table) ⌝ }
+    requires { ⌜ memberAt (now table) (i + 1) ≤ length (now table) ⌝ }
     ensures { λ r. ⌜ r ≡ isOptionalOf (now (table .entry)) tag i ⌝ }
 {
-    let row = table::member_row(table, i);
+    let row = table::member_row_in(table, at, i);
     if row.mark == 1 {
         return row.tag == tag;
     }
     false
 }
 
-// A member row among `first` to m - 1 is optional and has this tag.
-fn is_tag_before(table: &[u8], first: usize, m: usize, tag: usize) -> bool
+// A member row among `first` to m - 1, which lie inside the table, is optional and has this tag.
+fn is_tag_before(table: &[u8], at: usize, first: usize, m: usize, tag: usize) -> bool
+    requires { ⌜ at ≡ membersAt (now table) ⌝ }
+    requires { ⌜ memberAt (now table) m ≤ length (now table) ⌝ }
     ensures { λ r. ⌜ r ≡ isTagBefore (now (table .entry)) first m tag ⌝ }
 {
     let mut i = first;
     while i < m {
-        if is_optional_of(table, i, tag) {
+        if is_optional_of(table, at, i, tag) {
             return true;
         }
         i += 1;
@@ -400,13 +405,15 @@ fn is_tag_before(table: &[u8], first: usize, m: usize, tag: usize) -> bool
 }
 
 // The same, if every tag of these rows is below `above`: a tag that is not below it is new, so rising tags are not searched for.
-fn is_tag_alike(table: &[u8], first: usize, m: usize, above: usize, tag: usize) -> bool
+fn is_tag_alike(table: &[u8], at: usize, first: usize, m: usize, above: usize, tag: usize) -> bool
+    requires { ⌜ at ≡ membersAt (now table) ⌝ }
+    requires { ⌜ memberAt (now table) m ≤ length (now table) ⌝ }
     ensures { λ r. ⌜ r ≡ isTagAlike (now (table .entry)) first m above tag ⌝ }
 {
     if above <= tag {
         return false;
     }
-    is_tag_before(table, first, m, tag)
+    is_tag_before(table, at, first, m, tag)
 }
 
 // The rules of a required member of owner o.
@@ -426,6 +433,7 @@ fn required_row(table: &[u8], o: usize, row: MemberRow) -> usize
 // The rules of member row m of owner o if its mark is not 0.
 fn optional_row(
     table: &[u8],
+    at: usize,
     o: usize,
     owner: TypeRow,
     m: usize,
@@ -433,6 +441,8 @@ fn optional_row(
     above: usize,
 ) -> usize
     requires { ⌜ rowAt (now table) o ≤ length (now table) ⌝ }
+    requires { ⌜ at ≡ membersAt (now table) ⌝ }
+    requires { ⌜ memberAt (now table) m ≤ length (now table) ⌝ }
     ensures { λ r. ⌜ r ≡ firstOf (optionalRules (now (table .entry)) o owner row (isTagAlike (now (table .entry)) (owner .a) m above (row .tag))) ⌝ }
 {
     if no_part(table, o, row.of) {
@@ -447,7 +457,7 @@ fn optional_row(
     if 2147483648 <= row.tag {
         return 38;
     }
-    if is_tag_alike(table, owner.a, m, above, row.tag) {
+    if is_tag_alike(table, at, owner.a, m, above, row.tag) {
         return 38;
     }
     0
@@ -456,6 +466,7 @@ fn optional_row(
 // The class of the first rule that member row m of owner o breaks, or 0.
 fn member_class(
     table: &[u8],
+    at: usize,
     o: usize,
     owner: TypeRow,
     m: usize,
@@ -463,6 +474,8 @@ fn member_class(
     above: usize,
 ) -> usize
     requires { ⌜ rowAt (now table) o ≤ length (now table) ⌝ }
+    requires { ⌜ at ≡ membersAt (now table) ⌝ }
+    requires { ⌜ memberAt (now table) m ≤ length (now table) ⌝ }
     ensures { λ r. ⌜ r ≡ firstOf (memberRulesBy (now (table .entry)) o owner row (isTagAlike (now (table .entry)) (owner .a) m above (row .tag))) ⌝ }
 {
     if row.spare != 0 {
@@ -471,7 +484,7 @@ fn member_class(
     if row.mark == 0 {
         return required_row(table, o, row);
     }
-    optional_row(table, o, owner, m, row, above)
+    optional_row(table, at, o, owner, m, row, above)
 }
 
 // The bound above the tags so far, raised above this tag too.
@@ -535,10 +548,11 @@ fn owner(table: &[u8], o: usize, first: usize, k: usize) -> Finding
         left -= 1;
     }
     while left > 0 {
+        let place = table::member_at(table, first, m);
         let row = table::member_row_in(table, first, m);
-        let c = member_class(table, o, own, m, row, above);
+        let c = member_class(table, first, o, own, m, row, above);
         if c != 0 {
-            return Finding::Broken(c, table::member_at(table, first, m));
+            return Finding::Broken(c, place);
         }
         above = raised(above, row.tag);
         m += 1;

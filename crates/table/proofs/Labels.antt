@@ -1,7 +1,7 @@
 -- Names as parts of the table, and their comparison. Assumes nothing.
 --
 --   Same, same-.., long-stop   the loops that compare two strings, eight bytes at a time, then the last eight or single ones
---   name-here ..               where a name begins, and how many bytes it has within the table
+--   name-least, name-long      where a name begins, and how many bytes it has; name-inside they lie within the table
 --   named-part                 the part of the table that is compared is the name
 --   record-named ..            a row is a record of a name
 --   Naming, naming-..          the loop that looks for the record of a name
@@ -98,15 +98,8 @@ module _ (a b : List ℕ) (sa : (j : ℕ) → getD a j 0 < 256) (sb : (j : ℕ) 
 -- ---- the part of the table that a name is
 
 module _ (T : List ℕ) (t : ℕ) where
-  module _ (n a : ℕ) (e : n ≡ field T t 4) (s : a ≡ nameStart T t) where
-    pub name-whole : n ≤ length T - a → n ≡ length (nameOf T t)
-    name-whole h = omega (arith, length-name T t)
-
-    pub name-cut : length T - a < n → length T - a ≡ length (nameOf T t)
-    name-cut h = omega (arith, length-name T t)
-
   module _ (p f : ℕ) (ep : p ≡ namesAt T) (ef : f ≡ field T t 3) where
-    name-least : (a : ℕ) → a ≡ min (p + f) (length T) → a ≡ nameStart T t
+    pub name-least : (a : ℕ) → a ≡ min (p + f) (length T) → a ≡ nameStart T t
     unfolding nameStart
     name-least a h = go (leb (namesAt T + field T t 3) (length T)) refl
       where
@@ -114,18 +107,17 @@ module _ (T : List ℕ) (t : ℕ) where
         go true e = omega (arith, leb-true)
         go false e = omega (arith, leb-false)
 
-    pub name-here : p + f ≤ length T → p + f ≡ nameStart T t
-    name-here h = name-least _ (omega arith)
+    module _ (a k l : ℕ) (s : a ≡ min (p + f) (length T)) (ek : k ≡ field T t 4) (e : l ≡ min k (length T - a)) where
+      pub name-long : l ≡ length (nameOf T t)
+      name-long = omega (arith, length-name T t, name-least a s)
 
-    pub name-past : length T < p + f → length T ≡ nameStart T t
-    name-past h = name-least _ (omega arith)
+      pub name-inside : nameStart T t + l ≤ length T
+      name-inside = omega (arith, name-least a s)
 
-    pub named-part : (nm : List ℕ) (a k l : ℕ) (r : Bool) → a ≡ min (p + f) (length T) → k ≡ field T t 4 → l ≡ min k (length T - a)
-        → r ≡ sameBytes nm (take (a + l - a) (drop a T)) → r ≡ sameBytes nm (nameOf T t)
-    named-part nm a k l r s ek e h =
-        let b : a ≡ nameStart T t = name-least a s in
-        let z : a + l - a ≡ length (nameOf T t) = omega (arith, length-name T t) in
-        h ∙ rw (z, b, name-part T t)
+      pub named-part : (nm : List ℕ) (r : Bool) → r ≡ sameBytes nm (take (a + l - a) (drop a T)) → r ≡ sameBytes nm (nameOf T t)
+      named-part nm r h =
+          let z : a + l - a ≡ length (nameOf T t) = omega (arith, name-long) in
+          h ∙ rw (z, name-least a s, name-part T t)
 
 -- ---- the search for a name
 

@@ -1,7 +1,7 @@
 // The names of records.
 use crate::Found;
 ghost use mathlib.Core.Path.{_≡_};
-ghost use Prim.Native.Nat.{_+_, _≤_};
+ghost use Prim.Native.Nat.{_+_, _≤_, _<_};
 ghost use lib.ListN.{length};
 ghost use Rattle.encoding.specs.Result.{sameBytes};
 ghost use Rattle.encoding.specs.Table.{nameOf, named};
@@ -12,23 +12,19 @@ ghost use Rattle.table.specs.Names.{nameStart, isNamed};
 pub fn name_start(table: &[u8], t: usize) -> usize
     ensures { λ r. ⌜ (r ≡ nameStart (now (table .entry)) t) × (r ≤ length (now (table .entry))) ⌝ }
 {
-    let a = crate::names_at(table) + crate::field(table, t, 3);
-    if a <= table.len() {
-        return a;
-    }
-    table.len()
+    let row = crate::type_row(table, t);
+    let start = crate::names_at(table) + row.d;
+    wire::least(start, table.len())
 }
 
 // How many bytes of row t's name lie within the table.
 pub fn name_length(table: &[u8], t: usize) -> usize
-    ensures { λ r. ⌜ (r ≡ length (nameOf (now (table .entry)) t)) × (nameStart (now (table .entry)) t + r ≤ length (now (table .entry))) ⌝ }
+    ensures { λ r. ⌜ (r ≡ length (nameOf (now (table .entry)) t)) × (nameStart (now (table .entry)) t + r ≤ length (now (table .entry))) × (r < 65536) ⌝ }
 {
-    let a = name_start(table, t);
-    let n = crate::field(table, t, 4);
-    if n <= table.len() - a {
-        return n;
-    }
-    table.len() - a
+    let row = crate::type_row(table, t);
+    let start = crate::names_at(table) + row.d;
+    let a = wire::least(start, table.len());
+    wire::least(row.e, table.len() - a)
 }
 
 // Two strings have the same bytes. Eight bytes are compared at a time, the last eight once more where the length is no multiple of eight.

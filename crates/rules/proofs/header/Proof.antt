@@ -1,5 +1,7 @@
 -- The header's tests in turn; all are of one class, so the length may be tested before the mark. Assumes nothing.
 use borrow.Author.Needs.{needs}
+use native.Mathlib.Omega.{arith}
+use Rattle.table.proofs.Places.{row-fits}
 use Rattle.rules.proofs.Judging.{header-short, header-mark, header-none, header-types, header-members, header-names, header-spare, header-length, header-fine}
 use Rattle.rules.proofs.header.Statement.{statement}
 use Rattle.rules.proofs.header.Tie as tie
@@ -21,7 +23,8 @@ header-spec =
     (λ c. search header-names)  -- returns-6
     (λ c κs. search needs)  -- byte-at-requires
     (λ c. search header-spare)  -- returns-7
-    (λ c κs. search needs)  -- names-at-requires
+    (λ c κs. row-fits _ _ (omega arith))  -- row-at-requires
+    (λ c κs. (search needs, omega arith))  -- member-at-requires
     (λ c. search needs)  -- add-if8
     (λ c. search header-length)  -- returns-8
     (λ c. search header-fine))  -- returns-9

@@ -8,6 +8,6 @@ pub is-optional-of-spec : {M : Type 1} → statement M
 is-optional-of-spec =
     tie.close
     (tie.spec
-    (λ c κs. search needs)  -- member-row-requires
+    (λ c κs. search needs)  -- member-row-in-requires
     (λ c. search tagged-is)  -- returns
     (λ c. search tagged-not))  -- returns-2

@@ -7,10 +7,10 @@ use Rattle.rules.proofs.is_tag_before.Statement.{statement}
 use Rattle.rules.proofs.is_tag_before.Tie as tie
 
 abbrev Inv-loop : tie.InvT-loop
-Inv-loop table first m tag i₀ i = Tags table first m tag i
+Inv-loop table at first m tag i₀ i = Tags table first m tag i
 
 abbrev μ-loop : tie.MeasureT-loop
-μ-loop table first m tag i₀ i = m - i
+μ-loop table at first m tag i₀ i = m - i
 
 pub is-tag-before-spec : {M : Type 1} → statement M
 is-tag-before-spec =
@@ -19,7 +19,7 @@ is-tag-before-spec =
     Inv-loop
     μ-loop
     (λ c. search tags-begin)  -- loop-holds
-    (λ c κs. search needs)  -- is-optional-of-requires
+    (λ c κs. (search needs, omega arith))  -- is-optional-of-requires
     (λ c. search tags-here)  -- returns
     (λ c. omega arith)  -- add-i
     (λ c. omega arith)  -- loop-less

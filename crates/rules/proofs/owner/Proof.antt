@@ -37,13 +37,13 @@ owner-spec =
     (λ c. omega arith)  -- loop-less
     (λ c. (search needs, search usual-next))  -- loop-again
     (λ c. c .before .loop .inv)  -- loop2-holds
-    (λ c κs. (search needs, omega arith))  -- member-row-in-requires
-    (λ c κs. search needs)  -- member-class-requires
     (λ c κs. (search needs, omega arith))  -- member-at-requires-2
+    (λ c κs. (search needs, omega arith))  -- member-row-in-requires
+    (λ c κs. (search needs, (search needs, omega arith)))  -- member-class-requires
     (λ c. search owner-fault)  -- returns-4
     (λ c κs. omega arith)  -- raised-requires-2
     (λ c. omega arith)  -- add-m-2
     (λ c. omega arith)  -- sub-left-2
     (λ c. omega arith)  -- loop2-less
-    (λ c. (search needs, owner-next _ _ _ _ _ _ (c .before .before .before .before .before .loop2 .inv .1) (c .before .before .before .before .loop2-test .taken) _ (c .before .before .before .member-row-in .ensures) _ (c .before .before .member-class .ensures) (c .before .if5 .left) _ (c .raised2 .ensures)))  -- loop2-again
+    (λ c. (search needs, owner-next _ _ _ _ _ _ (c .before .before .before .before .before .before .loop2 .inv .1) (c .before .before .before .before .before .loop2-test .taken) _ (c .before .before .before .member-row-in .ensures) _ (c .before .before .member-class .ensures) (c .before .if5 .left) _ (c .raised2 .ensures)))  -- loop2-again
     (λ c. search owner-end))  -- returns-5
