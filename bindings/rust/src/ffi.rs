@@ -138,7 +138,7 @@ pub fn write(given: Given, out: &mut [u8]) -> u32 {
     }
 }
 
-/// The other numbers of a reading with a list of so many bytes, and of a writing with such an output.
+/// The other numbers of a reading with a list of so many bytes, and of a writing with an output of so many bytes.
 macro_rules! numbers {
     (read { $($read:ident = $icehub_read:ident;)* } write { $($write:ident = $icehub_write:ident;)* }) => {
         extern "C" {

@@ -1,7 +1,7 @@
 //! Reads and writes messages of Ice encoding 1.1 by a lent type table: the proved library `libicehub.a`, safe to call
 //! from Rust.
 //!
-//! Any bytes may be handed to any call. A call that refuses says why and where, and leaves every lent byte as it was.
+//! Any call may be given any bytes. A call that refuses says why and where, and leaves every lent byte as it was.
 //! Nothing is allocated.
 //!
 //! ```

@@ -45,7 +45,7 @@ impl<'a> Value<'a> {
         (length == bytes.len()).then_some(value)
     }
 
-    /// The value of a type at the front of these bytes, and its length; none where they run out before it ends.
+    /// The value of a type at the start of these bytes, and its length; none where they run out before it ends.
     ///
     /// Nothing else is judged: a bool of 2 is true, an enumerator may be any number.
     pub fn at_front(of: TypeRow<'a>, bytes: &'a [u8]) -> Option<(Value<'a>, usize)> {
@@ -322,7 +322,7 @@ pub struct Endpoint<'a> {
     pub encoding: (u8, u8),
 }
 
-/// The bytes not yet taken. Each function takes an item from the front; none where it is not there.
+/// The bytes not yet taken. Each function takes the next item; none where it is not there.
 #[derive(Clone, Copy, Debug)]
 struct Rest<'a>(&'a [u8]);
 

@@ -1,4 +1,4 @@
-//! Every refusal by a call that meets it: its number, its place, and that every lent byte stays.
+//! Every refusal: a call that gets it, with its number and its place, and every lent byte stays.
 
 mod tables;
 

@@ -289,7 +289,7 @@ pub fn each(call: &Call, mut run: impl FnMut(&'static str, &mut dyn FnMut())) {
     }
 }
 
-/// The library's answer to a call; none to one that C does not have.
+/// The library's answer to a call; none to a call that C does not have.
 pub fn answer(call: &Call) -> Option<Answer> {
     match call {
         Call::Read { table, top, message, room } => {

@@ -16,7 +16,8 @@ impl<'a> Records<'a> {
         self.take(4)?.try_into().map(u32::from_le_bytes).ok()
     }
 
-    /// A record: a table to hold, or a call under the table held. A call with row records is one of the reader with room for eight rows.
+    /// A record: a table to hold, or a call under the table held. A call with row records is one of the reader with room
+    /// for eight rows.
     fn record(&mut self, table: &mut Vec<u8>) -> Option<Option<Call>> {
         let (kind, length) = (self.int()?, self.int()?);
         let [a, b, c, d, e] = [self.int()?, self.int()?, self.int()?, self.int()?, self.int()?];

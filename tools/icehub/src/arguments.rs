@@ -36,8 +36,8 @@ Shows each message: its members with their places and values, or its refusal in 
   --hex    the FILEs are hex text: pairs of digits, with any white space between them
   --       what follows is no option
 
-With several FILEs each message has its file's name, and a summary comes at the end. If that takes more than a second
-and standard error is a terminal, a line there says how far it is.
+With several FILEs each message has its file's name, and a summary comes at the end. If that takes more than a second, a
+line on standard error says how far it is, where that is a terminal and standard output is not.
 
 In JSON, a struct is a list of its members' values, a dictionary a list of objects with key and value (jq's
 from_entries), an enumerator its number, a nil proxy null, a string that is not UTF-8 an object with its bytes in hex, and

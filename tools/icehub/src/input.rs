@@ -44,7 +44,7 @@ impl Source {
         self.read(most as u64 + 1).map_err(|error| format!("cannot read {}: {error}", self.name()))
     }
 
-    /// The bytes that its hex text stands for.
+    /// The bytes of its hex text.
     pub fn hex_bytes(&self) -> Result<Vec<u8>, String> {
         let text = self.read(u64::MAX).map_err(|error| format!("cannot read {}: {error}", self.name()))?;
         unhex(&text).map_err(|wrong| format!("{}: {wrong}", self.name()))

@@ -1,4 +1,4 @@
-//! Where a refusal fell: the slice and the member of a message that hold a place.
+//! Where a refusal is: the slice and the member of a message that hold a place.
 //!
 //! The library has refused the message at that place, so what comes before it follows the rules, and can be walked by
 //! lengths alone. The walk judges nothing, and stops where it does not know how to go on.

@@ -44,7 +44,7 @@ impl Status {
     }
 }
 
-/// A line on standard error. Where nobody reads it, that is no reason to stop.
+/// Prints a line on standard error. If nobody reads it, the program goes on.
 pub fn tell(text: &str) {
     let _ = writeln!(io::stderr(), "icehub: {text}");
 }
@@ -54,7 +54,7 @@ fn main() -> ExitCode {
     let mut out = BufWriter::with_capacity(1 << 16, io::stdout().lock());
     let written = run(&mut out, &mut status).and_then(|()| out.flush());
     match written {
-        // Whoever read the output has seen enough.
+        // Whoever reads the output has closed it.
         Err(error) if error.kind() == ErrorKind::BrokenPipe => {}
         Err(error) => {
             tell(&format!("cannot write the output: {error}"));
@@ -62,7 +62,7 @@ fn main() -> ExitCode {
         }
         Ok(()) => {}
     }
-    // What is left in the buffer has nowhere to go, and is not tried again.
+    // What is left in the buffer is dropped: it could not be written.
     let _ = out.into_parts();
     ExitCode::from(status as u8)
 }

@@ -1,4 +1,4 @@
-//! A refused message for a person: the refusal in words, the slice and member it fell in, and the bytes around it.
+//! A refused message for a person: the refusal in words, the slice and member that it is in, and the bytes around it.
 
 use crate::locate::{locate, Location};
 use crate::{broken, words};
@@ -28,7 +28,7 @@ pub fn write(out: &mut dyn Write, bytes: &[u8], top: u32, message: &[u8], refusa
     }
 }
 
-/// Why the top is none.
+/// Why this row cannot be a top.
 fn write_top(out: &mut dyn Write, table: Table, top: u32) -> io::Result<()> {
     match table.type_row(top) {
         Some(of) => writeln!(out, "  type {top} is {}", words::type_words(of)),

@@ -165,7 +165,7 @@ impl Tally {
     }
 }
 
-/// A line on the terminal that says how far the work is, from its second second on.
+/// A line on the terminal that says how far the work is, after the first second.
 struct Progress<W> {
     out: W,
     is_shown: bool,
@@ -186,7 +186,7 @@ impl<W: Write> Progress<W> {
         let is_due = self.last.is_none_or(|last| now - last >= Self::PAUSE);
         if self.is_shown && is_due && now - self.start >= Self::WAIT {
             self.last = Some(now);
-            // A terminal that cannot be written to is no reason to stop.
+            // If the terminal cannot be written to, the work goes on.
             let _ = write!(self.out, "\r{done} of {all} messages").and_then(|()| self.out.flush());
         }
     }

@@ -335,7 +335,7 @@ fn several_files() {
     assert_eq!((&run.err[..], run.status), ("", 1));
 }
 
-/// Whoever reads the output may stop: no message, no signal.
+/// Whoever reads the output may stop: the tool prints nothing and ends as usual.
 #[test]
 fn closed_pipe() {
     let files = damaged("closed_pipe", 1);
@@ -349,7 +349,7 @@ fn closed_pipe() {
     assert_eq!((output.status.code(), &output.stderr[..]), (Some(0), &b""[..]));
 }
 
-/// Nor does it mind if nobody reads standard error.
+/// If nobody reads standard error, the tool goes on.
 #[test]
 fn closed_error_pipe() {
     let words = ["show", "--json", "fault.table", "2", "none.message", "fault.message"];

@@ -1,7 +1,7 @@
-//! stack [PATH...]: the deepest stack of each call of the library, in bytes with its return address and the arguments
-//! that lie on the stack. Made are recorded calls, generated calls, and calls under tables of 256 types, each type nested
-//! in the next. A PATH has recorded calls: crates/replay, another directory with *.jsonl in it, or
-//! a file of that kind. Each call runs on a painted stack of its own: where the paint ends is how deep it went. x86-64 only.
+//! stack [PATH...]: the deepest stack of each call of the library, in bytes, with its return address and the arguments
+//! on the stack. It makes recorded calls, generated calls, and calls under tables of 256 types, each type nested in the
+//! next. A PATH has recorded calls: crates/replay, another directory with *.jsonl in it, or a file of that kind. Each
+//! call runs on a painted stack of its own: where the paint ends is how deep it went. x86-64 only.
 
 use independent::calls::Call;
 use independent::ffi;
