@@ -1,12 +1,12 @@
 //! Times the proved library and this implementation on the same inputs, in one run: nanoseconds a call, each the least
-//! of several rounds, the rounds of the two in turn.
+//! of several rounds, the rounds of the two in turn. Then times two calls of C against the reader's in the same way.
 
 use independent::spec::Spec;
 use independent::{ffi, read, write};
 use std::hint::black_box;
 use std::time::{Duration, Instant};
 
-/// A round is short, so that some of many are left alone by whatever else runs; rounds go on for a while.
+/// Rounds are short and many, so that some of them are not disturbed by other programs.
 const ROUND: Duration = Duration::from_micros(50);
 const WHILE: Duration = Duration::from_millis(500);
 const LEAST_ROUNDS: usize = 20;
@@ -67,6 +67,28 @@ impl Case {
             4,
         );
     }
+
+    /// The reader with its numbers, and the view of the last member listed, against the reader.
+    fn run_calls(&self) {
+        let Case { name, table, top, message, rows, .. } = self;
+        let mut lent = vec![0; rows.len()];
+        let mut other = lent.clone();
+        let mut numbers = [0; 20];
+        report(
+            &format!("{name}: icehub_read_numbers"),
+            || ffi::read_numbers(black_box(table), *top, black_box(message), &mut lent, &mut numbers),
+            || ffi::read(black_box(table), *top, black_box(message), &mut other),
+            0,
+        );
+        let last = rows.len() - 12;
+        let member = u32::from_le_bytes([rows[last], rows[last + 1], rows[last + 2], rows[last + 3]]);
+        report(
+            &format!("{name}: icehub_member"),
+            || ffi::member(black_box(table), *top, black_box(message), member, &mut numbers),
+            || ffi::read(black_box(table), *top, black_box(message), &mut other),
+            0,
+        );
+    }
 }
 
 fn number<T>(result: Result<T, (u32, u32)>) -> u32 {
@@ -74,14 +96,14 @@ fn number<T>(result: Result<T, (u32, u32)>) -> u32 {
 }
 
 /// One line: both must give `answer`.
-fn report(name: &str, mut library: impl FnMut() -> u32, mut independent: impl FnMut() -> u32, answer: u32) {
-    assert_eq!((library(), independent()), (answer, answer), "{name}");
-    let (calls, other_calls) = (calls_a_round(&mut library), calls_a_round(&mut independent));
+fn report(name: &str, mut call: impl FnMut() -> u32, mut other: impl FnMut() -> u32, answer: u32) {
+    assert_eq!((call(), other()), (answer, answer), "{name}");
+    let (calls, other_calls) = (calls_a_round(&mut call), calls_a_round(&mut other));
     let (mut least, mut other_least) = (f64::MAX, f64::MAX);
     let (start, mut rounds) = (Instant::now(), 0);
     while rounds < LEAST_ROUNDS || start.elapsed() < WHILE {
-        least = least.min(round(&mut library, calls));
-        other_least = other_least.min(round(&mut independent, other_calls));
+        least = least.min(round(&mut call, calls));
+        other_least = other_least.min(round(&mut other, other_calls));
         rounds += 1;
     }
     println!("{name:<46} {least:>12.1} {other_least:>12.1} {:>8.2}", least / other_least);
@@ -117,14 +139,20 @@ fn size(size: u32) -> Vec<u8> {
     [&[255][..], &size.to_le_bytes()].concat()
 }
 
+/// The heads of the columns.
+fn heads(call: &str, other: &str) {
+    println!("{:<46} {call:>12} {other:>12} {:>8}", "ns a call", "ratio");
+}
+
 fn main() {
-    println!("{:<46} {:>12} {:>12} {:>8}", "ns a call", "library", "independent", "ratio");
+    heads("library", "independent");
 
     let mut spec = Spec::default();
     let (short, int, long) = (spec.basic(2), spec.basic(3), spec.basic(4));
     let top = spec.owner(15, &[(short, None), (long, Some(7)), (int, Some(8))]);
     let p2 = [(0, vec![0x0C, 0xFE]), (1, vec![0, 0, 0, 0, 1, 0, 0, 0]), (2, vec![8, 7, 0, 0])];
-    Case::new("P2", &spec, top, &p2).run();
+    let p2 = Case::new("P2", &spec, top, &p2);
+    p2.run();
 
     // 1 KB in four slices, each with required members and optionals.
     let mut spec = Spec::default();
@@ -163,7 +191,8 @@ fn main() {
         ];
         values.extend(data.into_iter().enumerate().map(|(i, value)| (first + i, value)));
     }
-    Case::new("record of 4 slices", &spec, chain[3], &values).run();
+    let record = Case::new("record of 4 slices", &spec, chain[3], &values);
+    record.run();
 
     let mut spec = Spec::default();
     let short = spec.basic(2);
@@ -185,7 +214,8 @@ fn main() {
     let top = spec.owner(15, &members);
     let value = |i: usize| vec![1; [1, 1, 2, 4, 8, 4, 8, 2][i % 8]];
     let values: Vec<_> = (0..1_024).map(|i| (i, value(i))).collect();
-    Case::new("1,024 members", &spec, top, &values).run();
+    let many = Case::new("1,024 members", &spec, top, &values);
+    many.run();
 
     // The slowest that we know: tags that fall, so that each is compared with all before; a bool inside 253 structs,
     // as often as a message can hold it.
@@ -204,4 +234,10 @@ fn main() {
     let top = spec.owner(15, &[(parts, None)]);
     let member = spec.members.len() - 1;
     Case::new("65,525 deep bools", &spec, top, &[(member, [size(65_525), vec![1; 65_525]].concat())]).run();
+
+    println!();
+    heads("call", "icehub_read");
+    for case in [p2, record, many] {
+        case.run_calls();
+    }
 }
