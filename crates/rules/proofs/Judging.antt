@@ -559,8 +559,8 @@ module _ (T : List ℕ) (t a e : ℕ) (ea : a ≡ rowAt T t) (ee : e ≡ rowAt T
 zero-parts : (T : List ℕ) (k p : ℕ) → at T (2 + k) p ≡ 0 → (at T 2 p ≡ 0) × (at T k (p + 2) ≡ 0)
 zero-parts T k p h = (omega (arith, at-split T 2 k p), omega (arith, at-split T 2 k p))
 
--- a kind below 8 takes no member rows
-low-owns : (k : ℕ) → k < 8 → owns k ≡ false
+-- a kind below 9 takes no member rows
+low-owns : (k : ℕ) → k < 9 → owns k ≡ false
 low-owns k h = rw (ne-eqb k 9 (λ e. omega arith), ne-eqb k 13 (λ e. omega arith), ne-eqb k 14 (λ e. omega arith), ne-eqb k 15 (λ e. omega arith))
 
 module _ (T : List ℕ) (t : ℕ) (basic : isBasic T t ≡ true) where
@@ -592,7 +592,7 @@ module _ (T : List ℕ) (t : ℕ) (basic : isBasic T t ≡ true) where
 
   basic-plain : isRecord (kind T t) ≡ false
   basic-plain =
-      let z = either-false (eqb (kind T t) 9) _ (low-owns (kind T t) basic-kind) in
+      let z = either-false (eqb (kind T t) 9) _ (low-owns (kind T t) (omega (arith, basic-kind))) in
       either-false (isRecord (kind T t)) _ (z .1) .0
 
   basic-rules : 0 ≡ firstOf (typeRules T t)
@@ -604,7 +604,7 @@ module _ (T : List ℕ) (t : ℕ) (basic : isBasic T t ≡ true) where
       ∙ row-rules T t
 
   basic-share : 0 ≡ share (typeRowOf T t)
-  basic-share = share-none (typeRowOf T t) (owns (kind T t)) refl (low-owns (kind T t) basic-kind)
+  basic-share = share-none (typeRowOf T t) (owns (kind T t)) refl (low-owns (kind T t) (omega (arith, basic-kind)))
 
 -- ---- a pass
 
@@ -991,6 +991,11 @@ module _ (T : List ℕ) (n o : ℕ) (inv : Owners T n o) where
     pub owners-next : v ≡ Fine → Owners T n (o + 1)
     unfolding ownersPass
     owners-next q = record { within = omega arith; rest = λ there. inv .rest there ∙ rw (range-more o n h) (or-finding (ownerPass T o) _ (owner-says there ∙ q)) }
+
+  -- a row that takes no member rows
+  pub owners-low : o < n → n ≡ types T → (k : ℕ) → k ≡ kind T o → k < 9 → Owners T n (o + 1)
+  unfolding ownerPass findingOf pass range share
+  owners-low h en k ek low = owners-next h en Fine (λ there. rw (low-owns (kind T o) (omega arith))) refl
 
 -- ---- header, type rows and member sum, member rows
 

@@ -561,7 +561,7 @@ fn owner(table: &[u8], o: usize, first: usize, k: usize) -> Finding
     Finding::Fine
 }
 
-// The pass over the k member rows, owner by owner of the n type rows, if the member rows of each owner are all there.
+// The pass over the k member rows, owner by owner of the n type rows, if the member rows of each owner are all there. A row of kinds 0 to 8 takes none and is passed at once.
 fn member_rows(table: &[u8], n: usize, k: usize) -> Finding
     requires { ⌜ (n ≡ types (now table)) × (k ≡ members (now table)) ⌝ }
     requires { ⌜ memberAt (now table) k ≤ length (now table) ⌝ }
@@ -570,6 +570,10 @@ fn member_rows(table: &[u8], n: usize, k: usize) -> Finding
     let first = table::row_at(table, n);
     let mut o = 0;
     while o < n {
+        if table::kind_in(table, o) < 9 {
+            o += 1;
+            continue;
+        }
         let v = owner(table, o, first, k);
         match v {
             Finding::Fine => {}

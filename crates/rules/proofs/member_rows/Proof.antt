@@ -2,7 +2,7 @@
 use Prim.Native.Nat.{_-_}
 use borrow.Author.Needs.{needs}
 use native.Mathlib.Omega.{arith}
-use Rattle.rules.proofs.Judging.{Owners, owners-begin, owners-fault, owners-next, owners-end}
+use Rattle.rules.proofs.Judging.{Owners, owners-begin, owners-fault, owners-next, owners-low, owners-end}
 use Rattle.rules.proofs.member_rows.Statement.{statement}
 use Rattle.rules.proofs.member_rows.Tie as tie
 
@@ -20,11 +20,15 @@ member-rows-spec =
     μ-loop
     (λ c κs. search needs)  -- row-at-requires
     (λ c. search owners-begin)  -- loop-holds
+    (λ c κs. omega arith)  -- kind-in-requires
+    (λ c. omega arith)  -- add-o
+    (λ c. omega arith)  -- loop-less
+    (λ c. search owners-low)  -- loop-again
     (λ c κs. search needs)  -- owner-requires
     (λ c. search needs)  -- enum-told
     (λ c. search needs)  -- enum-known-v
     (λ c. search owners-fault)  -- returns
-    (λ c. omega arith)  -- add-o
-    (λ c. omega arith)  -- loop-less
-    (λ c. search owners-next)  -- loop-again
+    (λ c. omega arith)  -- add-o-2
+    (λ c. omega arith)  -- loop-less-2
+    (λ c. search owners-next)  -- loop-again-2
     (λ c. search owners-end))  -- returns-2
