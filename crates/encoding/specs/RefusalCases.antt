@@ -6,6 +6,7 @@
 --   readerCases, reader-refuses              2 and 4 to 18, in the order of document 01's table
 --   short-list                               19
 --   writerCases, writer-refuses              2 and 20 to 23
+--   record-written                           a record that is written, byte by byte
 --   long-message, long-buffer                3, one byte above the limit
 --   longest-message, longest-buffer          at the limit there is no 3
 use mathlib.Core.Path.{_≡_, refl}
@@ -195,6 +196,11 @@ writtenNumbers c = Write.writingNumbers (Write.writingOf (Write.writing (lone (b
 pub writer-refuses : map writtenNumbers writerCases ≡ map (λ c. c .gives) writerCases
 unfolding computed writerComputed writerCases writtenNumbers
 writer-refuses = refl
+
+-- no refusal: D, sliced, of its optional byte 9 and of B's byte 7
+pub record-written : Write.writing records 2 1 2 (row 1 0 1 ++ row 0 1 1) (9 ∷ 7 ∷ []) 24 ≡ Write.out (sent (21 ∷ 1 ∷ 68 ∷ 7 ∷ 0 ∷ 0 ∷ 0 ∷ 8 ∷ 9 ∷ 255 ∷ 49 ∷ 1 ∷ 66 ∷ 5 ∷ 0 ∷ 0 ∷ 0 ∷ 7 ∷ []))
+unfolding computed writerComputed
+record-written = refl
 
 -- ---- the limit
 

@@ -58,8 +58,8 @@ pub pass-fine : (place : ℕ → ℕ) (rules : ℕ → List (ℕ × Bool)) (i k 
 unfolding pass range
 pass-fine place rules i zero h r l m = absurd (omega arith)
 pass-fine place rules i (suc k) h r l m =
-    let a = orElse-fine (faultAt (place i) (firstOf (rules i))) _ h in
-    elim (ℕ-discrete i r) [ yes e ↦ subst (λ (x : ℕ). firstOf (rules x) ≡ 0) e (faultAt-fine (place i) (firstOf (rules i)) (a .0)) | no e ↦ pass-fine place rules (suc i) k (a .1) r (omega (arith, e)) (omega arith) ]
+    let a = orElse-fine _ _ h in
+    elim (ℕ-discrete i r) [ yes e ↦ subst (λ (x : ℕ). firstOf (rules x) ≡ 0) e (faultAt-fine _ (firstOf (rules i)) (a .0)) | no e ↦ pass-fine place rules (suc i) k (a .1) r (omega (arith, e)) (omega arith) ]
 
 -- each number of a list of judgements is one
 abbrev Some : ℕ → Type 0 → Type 0

@@ -80,7 +80,7 @@ meant-judges (wrong n) h = go (eqb n 0) (ofContents n) h
 module _ (T : List ℕ) where
   meant-seek : (top : ℕ) (last : Bool) (o : Option ℕ) → Meant (seekMeaning T top last o)
   unfolding seekMeaning knownMeaning
-  meant-seek top last none = meant-pick last (wrong 16) skip refl tt
+  meant-seek top last none = meant-pick last _ _ refl tt
   meant-seek top last (some t) = meant-pick (any (λ r. eqb r top) (chain T t) && not (wrongLast T t last)) (row t) (wrong 17) tt refl
 
   pub meant-head : (top : ℕ) (st : Stage) (h : Head) → Meant (meaning T top st h)
