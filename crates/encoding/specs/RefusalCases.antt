@@ -1,4 +1,5 @@
 -- Each refusal of a reader or a writer, 2 to 23, by a call on a few bytes for each of its reasons in document 01: its number and its place.
+-- Only 22 of a message above 65,536 bytes has no case here: `TooLong` promises it of all messages.
 -- It fixes which number a reason has: a promise about all messages says of 7 to 18 only that they come inside the encapsulation.
 --
 --   records                                  a table of two exceptions and a class
@@ -85,6 +86,8 @@ readerCases =
     ∷ refuses records 1 (5 ∷ 1 ∷ 68 ∷ []) 4 9  -- bit 2, and nothing after the ID
     ∷ refuses records 1 (5 ∷ 1 ∷ 68 ∷ 8 ∷ 9 ∷ []) 4 11  -- the end marker missing
     ∷ record { asks = reads table4 0 (5 ∷ 0 ∷ 0 ∷ 0 ∷ 1 ∷ []); gives = refusal 5 0 }  -- 5: a size under 6
+    ∷ record { asks = reads table4 0 (7 ∷ 0 ∷ 0 ∷ 0 ∷ 1 ∷ 1 ∷ []); gives = refusal 5 0 }  -- not the length
+    ∷ record { asks = reads table4 0 (6 ∷ 0 ∷ 0 ∷ 0 ∷ 2 ∷ 1 ∷ []); gives = refusal 6 4 }  -- 6: version 2.1
     ∷ refuses (lone (basic 7)) 1 (255 ∷ 2 ∷ 0 ∷ 0 ∷ 0 ∷ 65 ∷ 66 ∷ []) 7 6  -- 7: a long form below 255
     ∷ refuses (lone (basic 7)) 1 (255 ∷ 255 ∷ 255 ∷ 255 ∷ 255 ∷ []) 7 6  -- a negative size
     ∷ refuses (loneOptional (basic 1)) 1 (240 ∷ 255 ∷ 30 ∷ 0 ∷ 0 ∷ 0 ∷ 7 ∷ []) 7 7  -- a tag's size
