@@ -1,26 +1,21 @@
 -- The type ID of an owner. Assumes nothing.
 --
---   name-few            a name is at most as long as its length says
 --   id-long, id-none    how many bytes the type ID takes, where it is due and where not
 --   id-put, id-put-none its size, and the name after it
 use mathlib.Core.Path.{_≡_, sym, ap, _∙_}
 use mathlib.Core.Bool.{Bool, true, false}
 use mathlib.Core.List.{List}
-use Prim.Native.Nat.{ℕ, _+_, _≤_}
+use Prim.Native.Nat.{ℕ, _+_}
 use native.Mathlib.Omega.{arith}
-use native.Mathlib.Nat.{min-le-left}
 use lib.ListN.{length, take, drop, length-append}
 use Rattle.encoding.specs.Number.{sizeBytes, stringBytes}
-use Rattle.encoding.specs.Table.{field, nameOf}
+use Rattle.encoding.specs.Table.{nameOf}
 use Rattle.table.specs.Names.{nameStart}
-use Rattle.table.specs.NamesLaws.{name-part, length-name}
+use Rattle.table.specs.NamesLaws.{name-part}
 use Rattle.wire.specs.Put.{put}
 use Rattle.pieces.specs.Puts.{Puts}
 use Rattle.pieces.specs.PutsLaws.{puts-one, puts-none, puts-size, puts-then}
 use Rattle.writer.specs.Slices.{idField}
-
-pub name-few : (T : List ℕ) (o n most : ℕ) → n ≡ length (nameOf T o) → most ≡ field T o 4 → n ≤ most
-name-few T o n most e f = let l : length (nameOf T o) ≤ field T o 4 = rw (length-name T o) (min-le-left _ _) in omega arith
 
 module _ (T : List ℕ) (o : ℕ) (id : Bool) where
   pub id-none : id ≡ false → 0 ≡ length (idField T o id)

@@ -5,10 +5,9 @@ use pieces::Placed;
 use pieces::piece;
 use pieces::state;
 ghost use mathlib.Core.Path.{_≡_};
-ghost use Prim.Native.Nat.{_+_, _≤_, _<_};
+ghost use Prim.Native.Nat.{_+_, _≤_};
 ghost use lib.ListN.{length};
 ghost use Rattle.encoding.specs.Result.{pick};
-ghost use Rattle.encoding.specs.Table.{nameOf};
 ghost use Rattle.shapes.specs.Shapes.{shapesOf};
 ghost use Rattle.pieces.specs.Puts.{Puts};
 ghost use Rattle.writer.specs.Slices.{formatBy, idField, frontField, RowsPut, DataPut, SlicePut};
@@ -81,24 +80,12 @@ pub fn put_rows(
     }
 }
 
-// How many bytes the name of owner o has.
-fn name_len(table: &[u8], o: usize) -> usize
-    ensures { λ r. ⌜ (r ≡ length (nameOf (now (table .entry)) o)) × (r < 65536) ⌝ }
-{
-    let n = table::naming::name_length(table, o);
-    let most = table::field(table, o, 4);
-    if most < n {
-        return most;
-    }
-    n
-}
-
 // How many bytes the type ID of owner o takes, if it is due.
 fn id_len(table: &[u8], o: usize, id: bool) -> usize
     ensures { λ r. ⌜ (r ≡ length (idField (now (table .entry)) o id)) × (r ≤ 65540) ⌝ }
 {
     if id {
-        let n = name_len(table, o);
+        let n = table::naming::name_length(table, o);
         return wire::size_len(n) + n;
     }
     0
@@ -110,10 +97,11 @@ fn put_id(table: &[u8], out: &mut [u8], at: usize, o: usize, id: bool) -> usize
     ensures { λ r. ⌜ Puts at (idField (now (table .entry)) o id) (now (out .entry)) (now (out .exit)) r × (r ≤ at + 65540) ⌝ }
 {
     if id {
-        let n = name_len(table, o);
+        let n = table::naming::name_length(table, o);
+        let name = table::naming::name_start(table, o);
         let k = wire::size_len(n);
         wire::put_size(out, at, n);
-        wire::put_part(out, at + k, table, table::naming::name_start(table, o), n);
+        wire::put_part(out, at + k, table, name, n);
         return at + k + n;
     }
     at

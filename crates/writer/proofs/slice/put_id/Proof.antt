@@ -9,14 +9,14 @@ pub put-id-spec : {M : Type 1} → statement M
 put-id-spec =
     tie.close
     (tie.spec
-    (λ c κs. search needs)  -- name-len-requires
+    (λ c κs. search needs)  -- name-length-requires
+    (λ c κs. search needs)  -- name-start-requires
     (λ c κs. search needs)  -- size-len-requires
     (λ c κs. search needs)  -- put-size-requires
     (λ c. search needs)  -- add-put-part
-    (λ c κs. search needs)  -- name-start-requires
     (λ c κs. search needs)  -- put-part-requires
     (λ c. search needs)  -- add-result
     (λ c. search needs)  -- add-result-2
     (λ c. search needs)  -- same-length
-    (λ c. (id-put _ _ _ (c .before .before .before .before .before .before .before .before .before .before .before .if1 .taken) _ _ (c .before .before .before .before .before .before .before .before .before .before .name-len .ensures .0) (c .before .before .before .before .before .before .before .before .before .size-len .ensures .0) _ _ _ _ _ (c .before .before .before .before .before .before .before .put-size .ensures) (c .before .before .before .name-start .ensures .0) (c .before .before .put-part .ensures), omega arith))  -- returns
+    (λ c. (search id-put, omega arith))  -- returns
     (λ c. (search id-put-none, omega arith)))  -- returns-2
