@@ -1,5 +1,5 @@
 -- The numbers of an accepted message are small: each fits the 32 bits in which a call gives it.
--- A skipped optional has a header and a skipped slice has flags, so there are no more of them than bytes; rows are at most 1,024.
+-- A skipped optional has a header and a skipped slice has flags, so there are no more of them than bytes; rows are at most 1,024 and no more than the members of the table.
 --
 --   Small            the numbers of an answer to an accepted message
 --   accepted-small   of every message that the rules accept
@@ -13,7 +13,7 @@ use lib.Dec.{ltb}
 use Rattle.encoding.specs.Result.{ok, pick, concat}
 use Rattle.encoding.specs.Number.{Bytes, sizeBytes}
 use Rattle.encoding.specs.Types.{Bits, bits}
-use Rattle.encoding.specs.Table.{types}
+use Rattle.encoding.specs.Table.{types, members}
 use Rattle.encoding.specs.RuleLaws.{named-ok, types-most}
 use Rattle.encoding.specs.Optional.{Piece, required, optional, skipped, isSkipped, headerBytes, frontBytes, contentBytes, pieceBytes}
 use Rattle.encoding.specs.Slice.{Format, Slice, known, passed, Stand, first, later, isLast, anyOptional, sliceFront, dataBytes, slicesBytes}
@@ -23,11 +23,12 @@ use Rattle.encoding.specs.Conform.{Slices, Conform}
 use Rattle.laws.specs.Demands.{readAs}
 use Rattle.laws.specs.TableExact.{sound}
 use Rattle.laws.specs.MessageExact.{exact-message}
-use Rattle.laws.specs.RowsMost.{rows-most}
+use Rattle.laws.specs.RowsMost.{rows-most, rows-members}
 
 pub record Small (T : List ℕ) (top : ℕ) (f : Format) (p : Pieces) : Type 0 where
   pub first : firstKnown T top p < 256
   pub count : length (rows T top f p) ≤ 1024
+  pub owned : length (rows T top f p) ≤ members T
   pub optionals : optionalsSkipped p ≤ 65536
   pub slices : slicesSkipped p ≤ 65536
 
@@ -100,6 +101,7 @@ accepted-small T top m f p n y h =
     record {
       first = omega (arith, first-small T top f p l (E .conforms), types-most T (sound T (E .table)));
       count = rows-most T (sound T (E .table)) top f p l (E .conforms);
+      owned = rows-members T (sound T (E .table)) top f p l (E .conforms);
       optionals = omega (arith, S .0);
       slices = omega (arith, S .1);
     }

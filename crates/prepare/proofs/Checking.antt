@@ -4,14 +4,13 @@
 --   top-beyond, top-kind                              2
 --   format-great, format-list, format-known           23
 --   early-top, early-format, early-long, early-none   2, 23 and 3 in turn
---   broken-checks, early-checks, ready-checks         what `checks` gives; broken-, early-, ready-shapes: the lent array then
---   anew-checks, anew-ready                           the same of a table taken anew
+--   broken-checks, early-checks, ready-checks         what `checks` gives
 use mathlib.Core.Path.{_≡_, refl, sym, ap, _∙_}
 use mathlib.Core.Bool.{Bool, true, false}
 use mathlib.Core.List.{List, [], _∷_}
-use Prim.Native.Nat.{ℕ, zero, suc, _-_, _≤_, _<_}
+use Prim.Native.Nat.{ℕ, zero, suc, _≤_, _<_}
 use native.Mathlib.Omega.{arith}
-use lib.ListN.{length, take, drop, getD}
+use lib.ListN.{length, getD}
 use lib.Dec.{eqb, ltb}
 use borrow.Author.Tests.{le-leb, lt-leb, le-ltb, lt-ltb, eq-eqb, ne-eqb}
 use Rattle.encoding.specs.Result.{firstOf}
@@ -19,14 +18,12 @@ use Rattle.encoding.specs.Number.{Bytes}
 use Rattle.encoding.specs.Table.{types, kind, Fault, fine, fault, faults, ruleNumber}
 use Rattle.encoding.specs.Message.{noTop, limit}
 use Rattle.encoding.specs.Write.{noFormat}
-use Rattle.wire.specs.StepLaws.{rest-is}
 use Rattle.rules.specs.Checks.{findingOf}
-use Rattle.shapes.specs.Shapes.{shapesOf}
 use Rattle.rules.specs.declared.Finding.{Finding}
 use Rattle.rules.specs.declared.Finding.the-variants.{Fine, Broken}
 use Rattle.prepare.specs.declared.Prepared.{Prepared}
 use Rattle.prepare.specs.declared.Prepared.the-variants.{Ready, Refused}
-use Rattle.prepare.specs.Preparing.{before, checked, checks, ReadyShapes}
+use Rattle.prepare.specs.Preparing.{before, checked, checks}
 
 pub bytes-known : (s : List ℕ) → ((i : ℕ) → getD s i 0 < 256) → Bytes s
 bytes-known [] h = tt
@@ -85,13 +82,6 @@ module _ (T : List ℕ) (top format len : ℕ) (a : Bool) (ea : a ≡ noTop T to
 
 -- ---- all checks
 
--- a refusal asks nothing of the lent array
-pub refused-shapes : (T : List ℕ) (c p : ℕ) (shapes : List ℕ) → ReadyShapes T (Refused c p) shapes
-refused-shapes T c p shapes = record { same = λ e. let z : _≡_ {A = ℕ} 0 1 = cc in absurd (omega arith) }
-
-pub ready-shapes : (T shapes : List ℕ) → shapes ≡ shapesOf T → ReadyShapes T Ready shapes
-ready-shapes T shapes e = record { same = λ _. e }
-
 module _ (T : List ℕ) (top format len : ℕ) (v : Finding) (ev : v ≡ findingOf (faults T)) where
   pub broken-checks : (c p : ℕ) → v ≡ Broken c p → Refused c p ≡ checks T top format len
   unfolding findingOf checks checked ruleNumber
@@ -121,15 +111,3 @@ module _ (T : List ℕ) (top format len : ℕ) (v : Finding) (ev : v ≡ finding
     pub ready-checks : n ≡ 0 → Ready ≡ checks T top format len
     unfolding checked
     ready-checks e = sym (passed ∙ ap (checked fine) e)
-
--- ---- the table taken anew
-
--- a slice from 0 on, as the check names it
-abbrev anew : List ℕ → List ℕ
-anew s = take (length s - 0) (drop 0 s)
-
-pub anew-checks : (T : List ℕ) (top format len : ℕ) (r : Prepared) → r ≡ checks (anew T) top format len → r ≡ checks T top format len
-anew-checks T top format len r e = rw (rest-is T 0) at e
-
-pub anew-ready : (T : List ℕ) (r : Prepared) (shapes : List ℕ) → ReadyShapes (anew T) r shapes → ReadyShapes T r shapes
-anew-ready T r shapes S = record { same = λ e. S .same e ∙ ap shapesOf (rest-is T 0) }

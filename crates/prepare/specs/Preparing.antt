@@ -2,8 +2,6 @@
 --
 --   before T top format len   the first of 2, 23 and 3 that applies; 0 if none does
 --   checks T top format len   the table's rules, then 2, 23 and 3: a refusal, or ready
---   ReadyShapes               where ready, the lent array has the shapes of the table
-use mathlib.Core.Path.{_≡_}
 use mathlib.Core.List.{List, [], _∷_}
 use Prim.Native.Nat.{ℕ, zero, suc}
 use lib.Dec.{ltb}
@@ -11,7 +9,6 @@ use Rattle.encoding.specs.Result.{firstOf}
 use Rattle.encoding.specs.Table.{kind, Fault, fine, fault, faults, ruleNumber}
 use Rattle.encoding.specs.Message.{noTop, limit}
 use Rattle.encoding.specs.Write.{noFormat}
-use Rattle.shapes.specs.Shapes.{shapesOf}
 use Rattle.prepare.specs.declared.Prepared.{Prepared}
 use Rattle.prepare.specs.declared.Prepared.the-variants.{Ready, Refused}
 
@@ -26,6 +23,3 @@ checked fine (suc n) = Refused (suc n) 0
 
 unfoldable pub checks : List ℕ → ℕ → ℕ → ℕ → Prepared
 checks T top format len = checked (faults T) (before T top format len)
-
-pub record ReadyShapes (T : List ℕ) (r : Prepared) (shapes : List ℕ) : Type 0 where
-  pub same : r ≡ Ready → shapes ≡ shapesOf T

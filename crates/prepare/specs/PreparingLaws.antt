@@ -1,6 +1,5 @@
 -- Laws of `Preparing`: what a refusal and what no refusal mean for the reader and for the writer. Assumes nothing.
 --
---   shapes-ready                      where ready, the lent array has the shapes of the table
 --   ready-table, ready-early          where ready, the table breaks no rule and none of 2, 23, 3 applies
 --   ready-top, ready-short            where ready, the top is a row of the table and the length is at most 65,536
 --   reading-ready, reading-refused    the reader's rules where ready, and where refused
@@ -19,13 +18,9 @@ use Rattle.encoding.specs.RuleLaws.{types-most}
 use Rattle.encoding.specs.Message.{Read, body, noTop, limit, afterRules, refusedFirst, rules}
 use Rattle.encoding.specs.MessageLaws.{rules-body, top-there}
 use Rattle.encoding.specs.Write.{noFormat}
-use Rattle.shapes.specs.Shapes.{shapesOf}
 use Rattle.prepare.specs.declared.Prepared.{Prepared}
 use Rattle.prepare.specs.declared.Prepared.the-variants.{Ready, Refused}
-use Rattle.prepare.specs.Preparing.{before, checked, checks, ReadyShapes}
-
-pub shapes-ready : (T : List ℕ) (r : Prepared) (shapes : List ℕ) → ReadyShapes T r shapes → r ≡ Ready → shapes ≡ shapesOf T
-shapes-ready T r shapes S e = S .same e
+use Rattle.prepare.specs.Preparing.{before, checked, checks}
 
 ready≢refused : {r : Prepared} {c p : ℕ} → r ≡ Ready → r ≡ Refused c p → ⊥
 ready≢refused e h = let z : _≡_ {A = ℕ} 0 1 = cc in omega arith

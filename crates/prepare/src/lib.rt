@@ -1,13 +1,13 @@
-// What comes before a message: the table's rules, then 2, 23 and 3, then the shapes. Every call that reads, views or writes a message begins with `prepare`, and nothing after it checks the table again.
+// What is checked before a message: the table's rules, then 2, 23 and 3. Every call that reads, views or writes a message begins with `prepare`, and nothing after it checks the table again.
 ghost use mathlib.Core.Path.{_≡_};
 ghost use lib.ListN.{length};
 ghost use Rattle.encoding.specs.Number.{Bytes};
 ghost use Rattle.encoding.specs.Message.{noTop};
 ghost use Rattle.encoding.specs.Write.{noFormat};
-ghost use Rattle.prepare.specs.Preparing.{before, checks, ReadyShapes};
+ghost use Rattle.prepare.specs.Preparing.{before, checks};
 use rules::Finding;
 
-// The table breaks no rule and the shapes are computed; or a refusal's number and place.
+// Nothing is refused before the message; or a refusal's number and place.
 pub enum Prepared {
     Ready,
     Refused(usize, usize),
@@ -62,10 +62,10 @@ fn early(table: &[u8], top: usize, format: usize, len: usize) -> usize
     0
 }
 
-// The checks, then the shapes.
-fn checked(table: &[u8], top: usize, format: usize, len: usize, shapes: &mut [u8; 256]) -> Prepared
+// Checks the table, the top, the format and the length of a message or buffer. A reader, which knows no format yet, passes 1: no top is refused for it.
+// Wrong and ruled out: a call that lets format 0 pass for a parameter list; one that refuses exactly 65,536 bytes.
+pub fn prepare(table: &[u8], top: usize, format: usize, len: usize) -> Prepared
     ensures { λ r. ⌜ r ≡ checks (now (table .entry)) top format len ⌝ }
-    ensures { λ r. ⌜ ReadyShapes (now (table .entry)) r (now (shapes .exit)) ⌝ }
 {
     let v = rules::check(table);
     match v {
@@ -75,24 +75,7 @@ fn checked(table: &[u8], top: usize, format: usize, len: usize, shapes: &mut [u8
             if n != 0 {
                 return Prepared::Refused(n, 0);
             }
-            shapes::fill(table, shapes);
             Prepared::Ready
         }
     }
-}
-
-// Checks the table, the top, the format and the length of a message or buffer, and computes the shapes of the table's rows. A reader, which knows no format yet, passes 1: no top is refused for it.
-// The table is taken anew as a part: passing it unchanged causes a store-forwarding stall.
-// Wrong and ruled out: a call that lets format 0 pass for a parameter list; one that refuses exactly 65,536 bytes.
-pub fn prepare(
-    table: &[u8],
-    top: usize,
-    format: usize,
-    len: usize,
-    shapes: &mut [u8; 256],
-) -> Prepared
-    ensures { λ r. ⌜ r ≡ checks (now (table .entry)) top format len ⌝ }
-    ensures { λ r. ⌜ ReadyShapes (now (table .entry)) r (now (shapes .exit)) ⌝ }
-{
-    checked(&table[0..], top, format, len, shapes)
 }

@@ -2,14 +2,15 @@
 --
 --   count-done, count-stop             the rows of a walk, case by case
 --   told-done, told-short, told-stop   the answer of a walk, case by case
---   anew-shapes                        the shapes of a table taken anew
---   body-walked                        what the walk over a body of slices taken anew gives, as one record
---   told-walk                          the answer of a walk over a body
+--   anew-ready, anew-walked            what is asked and given of slices taken anew
+--   unasked                            nothing is asked where the checks are made
+--   ready-known                        nothing is refused where they are left out
+--   stop-walked, body-walked           a check refuses, or the walk over the body says all
+--   told-walked, told-listed           the answer of a walk
 --   rows-put                           a list that holds the rows, after they are put
---   list-short, list-own, list-again   the lent list if it has no room, if the rows come from another list, if a second walk puts them there
---   refused-told, refused-listed       answer and list if a check before the message refuses
---   ready-told, ready-answer, ready-listed   answer and list if none does
-use mathlib.Core.Path.{_≡_, refl, sym, ap, _∙_}
+--   list-short, list-few, list-more    the lent list if it has no room, or if the rows come from a list of 32 rows, or of 128
+--   walk-ready, list-again             where there are more rows nothing was refused; the lent list after a second walk
+use mathlib.Core.Path.{_≡_, refl, sym, ap, ap₂, _∙_}
 use mathlib.Core.Bool.{Bool, true, false}
 use mathlib.Core.List.{List, [], _∷_, _++_}
 use Prim.Native.Nat.{ℕ, _+_, _-_, _*_, _/_, _≤_, _<_}
@@ -19,6 +20,7 @@ use lib.Seq.{take-at}
 use lib.Dec.{eqb, leb}
 use borrow.Author.Tests.{le-leb, lt-leb, ne-eqb}
 use Rattle.encoding.specs.Result.{Res, ok, bad, pick, concat}
+use Rattle.encoding.specs.ResultLaws.{ok≢bad}
 use Rattle.encoding.specs.Number.{Bytes}
 use Rattle.encoding.specs.Slice.{Format, sliced, compact, formatNumber}
 use Rattle.encoding.specs.Message.{Read, body, limit, rules, Row, rows, rowBytes, firstKnown, optionalsSkipped, slicesSkipped, Answer, refused, accepted, answer, room, within, reading, listed, readingOf}
@@ -28,7 +30,6 @@ use Rattle.encoding.specs.declared.Reading.the-variants.{Accepted, Refused}
 use Rattle.wire.specs.StepLaws.{rest-is}
 use Rattle.wire.specs.Put.{put}
 use Rattle.wire.specs.PutLaws.{put-none, put-front}
-use Rattle.shapes.specs.Shapes.{shapesOf}
 use Rattle.level.specs.Fill.{fill}
 use Rattle.level.specs.FillLaws.{fill-listed}
 use Rattle.slices.specs.Walks.{bodyWalk, readDone}
@@ -40,7 +41,7 @@ use Rattle.prepare.specs.Preparing.{checks}
 use Rattle.prepare.specs.PreparingLaws.{reading-ready, reading-refused}
 use Rattle.prepare.specs.declared.Prepared.{Prepared}
 use Rattle.prepare.specs.declared.Prepared.the-variants.{Ready, Refused as Stopped}
-use Rattle.reading.specs.Told.{Walked, low, toldOf, rowCount, readingBody}
+use Rattle.reading.specs.Told.{Walked, Listed, low, toldOf, rowCount}
 
 -- ---- a walk, case by case
 
@@ -125,20 +126,49 @@ module _ (T : List ℕ) (top : ℕ) (m : List ℕ) (b : ℕ) where
 abbrev anew : List ℕ → List ℕ
 anew s = take (length s - 0) (drop 0 s)
 
-pub anew-shapes : (T shapes : List ℕ) → shapes ≡ shapesOf T → shapes ≡ shapesOf (anew T)
-anew-shapes T shapes e = e ∙ ap shapesOf (sym (rest-is T 0))
+module _ (T : List ℕ) (top : ℕ) (m : List ℕ) where
+  pub anew-ready : (b : Bool) → (b ≡ true → checks T top 1 (length m) ≡ Ready) → b ≡ true → checks (anew T) top 1 (length (anew m)) ≡ Ready
+  anew-ready b h e = rw (rest-is T 0, rest-is m 0) (h e)
 
-module _ (T : List ℕ) (top : ℕ) (m out last : List ℕ) (w : Walk) (says : w ≡ bodyWalk (anew T) top (body (anew T) top (anew m))) (kept : length last ≡ length out) where
-  pub body-walked : ((rd : Read) (n : ℕ) → body (anew T) top (anew m) ≡ ok rd n → last ≡ fill 0 (rows (anew T) top (rd .format) (rd .pieces)) out) → Walked T top m w out last
-  body-walked lays =
-      let s : w ≡ bodyWalk T top (body T top m) = rw (rest-is T 0, rest-is m 0) at says in
-      let g : (rd : Read) (n : ℕ) → body T top m ≡ ok rd n → last ≡ fill 0 (rows T top (rd .format) (rd .pieces)) out = simp rest-is at lays in
-      record { says = s; kept = kept; lays = g }
+  pub anew-walked : (w : Walk) (out last : List ℕ) → Walked (anew T) top (anew m) w out last → Walked T top m w out last
+  anew-walked w out last W = rw (rest-is T 0, rest-is m 0) at W
 
-pub told-walk : (T : List ℕ) (top : ℕ) (m out last R : List ℕ) (w : Walk) → Walked T top m w out last → (k : ℕ) → k ≡ length R / 12 → (r : Reading) → r ≡ toldOf k w
-    → r ≡ toldOf (room (length R)) (bodyWalk T top (body T top m))
-unfolding room
-told-walk T top m out last R w W k ek r er = er ∙ ap (toldOf k) (W .says) ∙ ap (λ (i : ℕ). toldOf i (bodyWalk T top (body T top m))) ek
+  pub unasked : false ≡ true → checks T top 1 (length m) ≡ Ready
+  unasked e = let z : _≡_ {A = ℕ} 0 1 = cc in absurd (omega arith)
+
+  pub told-walked : (w : Walk) (out last : List ℕ) → Walked T top m w out last → (b : ℕ) (r : Reading) → r ≡ toldOf (b / 12) w → r ≡ readingOf (reading T top m b)
+  told-walked w out last W b r er = er ∙ ap (toldOf (b / 12)) (W .says) ∙ told-rules T top m b (W .bytes)
+
+  pub told-listed : (w : Walk) (R last : List ℕ) → Listed T top m w R last → (k : ℕ) → k ≡ length R / 12 → (r : Reading) → r ≡ toldOf k w → r ≡ readingOf (reading T top m (length R))
+  told-listed w R last L k ek r er = er ∙ ap₂ toldOf ek (L .says) ∙ told-rules T top m (length R) (L .bytes)
+
+-- ---- the checks before the message
+
+pub ready-known : (T : List ℕ) (top l : ℕ) (b : Bool) → (b ≡ true → checks T top 1 l ≡ Ready) → b ≡ true → Ready ≡ checks T top 1 l
+ready-known T top l b h e = sym (h e)
+
+module _ (T : List ℕ) (top : ℕ) (m : List ℕ) (y : Bytes m) (p : Prepared) (ep : p ≡ checks T top 1 (length m)) where
+  pub stop-walked : (c q : ℕ) → p ≡ Stopped c q → (out : List ℕ) → Walked T top m (Stop c q) out out
+  unfolding bodyWalk
+  stop-walked c q e out =
+      let none : rules T top m ≡ bad c q = reading-refused T top m (length m) refl p ep c q e in
+      record {
+        says = sym (ap (bodyWalk T top) none);
+        bytes = y;
+        kept = refl;
+        lays = λ rd n h. absurd (ok≢bad h none);
+      }
+
+  pub body-walked : p ≡ Ready → (out last : List ℕ) (w : Walk) → w ≡ bodyWalk T top (body T top m) → length last ≡ length out
+      → ((rd : Read) (n : ℕ) → body T top m ≡ ok rd n → last ≡ fill 0 (rows T top (rd .format) (rd .pieces)) out) → Walked T top m w out last
+  body-walked e out last w says kept lays =
+      let same : rules T top m ≡ body T top m = reading-ready T top m (length m) refl p ep e in
+      record {
+        says = says ∙ sym (ap (bodyWalk T top) same);
+        bytes = y;
+        kept = kept;
+        lays = λ rd n h. lays rd n (sym same ∙ h);
+      }
 
 -- ---- the lent list
 
@@ -162,31 +192,34 @@ rows-put rs out h =
     let z : 12 * (0 + length rs) ≡ 12 * length rs = omega arith in
     fill-listed rs 0 out (omega arith) ∙ ap (λ (i : ℕ). concat rowBytes rs ++ drop i out) z
 
-put-answer : (T : List ℕ) (top : ℕ) (m out last : List ℕ) (w : Walk) → Walked T top m w out last → 0 < length (answer T top (body T top m) .rows)
-    → last ≡ fill 0 (answer T top (body T top m) .rows) out
+put-answer : (T : List ℕ) (top : ℕ) (m out last : List ℕ) (w : Walk) → Walked T top m w out last → 0 < length (answer T top (rules T top m) .rows)
+    → last ≡ fill 0 (answer T top (rules T top m) .rows) out
 unfolding answer accepted refused
-put-answer T top m out last w W h = go (body T top m) refl h
+put-answer T top m out last w W h = go (rules T top m) refl h
   where
-    go : (r : Res Read) → body T top m ≡ r → 0 < length (answer T top r .rows) → last ≡ fill 0 (answer T top r .rows) out
+    go : (r : Res Read) → rules T top m ≡ r → 0 < length (answer T top r .rows) → last ≡ fill 0 (answer T top r .rows) out
     go (ok rd n) e h = W .lays rd n e
     go (bad c p) e h = absurd (omega arith)
 
-module _ (T : List ℕ) (top : ℕ) (m own last R : List ℕ) (w : Walk) (W : Walked T top m w own last) (n : ℕ) (en : n ≡ rowCount w) (k : ℕ) (ek : k ≡ length R / 12) where
-  count : n ≡ length (answer T top (body T top m) .rows)
-  count = en ∙ ap rowCount (W .says) ∙ rows-told T top (body T top m)
+module _ (T : List ℕ) (top : ℕ) (m own last R : List ℕ) (w : Walk) (W : Walked T top m w own last) (n : ℕ) (en : n ≡ rowCount w) where
+  count : n ≡ length (answer T top (rules T top m) .rows)
+  count = en ∙ ap rowCount (W .says) ∙ rows-told T top (rules T top m)
 
-  pub list-short : k < n → R ≡ listed (readingBody T top m (length R)) R
-  unfolding readingBody room
-  list-short h = sym (listed-short (length R / 12) (answer T top (body T top m)) R (omega (arith, count)))
+  list-is : (x : List ℕ) → x ≡ listed (reading T top m (length R)) R → Listed T top m w R x
+  list-is x e = record { says = W .says; bytes = W .bytes; list = e }
 
-  module _ (h : n ≤ k) where
-    fits : listed (readingBody T top m (length R)) R ≡ concat rowBytes (answer T top (body T top m) .rows) ++ drop (12 * length (answer T top (body T top m) .rows)) R
-    unfolding readingBody room
-    fits = listed-fits (length R / 12) (answer T top (body T top m)) R (omega (arith, count))
+  pub list-short : length R / 12 < n → Listed T top m w R R
+  unfolding reading room
+  list-short h = list-is R (sym (listed-short (length R / 12) (answer T top (rules T top m)) R (omega (arith, count))))
 
-    pub list-own : (most : ℕ) → most ≡ length own / 12 → n ≤ most → (x : List ℕ) → x ≡ put 0 (take (12 * n) (drop 0 last)) R → x ≡ listed (readingBody T top m (length R)) R
+  module _ (h : n ≤ length R / 12) where
+    fits : listed (reading T top m (length R)) R ≡ concat rowBytes (answer T top (rules T top m) .rows) ++ drop (12 * length (answer T top (rules T top m) .rows)) R
+    unfolding reading room
+    fits = listed-fits (length R / 12) (answer T top (rules T top m)) R (omega (arith, count))
+
+    list-own : 12 * n ≤ length own → (x : List ℕ) → x ≡ put 0 (take (12 * n) (drop 0 last)) R → Listed T top m w R x
     unfolding concat
-    list-own most em l x ex = ex ∙ ap (λ (i : ℕ). put 0 (take (12 * i) last) R) count ∙ go (answer T top (body T top m) .rows) (omega (arith, count)) (λ p. put-answer T top m own last w W p) ∙ sym fits
+    list-own l x ex = list-is x (ex ∙ ap (λ (i : ℕ). put 0 (take (12 * i) last) R) count ∙ go (answer T top (rules T top m) .rows) (omega (arith, count)) (λ p. put-answer T top m own last w W p) ∙ sym fits)
       where
         go : (rs : List Row) → (12 * length rs ≤ length own) × (length rs ≤ length R / 12) → (0 < length rs → last ≡ fill 0 rs own)
             → put 0 (take (12 * length rs) last) R ≡ concat rowBytes rs ++ drop (12 * length rs) R
@@ -198,33 +231,23 @@ module _ (T : List ℕ) (top : ℕ) (m own last R : List ℕ) (w : Walk) (W : Wa
             ap (λ (z : List ℕ). put 0 z R) (ap (take (12 * length (r ∷ rs))) e ∙ take-at all (drop (12 * length (r ∷ rs)) own) (12 * length (r ∷ rs)) len)
             ∙ put-front all R (omega arith) ∙ ap (λ (i : ℕ). all ++ drop i R) len
 
-    pub list-again : (most : ℕ) → most < n → (x : List ℕ) (u : Walk) → Walked T top m u R x → x ≡ listed (readingBody T top m (length R)) R
-    list-again most l x u U =
-        put-answer T top m R x u U (omega (arith, count)) ∙ rows-put (answer T top (body T top m) .rows) R (omega (arith, count)) ∙ sym fits
+    pub list-few : length R / 12 ≤ 32 → length own ≡ 384 → (x : List ℕ) → x ≡ put 0 (take (12 * n) (drop 0 last)) R → Listed T top m w R x
+    list-few f l = list-own (omega arith)
 
--- ---- the checks before the message
+    pub list-more : n ≤ 128 → length own ≡ 1536 → (x : List ℕ) → x ≡ put 0 (take (12 * n) (drop 0 last)) R → Listed T top m w R x
+    list-more f l = list-own (omega arith)
 
-module _ (T : List ℕ) (top : ℕ) (m : List ℕ) (l : ℕ) (el : l ≡ length m) (y : Bytes m) (p : Prepared) (ep : p ≡ checks T top 1 l) where
-  module _ (c q : ℕ) (e : p ≡ Stopped c q) where
-    pub refused-told : (b : ℕ) (i j : ℕ) → i ≡ low c → j ≡ low q → Refused i j ≡ readingOf (reading T top m b)
-    unfolding toldOf bodyWalk
-    refused-told b i j ei ej =
-        let it : Refused i j ≡ Refused (low c) (low q) = cc in
-        it ∙ sym (ap (λ (r : Res Read). toldOf (b / 12) (bodyWalk T top r)) (reading-refused T top m l el p ep c q e)) ∙ told-rules T top m b y
+    module _ (many : 128 < n) where
+      pub walk-ready : checks T top 1 (length m) ≡ Ready
+      unfolding rowCount bodyWalk
+      walk-ready = go (checks T top 1 (length m)) refl
+        where
+          go : (p : Prepared) → p ≡ checks T top 1 (length m) → checks T top 1 (length m) ≡ Ready
+          go Ready e = sym e
+          go (Stopped c q) e =
+              let none : n ≡ 0 = en ∙ ap rowCount (W .says ∙ ap (bodyWalk T top) (reading-refused T top m (length m) refl (Stopped c q) e c q refl)) in
+              absurd (omega arith)
 
-    pub refused-listed : (R : List ℕ) (b : ℕ) → R ≡ listed (reading T top m b) R
-    unfolding reading answer within refused listed concat
-    refused-listed R b = sym (ap (λ (r : Res Read). listed (within (room b) (answer T top r)) R) (reading-refused T top m l el p ep c q e) ∙ rw (le-leb 0 (room b) (omega arith)))
-
-  module _ (e : p ≡ Ready) where
-    pub ready-told : (b : ℕ) (r : Reading) → r ≡ toldOf (room b) (bodyWalk T top (body T top m)) → r ≡ readingOf (reading T top m b)
-    unfolding room
-    ready-told b r er = er ∙ ap (λ (z : Res Read). toldOf (b / 12) (bodyWalk T top z)) (sym (reading-ready T top m l el p ep e)) ∙ told-rules T top m b y
-
-    pub ready-answer : (b : ℕ) (out last : List ℕ) (w : Walk) → Walked T top m w out last → (r : Reading) → r ≡ toldOf (b / 12) w → r ≡ readingOf (reading T top m b)
-    unfolding room
-    ready-answer b out last w W r er = ready-told b r (er ∙ ap (toldOf (b / 12)) (W .says))
-
-    pub ready-listed : (R x : List ℕ) (b : ℕ) → x ≡ listed (readingBody T top m b) R → x ≡ listed (reading T top m b) R
-    unfolding reading readingBody
-    ready-listed R x b ex = ex ∙ ap (λ (z : Res Read). listed (within (room b) (answer T top z)) R) (sym (reading-ready T top m l el p ep e))
+      pub list-again : (x : List ℕ) (u : Walk) → Walked T top m u R x → Listed T top m w R x
+      list-again x u U =
+          list-is x (put-answer T top m R x u U (omega (arith, count)) ∙ rows-put (answer T top (rules T top m) .rows) R (omega (arith, count)) ∙ sym fits)

@@ -1,17 +1,18 @@
 -- What the reader's calls answer of a walk over a message.
 --
---   Walked                     what a walk over a message gives, and what it leaves in a lent list
---   low x                      the low 32 bits of a number
---   toldOf k w                 the answer of a walk where the list has room for k rows
---   rowCount w                 the rows of an accepted message, none of a refused one
---   readingBody T top m bytes  the answer without 31 to 38, 2 and 3: `reading` under a prepared table
+--   Walked         what the checks and the walk over a message give, and what the walk leaves in its list
+--   Listed         the same, and what the reader leaves in the lent list
+--   low x          the low 32 bits of a number
+--   toldOf k w     the answer of a walk where the list has room for k rows
+--   rowCount w     the rows of an accepted message, none of a refused one
 use mathlib.Core.Path.{_≡_}
 use mathlib.Core.List.{List}
 use Prim.Native.Nat.{ℕ, _%_, _^_}
 use lib.ListN.{length}
 use lib.Dec.{leb}
 use Rattle.encoding.specs.Result.{ok, pick}
-use Rattle.encoding.specs.Message.{Read, body, rows, Answer, answer, room, within}
+use Rattle.encoding.specs.Number.{Bytes}
+use Rattle.encoding.specs.Message.{Read, rules, rows, reading, listed}
 use Rattle.encoding.specs.declared.Reading.{Reading}
 use Rattle.encoding.specs.declared.Reading.the-variants.{Accepted, Refused}
 use Rattle.level.specs.Fill.{fill}
@@ -21,9 +22,15 @@ use Rattle.slices.specs.declared.Walk.the-variants.{Done, Stop}
 
 -- the list is left with the rows of an accepted message, those that fit
 pub record Walked (T : List ℕ) (top : ℕ) (m : List ℕ) (w : Walk) (out last : List ℕ) : Type 0 where
-  pub says : w ≡ bodyWalk T top (body T top m)
+  pub says : w ≡ bodyWalk T top (rules T top m)
+  pub bytes : Bytes m
   pub kept : length last ≡ length out
-  pub lays : (rd : Read) (n : ℕ) → body T top m ≡ ok rd n → last ≡ fill 0 (rows T top (rd .format) (rd .pieces)) out
+  pub lays : (rd : Read) (n : ℕ) → rules T top m ≡ ok rd n → last ≡ fill 0 (rows T top (rd .format) (rd .pieces)) out
+
+pub record Listed (T : List ℕ) (top : ℕ) (m : List ℕ) (w : Walk) (lent last : List ℕ) : Type 0 where
+  pub says : w ≡ bodyWalk T top (rules T top m)
+  pub bytes : Bytes m
+  pub list : last ≡ listed (reading T top m (length lent)) lent
 
 abbrev pub low : ℕ → ℕ
 low x = x % 2 ^ 32
@@ -35,6 +42,3 @@ toldOf k (Stop c p) = Refused (low c) (low p)
 unfoldable pub rowCount : Walk → ℕ
 rowCount (Done t g n o s e) = n
 rowCount (Stop c p) = 0
-
-unfoldable pub readingBody : List ℕ → ℕ → List ℕ → ℕ → Answer
-readingBody T top m bytes = within (room bytes) (answer T top (body T top m))

@@ -1,12 +1,13 @@
-// The reader's calls: the answer, and the rows in a lent list. `read` and `answer` ask nothing of their input.
-// `read_prepared` asks for the shapes of the table, so that a caller with many messages checks its table once.
+// The reader's calls: the answer, and the rows in a lent list. `read`, `answer` and `read_numbers` ask nothing of their input.
+// `walk` is called with `ready` by a caller that has checked the table, the top and the length: so none is checked twice.
 ghost use mathlib.Core.Path.{_≡_};
-ghost use Prim.Native.Nat.{_≤_};
+ghost use mathlib.Core.Bool.{true};
+ghost use Prim.Native.Nat.{_/_, _≤_};
 ghost use lib.ListN.{length};
-ghost use Rattle.encoding.specs.Message.{body, room, reading, listed, readingOf};
-ghost use Rattle.shapes.specs.Shapes.{shapesOf};
-ghost use Rattle.slices.specs.Walks.{bodyWalk};
-ghost use Rattle.reading.specs.Told.{Walked, low, toldOf, rowCount, readingBody};
+ghost use Rattle.encoding.specs.Message.{reading, listed, readingOf};
+ghost use Rattle.prepare.specs.Preparing.{checks};
+ghost use Rattle.prepare.specs.declared.Prepared.the-variants.{Ready};
+ghost use Rattle.reading.specs.Told.{Walked, Listed, low, toldOf, rowCount};
 ghost use Rattle.reading.specs.Numbers.{readingNumbered, shortOf, fiveNumbers, withNumbers};
 use encoding::Reading;
 use prepare::Prepared;
@@ -45,77 +46,72 @@ fn row_count(w: Walk) -> usize
     }
 }
 
-// The walk over a message under a prepared table. It puts the rows of an accepted message into the list, those that fit.
-// The slices are passed as new parts: passing them unchanged causes a store-forwarding stall.
-pub fn walk(table: &[u8], shapes: &[u8; 256], top: usize, message: &[u8], out: &mut [u8]) -> Walk
-    requires { ⌜ now shapes ≡ shapesOf (now table) ⌝ }
+// What `prepare` finds; nothing is checked if nothing is known to be refused.
+fn prepared(table: &[u8], top: usize, len: usize, ready: bool) -> Prepared
+    requires { ⌜ (ready ≡ true → checks (now table) top 1 len ≡ Ready) ⌝ }
+    ensures { λ r. ⌜ r ≡ checks (now (table .entry)) top 1 len ⌝ }
+{
+    if ready {
+        return Prepared::Ready;
+    }
+    prepare::prepare(table, top, 1, len)
+}
+
+// Checks and walks.
+fn checked(table: &[u8], top: usize, message: &[u8], ready: bool, out: &mut [u8]) -> Walk
+    requires { ⌜ (ready ≡ true → checks (now table) top 1 (length (now message)) ≡ Ready) ⌝ }
     ensures { λ r. ⌜ Walked (now (table .entry)) top (now (message .entry)) r (now (out .entry)) (now (out .exit)) ⌝ }
 {
-    reader::body(&table[0..], shapes, top, &message[0..], out)
-}
-
-// Reads into a list of the call's own and copies the rows. If they do not fit there, a second walk puts them into the lent list, which has room for them.
-fn read_by(
-    table: &[u8],
-    shapes: &[u8; 256],
-    top: usize,
-    message: &[u8],
-    own: &mut [u8],
-    rows: &mut [u8],
-) -> Reading
-    requires { ⌜ now shapes ≡ shapesOf (now table) ⌝ }
-    ensures { λ r. ⌜ r ≡ toldOf (room (length (now (rows .entry)))) (bodyWalk (now (table .entry)) top (body (now (table .entry)) top (now (message .entry)))) ⌝ }
-    ensures { λ _. ⌜ now (rows .exit) ≡ listed (readingBody (now (table .entry)) top (now (message .entry)) (length (now (rows .entry)))) (now (rows .entry)) ⌝ }
-{
-    let most = own.len() / 12;
-    let k = rows.len() / 12;
-    let w = walk(table, shapes, top, message, own);
-    let n = row_count(w);
-    let answer = told(w, k);
-    if k < n {
-        return answer;
-    }
-    if n <= most {
-        wire::put_part(rows, 0, own, 0, 12 * n);
-        return answer;
-    }
-    walk(table, shapes, top, message, rows);
-    answer
-}
-
-// Reads a message under a prepared table: what `read` does after its checks. Each number of the answer is given in its low 32 bits.
-// The call's own list has 32 rows, or 128 if the table has more members: a longer list takes longer to clear.
-pub fn read_prepared(
-    table: &[u8],
-    shapes: &[u8; 256],
-    top: usize,
-    message: &[u8],
-    rows: &mut [u8],
-) -> Reading
-    requires { ⌜ now shapes ≡ shapesOf (now table) ⌝ }
-    ensures { λ r. ⌜ r ≡ toldOf (room (length (now (rows .entry)))) (bodyWalk (now (table .entry)) top (body (now (table .entry)) top (now (message .entry)))) ⌝ }
-    ensures { λ _. ⌜ now (rows .exit) ≡ listed (readingBody (now (table .entry)) top (now (message .entry)) (length (now (rows .entry)))) (now (rows .entry)) ⌝ }
-{
-    if table::members(table) <= 32 {
-        let mut few = [0u8; 384];
-        return read_by(table, shapes, top, message, &mut few, rows);
-    }
-    let mut more = [0u8; 1536];
-    read_by(table, shapes, top, message, &mut more, rows)
-}
-
-// Checks and reads.
-fn checked(table: &[u8], top: usize, message: &[u8], rows: &mut [u8]) -> Reading
-    ensures { λ r. ⌜ r ≡ readingOf (reading (now (table .entry)) top (now (message .entry)) (length (now (rows .entry)))) ⌝ }
-    ensures { λ _. ⌜ now (rows .exit) ≡ listed (reading (now (table .entry)) top (now (message .entry)) (length (now (rows .entry)))) (now (rows .entry)) ⌝ }
-{
-    let n = prepare::byte_count(message);
-    let mut shapes = [0u8; 256];
-    let p = prepare::prepare(table, top, 1, n, &mut shapes);
+    prepare::byte_count(message);
+    let p = prepared(table, top, message.len(), ready);
     match p {
-        Prepared::Refused(c, q) => Reading::Refused(low(c), low(q)),
-        Prepared::Ready => read_prepared(table, &shapes, top, message, rows),
+        Prepared::Refused(c, q) => Walk::Stop(c, q),
+        Prepared::Ready => {
+            let mut shapes = [0u8; 256];
+            shapes::fill(table, &mut shapes);
+            reader::body(table, &shapes, top, message, out)
+        }
     }
+}
+
+// The checks, then the walk over the message; `ready` says that the checks are known to refuse nothing, and leaves them out. It puts the rows of an accepted message into the list, those that fit.
+// The slices are passed as new parts: passing them unchanged causes a store-forwarding stall.
+pub fn walk(table: &[u8], top: usize, message: &[u8], ready: bool, out: &mut [u8]) -> Walk
+    requires { ⌜ (ready ≡ true → checks (now table) top 1 (length (now message)) ≡ Ready) ⌝ }
+    ensures { λ r. ⌜ Walked (now (table .entry)) top (now (message .entry)) r (now (out .entry)) (now (out .exit)) ⌝ }
+{
+    checked(&table[0..], top, &message[0..], ready, out)
+}
+
+// Walks into a list of the call's own and copies the rows, since the lent list must stay on a refusal. The lent list has room for at most 32 rows.
+fn walk_few(table: &[u8], top: usize, message: &[u8], rows: &mut [u8]) -> Walk
+    requires { ⌜ length (now rows) / 12 ≤ 32 ⌝ }
+    ensures { λ r. ⌜ Listed (now (table .entry)) top (now (message .entry)) r (now (rows .entry)) (now (rows .exit)) ⌝ }
+{
+    let mut few = [0u8; 384];
+    let w = walk(table, top, message, false, &mut few);
+    let count = row_count(w);
+    if count <= rows.len() / 12 {
+        wire::put_part(rows, 0, &few, 0, 12 * count);
+    }
+    w
+}
+
+// The same for a lent list of any length, by a list of 128 rows, which takes longer to clear. More rows are put into the lent list by a second walk, once it is known that they fit.
+fn walk_more(table: &[u8], top: usize, message: &[u8], rows: &mut [u8]) -> Walk
+    ensures { λ r. ⌜ Listed (now (table .entry)) top (now (message .entry)) r (now (rows .entry)) (now (rows .exit)) ⌝ }
+{
+    let mut more = [0u8; 1536];
+    let w = walk(table, top, message, false, &mut more);
+    let n = row_count(w);
+    if n <= rows.len() / 12 {
+        if n <= 128 {
+            wire::put_part(rows, 0, &more, 0, 12 * n);
+        } else {
+            walk(table, top, message, true, rows);
+        }
+    }
+    w
 }
 
 // The reader: the answer, and the rows in the lent list, 12 bytes each; bytes after the rows stay, and on a refusal all of them.
@@ -124,7 +120,11 @@ pub fn read(table: &[u8], top: u32, message: &[u8], rows: &mut [u8]) -> Reading
     ensures { λ r. ⌜ r ≡ readingOf (reading (now (table .entry)) top (now (message .entry)) (length (now (rows .entry)))) ⌝ }
     ensures { λ _. ⌜ now (rows .exit) ≡ listed (reading (now (table .entry)) top (now (message .entry)) (length (now (rows .entry)))) (now (rows .entry)) ⌝ }
 {
-    checked(table, top as usize, message, rows)
+    let k = rows.len() / 12;
+    if k <= 32 {
+        return told(walk_few(table, top as usize, message, rows), k);
+    }
+    told(walk_more(table, top as usize, message, rows), k)
 }
 
 // The reader's answer with a lent list of `room` bytes; no list is touched.
@@ -132,18 +132,9 @@ pub fn read(table: &[u8], top: u32, message: &[u8], rows: &mut [u8]) -> Reading
 pub fn answer(table: &[u8], top: u32, message: &[u8], room: usize) -> Reading
     ensures { λ r. ⌜ r ≡ readingOf (reading (now (table .entry)) top (now (message .entry)) room) ⌝ }
 {
-    let n = prepare::byte_count(message);
-    let t = top as usize;
-    let mut shapes = [0u8; 256];
-    let p = prepare::prepare(table, t, 1, n, &mut shapes);
-    match p {
-        Prepared::Refused(c, q) => Reading::Refused(low(c), low(q)),
-        Prepared::Ready => {
-            let mut none = [0u8; 12];
-            let w = walk(table, &shapes, t, message, &mut none);
-            told(w, room / 12)
-        }
-    }
+    let mut none = [0u8; 12];
+    let w = walk(table, top as usize, message, false, &mut none);
+    told(w, room / 12)
 }
 
 // The answer where no bytes are lent that hold the five numbers: 22 at 20, after every other refusal.
@@ -195,6 +186,17 @@ fn put_numbers(a: Reading, numbers: &mut [u8])
     }
 }
 
+// The answer of a walk, with its five numbers put.
+fn numbered(w: Walk, k: usize, numbers: &mut [u8]) -> Reading
+    requires { ⌜ 20 ≤ length (now numbers) ⌝ }
+    ensures { λ r. ⌜ r ≡ toldOf k w ⌝ }
+    ensures { λ r. ⌜ now (numbers .exit) ≡ withNumbers r (now (numbers .entry)) ⌝ }
+{
+    let a = told(w, k);
+    put_numbers(a, numbers);
+    a
+}
+
 // The reader, with the five numbers of an accepted message in 20 lent bytes: one read. Bytes after the rows and after the numbers stay, and on a refusal all of them.
 // Wrong and ruled out: a reader that exchanges optionals and slices skipped; one that lists the rows where the bytes for the numbers are too few.
 pub fn read_numbers(
@@ -211,7 +213,9 @@ pub fn read_numbers(
     if numbers.len() < 20 {
         return short(answer(table, top, message, rows.len()));
     }
-    let a = read(table, top, message, rows);
-    put_numbers(a, numbers);
-    a
+    let room = rows.len() / 12;
+    if room <= 32 {
+        return numbered(walk_few(table, top as usize, message, rows), room, numbers);
+    }
+    numbered(walk_more(table, top as usize, message, rows), room, numbers)
 }

@@ -1,23 +1,22 @@
 -- The member view: the rows of a walk are read back from its list, and a part lies in the message. Assumes nothing.
 --
 --   Seeks, seeks-..                                   the loop that looks for a member in a list
---   look-early, look-refused                          a check before the message refuses, or the message is refused
+--   look-refused                                      the table, the top or the message is refused
 --   look-few, look-seen, look-inside, look-other      what the view answers of an accepted message
 --   nothing-inside, refused-inside                    no part, so none outside the message
 --   part-seen, fallback-seen, nothing-seen, refused-seen   the bytes returned
 use mathlib.Core.Path.{_≡_, refl, sym, ap, _∙_}
 use mathlib.Core.Bool.{Bool, true, false}
 use mathlib.Core.List.{List, [], _∷_, _++_, map}
-use Prim.Native.Nat.{ℕ, _+_, _-_, _*_, _≤_, _<_}
+use Prim.Native.Nat.{ℕ, _+_, _-_, _*_, _≤_, _<_, min}
 use native.Mathlib.Nat.{sub-zero}
 use native.Mathlib.Omega.{arith}
 use lib.ListN.{length, take, drop}
 use lib.Dec.{eqb}
 use borrow.Author.Tests.{eq-eqb, ne-eqb}
 use Rattle.encoding.specs.Result.{Res, ok, bad, pick, concat}
-use Rattle.encoding.specs.Table.{at, range, any, takes, chain}
-use Rattle.encoding.specs.Number.{Bytes}
-use Rattle.encoding.specs.Message.{Read, body, limit, rules, Row, rows, rowBytes, firstKnown}
+use Rattle.encoding.specs.Table.{at, members, range, any, takes, chain}
+use Rattle.encoding.specs.Message.{Read, limit, rules, Row, rows, rowBytes, firstKnown}
 use Rattle.encoding.specs.Write.{rowAt}
 use Rattle.encoding.specs.View.{Seen, part, fallback, nothing, rowOf, ofChain, seen, viewing, seenBytes}
 use Rattle.table.proofs.Ranges.{range-more, range-none}
@@ -29,10 +28,6 @@ use Rattle.laws.specs.Demands.{All, end, more, RowExact}
 use Rattle.laws.specs.MessageExact.{exact-rows}
 use Rattle.laws.specs.Small.{accepted-small}
 use Rattle.laws.specs.RowsBack.{rows-back, accepted-rows-small}
-use Rattle.prepare.specs.Preparing.{checks}
-use Rattle.prepare.specs.PreparingLaws.{reading-ready, reading-refused}
-use Rattle.prepare.specs.declared.Prepared.{Prepared}
-use Rattle.prepare.specs.declared.Prepared.the-variants.{Ready, Refused as Stopped}
 use Rattle.reading.specs.Told.{Walked, low}
 use Rattle.reading.proofs.Telling.{rows-put}
 use Rattle.view.specs.Views.{viewOf, viewAnswerOf, viewAnswer, PartInside}
@@ -103,28 +98,18 @@ rules-bad T top m c q e i j ei ej member =
     let it : Refused i j ≡ Refused c q = cc in
     it ∙ sym (ap (viewAnswerOf T top member) e)
 
--- a check before the message refuses
-pub look-early : (T : List ℕ) (top : ℕ) (m : List ℕ) (l : ℕ) → l ≡ length m → (p : Prepared) → p ≡ checks T top 1 l → (c q : ℕ) → p ≡ Stopped c q → (i j : ℕ) → i ≡ low c → j ≡ low q → (member : ℕ) → Refused i j ≡ viewAnswer T top m member
-look-early T top m l el p ep c q e = rules-bad T top m c q (reading-refused T top m l el p ep c q e)
-
-module _ (T : List ℕ) (top : ℕ) (m : List ℕ) (l : ℕ) (el : l ≡ length m) (y : Bytes m) (p : Prepared) (ep : p ≡ checks T top 1 l) (ready : p ≡ Ready) (list last : List ℕ) (w : Walk) (W : Walked T top m w list last) where
-  same : rules T top m ≡ body T top m
-  same = reading-ready T top m l el p ep ready
-
-  walked : w ≡ bodyWalk T top (rules T top m)
-  walked = W .says ∙ ap (bodyWalk T top) (sym same)
-
+module _ (T : List ℕ) (top : ℕ) (m list last : List ℕ) (w : Walk) (W : Walked T top m w list last) where
   module _ (t g n o s e : ℕ) (q : w ≡ Done t g n o s e) where
     taken : Taken T top m t n
     unfolding bodyWalk readDone
-    taken = go (rules T top m) refl (sym q ∙ walked)
+    taken = go (rules T top m) refl (sym q ∙ W .says)
       where
         go : (r : Res Read) → rules T top m ≡ r → Done t g n o s e ≡ bodyWalk T top r → Taken T top m t n
         go (ok rd x) z h = record { rd = rd; end = x; accepted = z; known = cc; count = cc }
         go (bad c p) z h = let z : _≡_ {A = ℕ} 0 1 = cc in absurd (omega arith)
 
     pub look-few : n ≤ 1024
-    look-few = let K = taken in let S = accepted-small T top m (K .rd .format) (K .rd .pieces) (K .end) y (K .accepted) in omega (arith, S .count, K .count)
+    look-few = let K = taken in let S = accepted-small T top m (K .rd .format) (K .rd .pieces) (K .end) (W .bytes) (K .accepted) in omega (arith, S .count, K .count)
 
     module _ (member : ℕ) (b : Bool) (eb : b ≡ any (λ o. takes T o member) (chain T t)) where
       judged : (v : Bool) → b ≡ v → viewing T top m member ≡ pick v (rowOf member (rows T top (taken .rd .format) (taken .rd .pieces))) nothing
@@ -148,15 +133,16 @@ module _ (T : List ℕ) (top : ℕ) (m : List ℕ) (l : ℕ) (el : l ≡ length 
       unfolding viewOf
       look-other x = sym (answers ∙ ap viewOf (judged false x))
 
-      module _ (x : b ≡ true) (room : length list ≡ 12288) (v : View) (ev : v ≡ viewOf (rowOf member (map (rowAt last) (range 0 n)))) where
+      module _ (x : b ≡ true) (room : 12 * min (members T) 1024 ≤ length list) (v : View) (ev : v ≡ viewOf (rowOf member (map (rowAt last) (range 0 n)))) where
         back : v ≡ viewOf (rowOf member (rows T top (taken .rd .format) (taken .rd .pieces)))
         back = ev ∙ ap (λ (l : List Row). viewOf (rowOf member l)) (go taken)
           where
             go : (K : Taken T top m t n) → map (rowAt last) (range 0 n) ≡ rows T top (K .rd .format) (K .rd .pieces)
             go K =
                 let rs : List Row = rows T top (K .rd .format) (K .rd .pieces) in
-                let S = accepted-rows-small T top m (K .rd .format) (K .rd .pieces) (K .end) y (K .accepted) in
-                let f : last ≡ concat rowBytes rs ++ drop (12 * length rs) list = W .lays (K .rd) (K .end) (sym same ∙ K .accepted) ∙ rows-put rs list (omega (arith, look-few, K .count)) in
+                let S = accepted-rows-small T top m (K .rd .format) (K .rd .pieces) (K .end) (W .bytes) (K .accepted) in
+                let few = accepted-small T top m (K .rd .format) (K .rd .pieces) (K .end) (W .bytes) (K .accepted) in
+                let f : last ≡ concat rowBytes rs ++ drop (12 * length rs) list = W .lays (K .rd) (K .end) (K .accepted) ∙ rows-put rs list (omega (arith, few .count, few .owned)) in
                 ap (λ (i : ℕ). map (rowAt last) (range 0 i)) (K .count) ∙ rows-back S last (drop (12 * length rs) list) f
 
         pub look-seen : v ≡ viewAnswer T top m member
@@ -173,12 +159,12 @@ module _ (T : List ℕ) (top : ℕ) (m : List ℕ) (l : ℕ) (el : l ≡ length 
 
             go : (K : Taken T top m t n) (p l : ℕ) → Part p l ≡ viewOf (rowOf member (rows T top (K .rd .format) (K .rd .pieces))) → p + l ≤ length m
             go K p l h =
-                row-within T m member (exact-rows T top m (K .rd .format) (K .rd .pieces) (K .end) y (K .accepted)) p l (go₂ _ p l h)
+                row-within T m member (exact-rows T top m (K .rd .format) (K .rd .pieces) (K .end) (W .bytes) (K .accepted)) p l (go₂ _ p l h)
 
   module _ (c q : ℕ) (e : w ≡ Stop c q) where
     pub look-refused : (i j : ℕ) → i ≡ low c → j ≡ low q → (member : ℕ) → Refused i j ≡ viewAnswer T top m member
     unfolding bodyWalk readDone
-    look-refused = rules-bad T top m c q (go (rules T top m) (sym e ∙ walked))
+    look-refused = rules-bad T top m c q (go (rules T top m) (sym e ∙ W .says))
       where
         go : (r : Res Read) → Stop c q ≡ bodyWalk T top r → r ≡ bad c q
         go (ok rd x) h = let z : _≡_ {A = ℕ} 0 1 = cc in absurd (omega arith)

@@ -1,14 +1,13 @@
 // The member view: a member's bytes, as a part of the message or of a fallback, or where they are, in numbers. It asks nothing of its input.
 ghost use mathlib.Core.Path.{_≡_};
 ghost use mathlib.Core.List.{map};
-ghost use Prim.Native.Nat.{_≤_};
+ghost use Prim.Native.Nat.{_*_, _≤_, min};
 ghost use lib.ListN.{length};
-ghost use Rattle.encoding.specs.Table.{range};
+ghost use Rattle.encoding.specs.Table.{range, members};
 ghost use Rattle.encoding.specs.Write.{rowAt};
 ghost use Rattle.encoding.specs.View.{rowOf, viewing, seenBytes};
 ghost use Rattle.wire.specs.Put.{put};
 ghost use Rattle.view.specs.Views.{viewOf, viewAnswer, viewWithin, viewBytes, withView, PartInside};
-use prepare::Prepared;
 use slices::Walk;
 
 // What the view answers: a part of the message, by its place and length; the whole fallback; an empty part; or a refusal's number and place.
@@ -35,31 +34,41 @@ fn seek(list: &[u8], n: usize, member: usize) -> View
     View::Fallback
 }
 
-// Decides what the view answers; a part lies in the message.
+// Decides what the view answers, by a walk into a list that holds a row for each member of the table, or 1,024; a part lies in the message.
+fn look_by(table: &[u8], top: usize, message: &[u8], member: usize, list: &mut [u8]) -> View
+    requires { ⌜ 12 * min (members (now table)) 1024 ≤ length (now list) ⌝ }
+    ensures { λ r. ⌜ r ≡ viewAnswer (now (table .entry)) top (now (message .entry)) member ⌝ }
+    ensures { λ r. ⌜ PartInside (length (now (message .entry))) r ⌝ }
+{
+    let w = reading::walk(table, top, message, false, list);
+    match w {
+        Walk::Done(first, format, k, optionals, slices, end) => {
+            if table::chain::of_chain(table, first, member) {
+                seek(list, k, member)
+            } else {
+                View::Nothing
+            }
+        }
+        Walk::Stop(c, q) => View::Refused(reading::low(c), reading::low(q)),
+    }
+}
+
+// The same, by a list of 32, 128 or 1,024 rows: a longer list takes longer to clear.
 fn look(table: &[u8], top: usize, message: &[u8], member: usize) -> View
     ensures { λ r. ⌜ r ≡ viewAnswer (now (table .entry)) top (now (message .entry)) member ⌝ }
     ensures { λ r. ⌜ PartInside (length (now (message .entry))) r ⌝ }
 {
-    let n = prepare::byte_count(message);
-    let mut shapes = [0u8; 256];
-    let p = prepare::prepare(table, top, 1, n, &mut shapes);
-    match p {
-        Prepared::Refused(c, q) => View::Refused(reading::low(c), reading::low(q)),
-        Prepared::Ready => {
-            let mut list = [0u8; 12288];
-            let w = reading::walk(table, &shapes, top, message, &mut list);
-            match w {
-                Walk::Done(first, format, k, optionals, slices, end) => {
-                    if table::chain::of_chain(table, first, member) {
-                        seek(&list, k, member)
-                    } else {
-                        View::Nothing
-                    }
-                }
-                Walk::Stop(c, q) => View::Refused(reading::low(c), reading::low(q)),
-            }
-        }
+    let n = table::members(table);
+    if n <= 32 {
+        let mut few = [0u8; 384];
+        return look_by(table, top, message, member, &mut few);
     }
+    if n <= 128 {
+        let mut more = [0u8; 1536];
+        return look_by(table, top, message, member, &mut more);
+    }
+    let mut most = [0u8; 12288];
+    look_by(table, top, message, member, &mut most)
 }
 
 // The bytes that the view returns, with one lifetime for message and fallback.

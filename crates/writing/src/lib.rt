@@ -23,11 +23,12 @@ fn checked(
     ensures { λ r. ⌜ (r ≡ outcomeOf (writing (now (table .entry)) top format count (now (rows .entry)) (now (buffer .entry)) (length (now (out .entry))))) × Fits r ⌝ }
     ensures { λ _. ⌜ now (out .exit) ≡ output (writing (now (table .entry)) top format count (now (rows .entry)) (now (buffer .entry)) (length (now (out .entry)))) (now (out .entry)) ⌝ }
 {
-    let mut shapes = [0u8; 256];
-    let p = prepare::prepare(table, top, format, buffer.len(), &mut shapes);
+    let p = prepare::prepare(table, top, format, buffer.len());
     match p {
         Prepared::Refused(c, q) => Outcome::Stopped(c, q),
         Prepared::Ready => {
+            let mut shapes = [0u8; 256];
+            shapes::fill(table, &mut shapes);
             writer::write_rows(table, &shapes, top, format, count, rows, buffer, out)
         }
     }

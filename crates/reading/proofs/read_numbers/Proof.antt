@@ -1,5 +1,6 @@
 -- Too few bytes for the numbers: the answer alone, and no lent byte changes. Else one read, and its numbers put. Assumes nothing.
 use borrow.Author.Needs.{needs}
+use Rattle.reading.proofs.Telling.{told-listed}
 use Rattle.reading.proofs.Numbering.{few-told, few-listed, few-numbered, enough-told, enough-listed, enough-numbered}
 use Rattle.reading.proofs.read_numbers.Statement.{statement}
 use Rattle.reading.proofs.read_numbers.Tie as tie
@@ -8,7 +9,10 @@ returns : tie.Need-returns
 returns c = (search few-told, (search few-listed, search few-numbered))
 
 returns-2 : tie.Need-returns-2
-returns-2 c = (search enough-told, (search enough-listed, search enough-numbered))
+returns-2 c = (search (enough-told, told-listed), (search enough-listed, search (enough-numbered, told-listed)))
+
+returns-3 : tie.Need-returns-3
+returns-3 c = (search (enough-told, told-listed), (search enough-listed, search (enough-numbered, told-listed)))
 
 pub read-numbers-spec : {M : Type 1} → statement M
 read-numbers-spec =
@@ -17,8 +21,13 @@ read-numbers-spec =
     (λ c κs. search needs)  -- answer-requires
     (λ c κs. search needs)  -- short-requires
     returns
-    (λ c κs. search needs)  -- read-requires
-    (λ c κs. search needs)  -- put-numbers-requires
+    (λ c κs. search needs)  -- walk-few-requires
+    (λ c κs. search needs)  -- numbered-requires
     (λ c. search needs)  -- same-length
     (λ c. search needs)  -- same-length-2
-    returns-2)
+    returns-2
+    (λ c κs. search needs)  -- walk-more-requires
+    (λ c κs. search needs)  -- numbered-requires-2
+    (λ c. search needs)  -- same-length-3
+    (λ c. search needs)  -- same-length-4
+    returns-3)

@@ -1,13 +1,13 @@
 -- A check refuses, or the rows are written. Assumes nothing.
 use native.Mathlib.Omega.{arith}
 use borrow.Author.Needs.{needs}
-use Rattle.prepare.specs.PreparingLaws.{shapes-ready, ready-top, ready-short}
+use Rattle.prepare.specs.PreparingLaws.{ready-top, ready-short}
 use Rattle.writing.proofs.Outcomes.{refused-outcome, refused-fits, refused-output, rows-outcome, rows-fits, rows-output}
 use Rattle.writing.proofs.checked.Statement.{statement}
 use Rattle.writing.proofs.checked.Tie as tie
 
 write-rows-requires : tie.Need-write-rows-requires
-write-rows-requires c κs = (search shapes-ready, (search ready-top, omega arith, search ready-short))
+write-rows-requires c κs = (search needs, (search ready-top, omega arith, search ready-short))
 
 returns : tie.Need-returns
 returns c = ((search refused-outcome, search refused-fits), search refused-output)
@@ -22,6 +22,7 @@ checked-spec =
     (λ c κs. search needs)  -- prepare-requires
     (λ c. search needs)  -- enum-known-p
     (λ c. search needs)  -- enum-told
+    (λ c κs. search needs)  -- fill-requires
     write-rows-requires
     returns
     (λ c. search needs)  -- same-length

@@ -1,0 +1,13 @@
+-- The answer and its numbers, each as its function gives it. Assumes nothing.
+use borrow.Author.Needs.{needs}
+use Rattle.reading.proofs.numbered.Statement.{statement}
+use Rattle.reading.proofs.numbered.Tie as tie
+
+pub numbered-spec : {M : Type 1} → statement M
+numbered-spec =
+    tie.close
+    (tie.spec
+    (λ c κs. search needs)  -- told-requires
+    (λ c κs. search needs)  -- put-numbers-requires
+    (λ c. search needs)  -- same-length
+    (λ c. search needs))  -- returns
