@@ -11,16 +11,18 @@ enum { HOUR = 3600, INT_SIZE = 4 };
 int main(void)
 {
     uint8_t rows[MEMBERS * ICEHUB_ROW_SIZE];
+    uint8_t numbers[ICEHUB_NUMBERS_SIZE];
     uint8_t buffer[sizeof message + INT_SIZE];
     uint8_t out[64];
     uint32_t refusal, count, length, i;
 
-    refusal = icehub_read(table, sizeof table, REPORT, message, sizeof message, rows, sizeof rows);
+    refusal = icehub_read_numbers(table, sizeof table, REPORT, message, sizeof message, rows, sizeof rows, numbers,
+                                  sizeof numbers);
     if (refusal != ICEHUB_OK) {
         printf("not read: %s\n", icehub_refusal_text(refusal));
         return 1;
     }
-    count = icehub_read_count(table, sizeof table, REPORT, message, sizeof message, sizeof rows);
+    count = icehub_number(numbers, 2);
 
     /* The buffer is the message and the new bytes after it. The delay's row points there, the others into the
      * message. */

@@ -19,16 +19,20 @@ static int refused(const char *what, uint32_t refusal, uint32_t place)
 int main(void)
 {
     uint8_t rows[MEMBERS * ICEHUB_ROW_SIZE]; /* a message has no member twice */
+    uint8_t numbers[ICEHUB_NUMBERS_SIZE];    /* first known type, format, rows, optionals and slices skipped */
     uint8_t out[sizeof message];
-    uint32_t refusal, count, length, i;
+    uint32_t refusal, type, format, count, length, i;
 
-    refusal = icehub_read(table, sizeof table, REPORT, message, sizeof message, rows, sizeof rows);
+    refusal = icehub_read_numbers(table, sizeof table, REPORT, message, sizeof message, rows, sizeof rows, numbers,
+                                  sizeof numbers);
     if (refusal != ICEHUB_OK) {
         return refused("read", refusal,
                        icehub_read_place(table, sizeof table, REPORT, message, sizeof message, sizeof rows));
     }
 
-    count = icehub_read_count(table, sizeof table, REPORT, message, sizeof message, sizeof rows);
+    type = icehub_number(numbers, 0);
+    format = icehub_number(numbers, 1);
+    count = icehub_number(numbers, 2);
     for (i = 0; i < count; i++) {
         const uint32_t place = icehub_row_place(rows, i);
         const uint32_t bytes = icehub_row_length(rows, i);
@@ -37,16 +41,16 @@ int main(void)
     }
 
     /* The rows point into the message, so the message is the writer's buffer. */
-    refusal = icehub_write(table, sizeof table, REPORT, ICEHUB_SLICED, count, rows, sizeof rows, message, sizeof message,
-                           out, sizeof out);
+    refusal = icehub_write(table, sizeof table, type, format, count, rows, sizeof rows, message, sizeof message, out,
+                           sizeof out);
     if (refusal != ICEHUB_OK) {
         return refused("written", refusal,
-                       icehub_write_place(table, sizeof table, REPORT, ICEHUB_SLICED, count, rows, sizeof rows, message,
+                       icehub_write_place(table, sizeof table, type, format, count, rows, sizeof rows, message,
                                           sizeof message, sizeof out));
     }
 
-    length = icehub_write_length(table, sizeof table, REPORT, ICEHUB_SLICED, count, rows, sizeof rows, message,
-                                 sizeof message, sizeof out);
+    length = icehub_write_length(table, sizeof table, type, format, count, rows, sizeof rows, message, sizeof message,
+                                 sizeof out);
     if (length != sizeof message || memcmp(out, message, sizeof message) != 0) {
         printf("written as another message\n");
         return 1;

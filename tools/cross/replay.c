@@ -4,8 +4,9 @@
  *   replay STDIN STDOUT     the files of crates/replay
  *
  * The first file has the calls, the second a line for each answer; the program in crates/replay says how they are made.
- * Calls that C does not have (the member view, row records, the check of a table) are counted as left out. Exit status: 0
- * if all others agree. */
+ * Each reading is made by icehub_read_numbers too, and each view by icehub_member, with numbers that are too short, exact
+ * and too long. Row records are made from the list of icehub_read. Of a table check the numbers are compared, not the
+ * forms of its rows, which C does not give. Exit status: 0 if every answer agrees. */
 #include "icehub.h"
 
 #include <inttypes.h>
@@ -16,10 +17,14 @@
 
 enum { LENT = 0xAA, MOST_LINE = 1 << 20, MOST_INPUT = 1 << 18 };
 
-static uint8_t table[ICEHUB_MOST_BYTES], input[MOST_INPUT], rows[ICEHUB_MOST_BYTES], out[ICEHUB_MOST_BYTES];
+/* The kinds of records, and how many numbers begin one. */
+enum { TABLE, READ, VIEW, WRITE, RECORDS, CHECK, KINDS, HEAD = 7 };
+
+static uint8_t table[ICEHUB_MOST_BYTES], input[MOST_INPUT], rows[ICEHUB_MOST_BYTES], again[ICEHUB_MOST_BYTES],
+    out[ICEHUB_MOST_BYTES];
 static char line[MOST_LINE], expected[MOST_LINE];
 static size_t line_len, table_len;
-static unsigned long agreed, differed, left_out;
+static unsigned long agreed[KINDS], lines, differed;
 
 static void stop(const char *why)
 {
@@ -41,30 +46,40 @@ static void put(const char *format, ...)
     line_len += (size_t)written;
 }
 
-static void put_touched(const uint8_t *bytes, size_t count, const char *word)
+static void put_hex(const uint8_t *bytes, size_t count)
+{
+    size_t i;
+    for (i = 0; i < count; i++) {
+        put("%02x", (unsigned)bytes[i]);
+    }
+}
+
+/* Whether no byte was changed. */
+static int is_kept(const uint8_t *bytes, size_t count)
 {
     size_t i;
     for (i = 0; i < count; i++) {
         if (bytes[i] != LENT) {
-            put("%s", word);
-            return;
+            return 0;
         }
     }
+    return 1;
 }
 
 /* Compares the line with the next one expected, and starts a new line. */
-static void compare(FILE *answers)
+static void compare(FILE *answers, uint32_t kind)
 {
     if (fgets(expected, sizeof expected, answers) == NULL) {
         stop("fewer answers than calls");
     }
-    expected[strcspn(expected, "\n")] = 0;
+    expected[strcspn(expected, kind == CHECK ? "abcdefghijk\n" : "\n")] = 0;
     line[line_len] = 0;
+    lines++;
     if (strcmp(line, expected) == 0) {
-        agreed++;
+        agreed[kind]++;
     } else {
         if (differed < 10) {
-            printf("line %lu: %.200s\n   not: %.200s\n", agreed + differed + left_out + 1, line, expected);
+            printf("line %lu: %.200s\n   not: %.200s\n", lines, line, expected);
         }
         differed++;
     }
@@ -85,18 +100,74 @@ static int fetch(FILE *calls, uint8_t *bytes, size_t count, size_t room)
     return got == count;
 }
 
+/* Reads the bytes of a record after its head. */
+static void fetch_body(FILE *calls, uint8_t *bytes, size_t count, size_t room)
+{
+    if (!fetch(calls, bytes, count, room)) {
+        stop("a call is cut off");
+    }
+}
+
+/* Lengths of lent numbers, from too short to too long for `size` bytes. */
+enum { LENGTHS = 4 };
+
+static size_t numbers_length(size_t size, int i)
+{
+    const size_t lengths[LENGTHS] = {0, size - 1, size, size + 3};
+    return lengths[i];
+}
+
+/* Whether icehub_read_numbers gives the refusal, the list in `rows` and these five numbers, for each length of its
+ * numbers. */
+static int read_numbers_agrees(uint32_t top, const uint8_t *message, size_t message_len, size_t room, uint32_t refusal,
+                               const uint32_t *due)
+{
+    uint8_t numbers[ICEHUB_NUMBERS_SIZE + 3];
+    int i;
+    for (i = 0; i < LENGTHS; i++) {
+        const size_t length = numbers_length(ICEHUB_NUMBERS_SIZE, i);
+        const int is_short = length < ICEHUB_NUMBERS_SIZE;
+        uint32_t given;
+        size_t k;
+        memset(again, LENT, room);
+        memset(numbers, LENT, sizeof numbers);
+        given = icehub_read_numbers(table, table_len, top, message, message_len, again, room, numbers, length);
+        if (refusal != ICEHUB_OK || is_short) {
+            if (given != (refusal != ICEHUB_OK ? refusal : (uint32_t)ICEHUB_OUTPUT_TOO_LONG) || !is_kept(again, room) ||
+                !is_kept(numbers, sizeof numbers)) {
+                return 0;
+            }
+            continue;
+        }
+        if (given != ICEHUB_OK || memcmp(again, rows, room) != 0 ||
+            !is_kept(numbers + ICEHUB_NUMBERS_SIZE, sizeof numbers - ICEHUB_NUMBERS_SIZE)) {
+            return 0;
+        }
+        for (k = 0; k < 5; k++) {
+            if (icehub_number(numbers, k) != due[k]) {
+                return 0;
+            }
+        }
+    }
+    return 1;
+}
+
 static void read_call(uint32_t top, const uint8_t *message, size_t message_len, size_t room)
 {
     uint32_t refusal, first, format, count, optionals, slices, i;
+    uint32_t numbers[5];
     memset(rows, LENT, room);
     refusal = icehub_read(table, table_len, top, message, message_len, rows, room);
-    first = icehub_read_type(table, table_len, top, message, message_len, room);
-    format = icehub_read_format(table, table_len, top, message, message_len, room);
-    count = icehub_read_count(table, table_len, top, message, message_len, room);
-    optionals = icehub_read_optionals_skipped(table, table_len, top, message, message_len, room);
-    slices = icehub_read_slices_skipped(table, table_len, top, message, message_len, room);
+    numbers[0] = first = icehub_read_type(table, table_len, top, message, message_len, room);
+    numbers[1] = format = icehub_read_format(table, table_len, top, message, message_len, room);
+    numbers[2] = count = icehub_read_count(table, table_len, top, message, message_len, room);
+    numbers[3] = optionals = icehub_read_optionals_skipped(table, table_len, top, message, message_len, room);
+    numbers[4] = slices = icehub_read_slices_skipped(table, table_len, top, message, message_len, room);
     put("%" PRIu32 " %" PRIu32 " %" PRIu32 " %" PRIu32 " %" PRIu32 " %" PRIu32 " %" PRIu32 " ", refusal,
         icehub_read_place(table, table_len, top, message, message_len, room), first, format, count, optionals, slices);
+    if (!read_numbers_agrees(top, message, message_len, room, refusal, numbers)) {
+        put("icehub_read_numbers differs ");
+    }
     if (count > room / ICEHUB_ROW_SIZE) {
         put("more rows than room");
         return;
@@ -105,7 +176,9 @@ static void read_call(uint32_t top, const uint8_t *message, size_t message_len, 
         put("%" PRIu32 " %" PRIu32 " %" PRIu32 " ", icehub_row_member(rows, i), icehub_row_place(rows, i),
             icehub_row_length(rows, i));
     }
-    put_touched(rows + (size_t)count * ICEHUB_ROW_SIZE, room - (size_t)count * ICEHUB_ROW_SIZE, "touched ");
+    if (!is_kept(rows + (size_t)count * ICEHUB_ROW_SIZE, room - (size_t)count * ICEHUB_ROW_SIZE)) {
+        put("touched ");
+    }
     if (refusal == ICEHUB_OK && optionals == 0 && slices == 0 &&
         icehub_write(table, table_len, first, format, count, rows, room, message, message_len, out, sizeof out) ==
             ICEHUB_OK &&
@@ -119,7 +192,7 @@ static void read_call(uint32_t top, const uint8_t *message, size_t message_len, 
 static void write_call(uint32_t type, uint32_t format, uint32_t count, const uint8_t *list, size_t list_len,
                        const uint8_t *buffer, size_t buffer_len, size_t room)
 {
-    uint32_t refusal, length, i;
+    uint32_t refusal, length;
     memset(out, LENT, sizeof out);
     refusal = icehub_write(table, table_len, type, format, count, list, list_len, buffer, buffer_len, out, room);
     length = icehub_write_length(table, table_len, type, format, count, list, list_len, buffer, buffer_len, room);
@@ -129,49 +202,104 @@ static void write_call(uint32_t type, uint32_t format, uint32_t count, const uin
         put("more bytes than room");
         return;
     }
-    for (i = 0; i < length; i++) {
-        put("%02x", (unsigned)out[i]);
+    put_hex(out, length);
+    if (!is_kept(out + length, sizeof out - length)) {
+        put(" touched");
     }
-    put_touched(out + length, sizeof out - length, " touched");
 }
 
-/* The kinds of records. */
-enum { TABLE = 0, READ = 1, WRITE = 3, NUMBERS = 7 };
+static void view_call(uint32_t top, const uint8_t *message, size_t message_len, uint32_t member,
+                      const uint8_t *fallback, size_t fallback_len)
+{
+    uint8_t numbers[ICEHUB_VIEW_SIZE + 3];
+    uint32_t refusal;
+    int i;
+    refusal = icehub_read(table, table_len, top, message, message_len, rows, ICEHUB_MOST_ROWS * ICEHUB_ROW_SIZE);
+    for (i = 0; i < LENGTHS; i++) {
+        const size_t length = numbers_length(ICEHUB_VIEW_SIZE, i);
+        const int is_short = length < ICEHUB_VIEW_SIZE;
+        uint32_t given;
+        memset(numbers, LENT, sizeof numbers);
+        given = icehub_member(table, table_len, top, message, message_len, member, numbers, length);
+        if (given != (refusal == ICEHUB_OK && is_short ? (uint32_t)ICEHUB_OUTPUT_TOO_LONG : refusal) ||
+            (given != ICEHUB_OK && !is_kept(numbers, sizeof numbers)) ||
+            !is_kept(numbers + ICEHUB_VIEW_SIZE, sizeof numbers - ICEHUB_VIEW_SIZE)) {
+            put("icehub_member differs");
+            return;
+        }
+    }
+    if (refusal == ICEHUB_OK) {
+        const uint32_t origin = icehub_number(numbers, 0), place = icehub_number(numbers, 1),
+                       length = icehub_number(numbers, 2);
+        if (origin == ICEHUB_IN_MESSAGE && place <= message_len && length <= message_len - place) {
+            put_hex(message + place, length);
+        } else if (origin > ICEHUB_IN_FALLBACK || place != 0 || length != 0) {
+            put("icehub_member gives wrong numbers");
+        } else if (origin == ICEHUB_IN_FALLBACK) {
+            put_hex(fallback, fallback_len);
+        }
+    }
+}
+
+/* The three numbers of eight rows; those that the reader leaves alone are zeros. */
+static void records_call(uint32_t top, const uint8_t *message, size_t message_len)
+{
+    enum { RECORDS_LENT = 8 };
+    size_t i;
+    memset(rows, 0, RECORDS_LENT * ICEHUB_ROW_SIZE);
+    (void)icehub_read(table, table_len, top, message, message_len, rows, RECORDS_LENT * ICEHUB_ROW_SIZE);
+    for (i = 0; i < RECORDS_LENT; i++) {
+        put("%" PRIu32 " %" PRIu32 " %" PRIu32 " ", icehub_row_member(rows, i), icehub_row_place(rows, i),
+            icehub_row_length(rows, i));
+    }
+}
+
+static void check_call(void)
+{
+    const uint32_t rule = icehub_table(table, table_len);
+    put("%" PRIu32 " %" PRIu32 "%s", rule, icehub_table_place(table, table_len), rule == ICEHUB_OK ? " " : "");
+}
 
 static void replay(FILE *calls, FILE *answers)
 {
-    uint8_t head[4 * NUMBERS];
+    uint8_t head[4 * HEAD];
     while (fetch(calls, head, sizeof head, sizeof head)) {
-        uint32_t n[NUMBERS];
+        uint32_t n[HEAD];
         size_t i, length;
-        for (i = 0; i < NUMBERS; i++) {
-            n[i] = (uint32_t)icehub_unsigned(head + 4 * i, 4);
+        for (i = 0; i < HEAD; i++) {
+            n[i] = icehub_number(head, i);
         }
         length = n[1];
         if (n[0] == TABLE) {
-            (void)fetch(calls, table, length, sizeof table);
+            fetch_body(calls, table, length, sizeof table);
             table_len = length;
             continue;
         }
-        (void)fetch(calls, input, length, sizeof input);
-        if (n[0] == READ) {
+        fetch_body(calls, input, length, sizeof input);
+        switch (n[0]) {
+        case READ:
             if (n[3] > sizeof rows) {
                 stop("a list is too long");
             }
             read_call(n[2], input, length, n[3]);
-            compare(answers);
-        } else if (n[0] == WRITE) {
+            break;
+        case VIEW:
+            if (n[4] > length) {
+                stop("a call is too long");
+            }
+            view_call(n[2], input, n[4], n[3], input + n[4], length - n[4]);
+            break;
+        case WRITE:
             if (n[5] > length || n[6] > sizeof out) {
                 stop("a call is too long");
             }
             write_call(n[2], n[3], n[4], input, n[5], input + n[5], length - n[5], n[6]);
-            compare(answers);
-        } else {
-            if (fgets(expected, sizeof expected, answers) == NULL) {
-                stop("fewer answers than calls");
-            }
-            left_out++;
+            break;
+        case RECORDS: records_call(n[2], input, length); break;
+        case CHECK: check_call(); break;
+        default: stop("a record of an unknown kind");
         }
+        compare(answers, n[0]);
     }
 }
 
@@ -190,6 +318,7 @@ int main(int argc, char **argv)
     if (fgets(expected, sizeof expected, answers) != NULL) {
         stop("more answers than calls");
     }
-    printf("%lu of %lu recorded calls agree, %lu left out\n", agreed, agreed + differed, left_out);
-    return differed > 0 || agreed == 0;
+    printf("%lu of %lu recorded calls agree: %lu readings, %lu writings, %lu views, %lu row records, %lu tables\n",
+           lines - differed, lines, agreed[READ], agreed[WRITE], agreed[VIEW], agreed[RECORDS], agreed[CHECK]);
+    return differed > 0 || lines == 0;
 }
