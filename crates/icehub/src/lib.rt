@@ -41,7 +41,7 @@ fn rule_place(v: Verdict) -> u32
 pub extern "C" fn icehub_table(table: &[u8]) -> u32
     ensures { λ r. ⌜ r ≡ tableNumber (now (table .entry)) 0 ⌝ }
 {
-    rule(codec::check(table))
+    rule(verdict::check(table))
 }
 
 // The place of the first broken rule; 0 if the table breaks none.
@@ -50,7 +50,7 @@ pub extern "C" fn icehub_table(table: &[u8]) -> u32
 pub extern "C" fn icehub_table_place(table: &[u8]) -> u32
     ensures { λ r. ⌜ r ≡ tableNumber (now (table .entry)) 1 ⌝ }
 {
-    rule_place(codec::check(table))
+    rule_place(verdict::check(table))
 }
 
 // Number i of an answer.
@@ -78,7 +78,7 @@ fn number(a: Reading, i: usize) -> u32
 fn read_number(table: &[u8], top: u32, message: &[u8], room: usize, i: usize) -> u32
     ensures { λ r. ⌜ r ≡ readNumber (now (table .entry)) top (now (message .entry)) room i ⌝ }
 {
-    number(codec::answer(table, top, message, room), i)
+    number(reading::answer(table, top, message, room), i)
 }
 
 // The reader: 0 or the refusal number, and the rows in the lent list.
@@ -88,7 +88,7 @@ pub extern "C" fn icehub_read(table: &[u8], top: u32, message: &[u8], rows: &mut
     ensures { λ r. ⌜ r ≡ readNumber (now (table .entry)) top (now (message .entry)) (length (now (rows .entry))) 0 ⌝ }
     ensures { λ _. ⌜ now (rows .exit) ≡ listed (reading (now (table .entry)) top (now (message .entry)) (length (now (rows .entry)))) (now (rows .entry)) ⌝ }
 {
-    number(codec::read(table, top, message, rows), 0)
+    number(reading::read(table, top, message, rows), 0)
 }
 
 // The refusal's place; 0 if accepted.
@@ -169,7 +169,7 @@ pub extern "C" fn icehub_read_numbers(
     ensures { λ _. ⌜ now (rows .exit) ≡ listed (readingNumbered (now (table .entry)) top (now (message .entry)) (length (now (rows .entry))) (length (now (numbers .entry)))) (now (rows .entry)) ⌝ }
     ensures { λ _. ⌜ now (numbers .exit) ≡ withNumbers (readingOf (readingNumbered (now (table .entry)) top (now (message .entry)) (length (now (rows .entry))) (length (now (numbers .entry))))) (now (numbers .entry)) ⌝ }
 {
-    number(codec::read_numbers(table, top, message, rows, numbers), 0)
+    number(reading::read_numbers(table, top, message, rows, numbers), 0)
 }
 
 // The refusal number of the view's answer; 0 if it refuses nothing.
@@ -197,7 +197,7 @@ pub extern "C" fn icehub_member(
     ensures { λ r. ⌜ r ≡ viewNumber (viewWithin (length (now (numbers .entry))) (viewAnswer (now (table .entry)) top (now (message .entry)) member)) ⌝ }
     ensures { λ _. ⌜ now (numbers .exit) ≡ withView (viewWithin (length (now (numbers .entry))) (viewAnswer (now (table .entry)) top (now (message .entry)) member)) (now (numbers .entry)) ⌝ }
 {
-    view_number(codec::member_numbers(table, top, message, member, numbers))
+    view_number(view::member_numbers(table, top, message, member, numbers))
 }
 
 // Number i of the writer's answer.
@@ -231,7 +231,7 @@ fn write_number(
     ensures { λ r. ⌜ r ≡ writeNumber (now (table .entry)) top format count (now (rows .entry)) (now (buffer .entry)) room i ⌝ }
 {
     written_number(
-        codec::written(table, top, format, count, rows, buffer, room),
+        writing::written(table, top, format, count, rows, buffer, room),
         i,
     )
 }
@@ -252,7 +252,7 @@ pub extern "C" fn icehub_write(
     ensures { λ _. ⌜ now (out .exit) ≡ output (writing (now (table .entry)) top format count (now (rows .entry)) (now (buffer .entry)) (length (now (out .entry)))) (now (out .entry)) ⌝ }
 {
     written_number(
-        codec::write(table, top, format, count, rows, buffer, out),
+        writing::write(table, top, format, count, rows, buffer, out),
         0,
     )
 }
