@@ -8,7 +8,7 @@
 --   stop-walked, body-walked           a check refuses, or the walk over the body says all
 --   told-walked, told-listed           the answer of a walk
 --   rows-put                           a list that holds the rows, after they are put
---   list-short, list-few, list-more    the lent list if it has no room, or if the rows come from a list of 32 rows, or of 128
+--   list-short, list-few, list-more    the lent list if it has no room, or if the rows come from a list of 21 rows, or of 128
 --   walk-ready, list-again             where there are more rows nothing was refused; the lent list after a second walk
 use mathlib.Core.Path.{_≡_, refl, sym, ap, ap₂, _∙_}
 use mathlib.Core.Bool.{Bool, true, false}
@@ -231,7 +231,7 @@ module _ (T : List ℕ) (top : ℕ) (m own last R : List ℕ) (w : Walk) (W : Wa
             ap (λ (z : List ℕ). put 0 z R) (ap (take (12 * length (r ∷ rs))) e ∙ take-at all (drop (12 * length (r ∷ rs)) own) (12 * length (r ∷ rs)) len)
             ∙ put-front all R (omega arith) ∙ ap (λ (i : ℕ). all ++ drop i R) len
 
-    pub list-few : length R / 12 ≤ 32 → length own ≡ 384 → (x : List ℕ) → x ≡ put 0 (take (12 * n) (drop 0 last)) R → Listed T top m w R x
+    pub list-few : length R / 12 ≤ 21 → length own ≡ 252 → (x : List ℕ) → x ≡ put 0 (take (12 * n) (drop 0 last)) R → Listed T top m w R x
     list-few f l = list-own (omega arith)
 
     pub list-more : n ≤ 128 → length own ≡ 1536 → (x : List ℕ) → x ≡ put 0 (take (12 * n) (drop 0 last)) R → Listed T top m w R x

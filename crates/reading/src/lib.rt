@@ -83,12 +83,12 @@ pub fn walk(table: &[u8], top: usize, message: &[u8], ready: bool, out: &mut [u8
     checked(&table[0..], top, &message[0..], ready, out)
 }
 
-// Walks into a list of the call's own and copies the rows, since the lent list must stay on a refusal. The lent list has room for at most 32 rows.
+// Walks into a list of the call's own and copies the rows, since the lent list must stay on a refusal. The lent list has room for at most 21 rows: so short a list is cleared without a call.
 fn walk_few(table: &[u8], top: usize, message: &[u8], rows: &mut [u8]) -> Walk
-    requires { ⌜ length (now rows) / 12 ≤ 32 ⌝ }
+    requires { ⌜ length (now rows) / 12 ≤ 21 ⌝ }
     ensures { λ r. ⌜ Listed (now (table .entry)) top (now (message .entry)) r (now (rows .entry)) (now (rows .exit)) ⌝ }
 {
-    let mut few = [0u8; 384];
+    let mut few = [0u8; 252];
     let w = walk(table, top, message, false, &mut few);
     let count = row_count(w);
     if count <= rows.len() / 12 {
@@ -121,7 +121,7 @@ pub fn read(table: &[u8], top: u32, message: &[u8], rows: &mut [u8]) -> Reading
     ensures { λ _. ⌜ now (rows .exit) ≡ listed (reading (now (table .entry)) top (now (message .entry)) (length (now (rows .entry)))) (now (rows .entry)) ⌝ }
 {
     let k = rows.len() / 12;
-    if k <= 32 {
+    if k <= 21 {
         return told(walk_few(table, top as usize, message, rows), k);
     }
     told(walk_more(table, top as usize, message, rows), k)
@@ -214,7 +214,7 @@ pub fn read_numbers(
         return short(answer(table, top, message, rows.len()));
     }
     let room = rows.len() / 12;
-    if room <= 32 {
+    if room <= 21 {
         return numbered(walk_few(table, top as usize, message, rows), room, numbers);
     }
     numbered(walk_more(table, top as usize, message, rows), room, numbers)
