@@ -1,7 +1,7 @@
 -- The grammars of values and of extents: which byte strings are a value of a type, and which are what an optional's type declares.
 -- They are stated apart from the readers and the encoder: `ExactValues` and `ExactExtents` promise that the readers take just these strings.
--- They speak of lists of numbers, so the promises hold of any buffer; where the numbers are bytes, a long size begins with 255.
--- A grammar is a set of strings, `List ℕ → Type 0`; the greater ones are put together from these:
+-- They are about lists of numbers, so the promises hold of any buffer; where the numbers are bytes, a long size begins with 255.
+-- A grammar is a set of strings, `List ℕ → Type 0`; the larger ones are built from these:
 --
 --   P ⨾ Q           a string of P, then one of Q
 --   Repeats P n     n strings of P, one after another
@@ -71,7 +71,7 @@ pub record InString (t : List ℕ) : Type 0 where
 pub data IsString (t : List ℕ) : List ℕ → Type 0 where
   spelt : {a : List ℕ} → IsSize (length t) a → InString t → IsString t (a ++ t)
 
--- a string, whichever it is
+-- any string
 pub data IsText : List ℕ → Type 0 where
   text : {t b : List ℕ} → IsString t b → IsText b
 

@@ -161,7 +161,7 @@ takes-below k c = reads-as (λ _ b w. onward (w .0) (w .1 .0) (w .1 .1)) (λ _ b
     back : {b : List ℕ} → ByteBelow k b → (x : ℕ) × ((_≡_ {A = ℕ} (pick (ltb x k) 0 (suc c)) 0) × IsByte x b)
     back (below {x} l) = (x, (rw (lt-ltb x k l), is-byte))
 
--- an int that a judgement leaves at least `least` and not negative
+-- an int, where a judgement passes exactly those that are at least `least` and not negative
 reads-int : (form : ℕ → ℕ) (least : ℕ) → ((n : ℕ) → form n ≡ 0 → (least ≤ n) × Short n) → ((n : ℕ) → least ≤ n → Short n → form n ≡ 0)
     → Reads (must form (number 4)) (λ n b. (least ≤ n) × IsInt n b)
 unfolding number

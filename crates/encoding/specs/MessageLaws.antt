@@ -1,7 +1,7 @@
--- The laws of a whole message: what its readers take and where they refuse lies within the input, and what acceptance tells.
+-- The laws of a whole message: what its readers take and where they refuse lies within the input, and what follows from acceptance.
 --
---   closed-parameters, closed-contents, closed-rest   what each way of joining readers keeps; held-contents, held-rest the extent
---   ended-ok               nothing is behind the record
+--   closed-parameters, closed-contents, closed-rest   they have every property that all ways of joining readers keep; held-contents, held-rest the extent
+--   ended-ok               nothing comes after the record
 --   length-encapsulate, body-encapsulated   an encapsulation is six bytes longer than what it holds, and read as that
 --   top-there              a top is a row of a kind from 13 on
 --   rules-ok, rules-step   what the rules accept: table, top, limit and body; rules-body where only the body is left
@@ -32,7 +32,7 @@ unfolding ended
 ended-in a [] = omega arith
 ended-in a (x ∷ xs) = omega arith
 
--- what each way of joining readers keeps; a parameter list is read to the end
+-- a property that all ways of joining readers keep; a parameter list is read to the end
 module _ {P : (A : Type 0) → Parser A → Type 0} {Stops : (List ℕ → Option ℕ) → Type 0} (C : Closed P Stops) (marked : Stops atMark) (to-end : Stops atEnd) (T : List ℕ) (top : ℕ) where
   pub closed-parameters : P (List Piece) (parameters T top)
   unfolding parameters

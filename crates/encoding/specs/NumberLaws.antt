@@ -3,7 +3,7 @@
 --   val-leBytes, leBytes-val      a number written is the number read, and the other way round, of any width
 --   size-short, size-long         what a size is written as
 --   -written, -canonical          what the encoder makes is read back; what was read is what the encoder makes
---   closed-                       of each reader, what each way of joining readers keeps; framed- and held- are the frame and the extent
+--   closed-                       each reader has every property that all ways of joining readers keep; framed- and held- are the frame and the extent
 --   eats-, starved-, ends-        of each reader, the last of those that deliver bytes
 use mathlib.Core.Path.{_≡_, refl, sym, ap, _∙_, subst}
 use mathlib.Core.Bool.{Bool, true, false}
@@ -88,7 +88,7 @@ pub starved-number : (k : ℕ) → Starved (number (suc k))
 unfolding number
 starved-number k = starved-chunk k val
 
--- ---- what each way of joining readers keeps
+-- ---- properties that all ways of joining readers keep
 
 module _ {P : (A : Type 0) → Parser A → Type 0} {Stops : (List ℕ → Option ℕ) → Type 0} (C : Closed P Stops) where
   pub closed-number : (k : ℕ) → P ℕ (number k)

@@ -6,7 +6,7 @@
 use mathlib.Core.Path.{_≡_}
 use Rattle.encoding.specs.Types.{Allowed, Num, short, int, long, float, double, Ty, Tys, nil, cons, broken, bool, byte, string, proxy, num, enum, struct, seq, dict, f1, f2, f4, f8, size, Form, bare, own, counted, sized}
 
--- kinds 0..6 and structs of only such
+-- kinds 0..6 and structs of only these
 mutual
   pub data FixedSize : Ty → Type 0 where
     a-bool : FixedSize bool

@@ -1,6 +1,6 @@
 -- The laws of the members of one owner: frame, extent and fuel of their readers, and the declared part of an optional.
 --
---   closed-                      of headers, extents, parts, optionals and required members, what each way of joining readers keeps; held- the extent
+--   closed-                      headers, extents, parts, optionals and required members have every property that all ways of joining readers keep; held- the extent
 --   ends-, eats-, starved-       of these, where it holds
 --   optionals-enough             fuel is never used up in reading optionals
 --   Sound f, formOf-sound        the forms that types have
@@ -62,7 +62,7 @@ ends-extent vsize xs d n h = ends-item _ (ends-bind _ _ (λ n. ends-chunk n)) xs
 ends-extent fsize xs d n h = ends-declared 1 0 xs d n h
 ends-extent class xs d n h = absurd (ok≢bad h refl)
 
--- ---- what each way of joining readers keeps
+-- ---- properties that all ways of joining readers keep
 
 module _ {P : (A : Type 0) → Parser A → Type 0} {Stops : (List ℕ → Option ℕ) → Type 0} (C : Closed P Stops) where
   pub closed-header : (ms : List Member) (least : ℕ) → P Header (header ms least)
@@ -147,7 +147,7 @@ optionals-enough ms stop f xs h = many-enough stop (nextOptional ms) (eats-optio
 
 -- ---- the part of a known value
 
--- a type that stands for itself in the header: F1 to F8 and Size
+-- a type whose value needs no length: F1 to F8 and Size
 abbrev pub Plain : Bits → Type 0
 Plain f1 = Unit {0}
 Plain f2 = Unit {0}

@@ -1,6 +1,6 @@
 -- The laws of readers, once per combinator.
 --
---   -ok, -step         what an acceptance by a combinator tells; how an acceptance is built
+--   -ok, -step         what follows from acceptance by a combinator; when it accepts
 --   both-, either-     tests joined; sameBytes-ok, sameBytes-same: equal lists
 --   shift-shift        moved twice
 --   Framed p           the frame: where p accepts, it looks at nothing but what it takes
@@ -85,7 +85,7 @@ unfolding shift
 shift-shift n m (ok a k) = ap (ok a) (omega arith)
 shift-shift n m (bad c p) = ap (bad c) (omega arith)
 
--- ---- what an acceptance tells, and how it is built
+-- ---- what follows from acceptance, and when a reader accepts
 
 pub record Bound {A B : Type 0} (p : Parser A) (f : A → Parser B) (xs : List ℕ) (b : B) (k : ℕ) : Type 0 where
   pub fst : A
@@ -262,7 +262,7 @@ abbrev pub Framed : {A : Type 0} → Parser A → Type 0
 Framed {A} p = (xs : List ℕ) (a : A) (n : ℕ) → p xs ≡ ok a n → TakenAgain p xs a n
 
 module _ {A : Type 0} (p : Parser A) (F : Framed p) (xs : List ℕ) {a : A} {n : ℕ} where
-  -- more bytes behind change nothing
+  -- more bytes after them change nothing
   pub framed-more : p xs ≡ ok a n → (ys : List ℕ) → p (xs ++ ys) ≡ ok a n
   framed-more h ys =
       ap (λ (l : List ℕ). p (l ++ ys)) (sym (take-append-drop n xs))
@@ -339,7 +339,7 @@ module _ {A : Type 0} (p : Parser A) (P : Framed p) where
         again = λ w. bytes-step p (take n xs ++ w) (k .again w) ∙ ap (λ (y : List ℕ). ok y n) (take-at (take n xs) w n (length-take-le n xs (k .fits)) ∙ sym (e .2));
       }
 
--- what is read inside is nobody else's
+-- the second reader sees only what the first delivers, so the frame of the first is enough
 pub framed-inside : {B : Type 0} (p : Parser (List ℕ)) (q : Parser B) → Framed p → Framed (inside p q)
 framed-inside p q P xs b n h =
     let E = inside-ok p q xs h in
@@ -481,7 +481,7 @@ ends-bytes p P xs d n h =
 pub ends-item : (p : Parser (List ℕ)) → Ends p → Ends (item p)
 ends-item p P xs d n h = P xs d n (item-ok p xs h)
 
--- behind a reader of another kind
+-- after a reader of another kind
 pub ends-bind : {A : Type 0} (p : Parser A) (f : A → Parser (List ℕ)) → ((a : A) → Ends (f a)) → Ends (p >>= f)
 ends-bind {A} p f F xs d n h = go (bind-ok p f xs h)
   where

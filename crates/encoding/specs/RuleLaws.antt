@@ -2,19 +2,19 @@
 --
 --   pass-fine                      a pass that is fine has no true test
 --   header-right, type-right, member-right   each pass is fine: no test of the header or of a row is true
---   header-test, row-test, member-row-test, member-test   each such test is false
---   row-begins, sum-right          what the tests of the member rows taken tell
+--   header-test, row-test, member-row-test, member-test   each of these tests is false
+--   row-begins, sum-right          what follows from the tests of the member rows taken
 --   any-none                       no number of a range passes a test
 --   members-most, types-most       at most 1,024 members and 256 types
 --   kind-known                     a kind is at most 15
 --   record-kind, owns-record       a record is an exception or a class, and takes member rows
 --   base-right                     a base is a smaller row of the same kind
---   AboveRecord, base-record       what stands above a record, as a base row + 1, is none or a record
+--   AboveRecord, base-record       the base of a record, as a row + 1, is none or a record
 --   named-ok, named-at             the record of a name is a record of that name; a record is the one of its name
 --   named-short                    a record's name is at most 255 bytes long
 --   names-differ                   records of one name are one
 --   climb-enough, chain-node       a chain is the row, then the chain of its base
---   Own, own-later, required-own, optional-own  where a member stands among the rows of its owner
+--   Own, own-later, required-own, optional-own  the place of a member among the rows of its owner
 --   length-range, own-sum          the required and optional members of an owner are as many as its member rows
 --   taken-rises, taken-next        the member rows that the rows before one take
 --   taken-at, taken-whole          an owner's member rows begin where those of the rows before it end; all are taken
@@ -24,7 +24,7 @@
 --   owner-at                       the owner of a member row
 --   mark-known, tags-differ        a mark is 0 or 1; optionals of one owner and one tag are one
 --   orElse-fault, faultAt-place    which of two passes a fault is of, and its place
---   fault-place                    where a broken rule stands is at most so far into the table, whatever the table
+--   fault-place                    the place of a broken rule is bounded, whatever the table
 use mathlib.Core.Path.{_≡_, refl, sym, ap, _∙_, subst}
 use mathlib.Core.Bool.{Bool, true, false, _&&_, _||_, not, true≢false, false≢true}
 use mathlib.Core.Logic.{_⊎_, inl, inr}
@@ -183,7 +183,7 @@ taken-next T t o = rw o
 
 -- ---- the members of an owner
 
--- member m stands in the rows from a on, b of them, required or not; an optional one's key is its tag
+-- member m is one of the b rows from a on, required or not; an optional one's key is its tag
 pub record Own (T : List ℕ) (a b : ℕ) (required : Bool) (m : Member) : Type 0 where
   pub from : a ≤ m .row
   pub to : m .row < a + b
@@ -491,7 +491,7 @@ module _ (T : List ℕ) (right : faults T ≡ fine) where
       go true r s = absurd (tags-earlier t i l o c d m a (ltb-true m i r) p q e)
       go false r s = let h : i ≤ m = ltb-false m i r in absurd (tags-earlier t m l o a b i c (omega (arith, s)) q p (sym e))
 
--- ---- where a broken rule stands
+-- ---- the place of a broken rule
 
 pub orElse-fault : (f g : Fault) (c p : ℕ) → orElse f g ≡ fault c p → (f ≡ fault c p) ⊎ ((f ≡ fine) × (g ≡ fault c p))
 unfolding orElse

@@ -1,6 +1,6 @@
 -- The laws of the slices of a record: frame, extent and fuel of their readers.
 --
---   closed-                      of heads, fields, a known slice's data, slices, and the walk over them, what each way of joining readers keeps
+--   closed-                      heads, fields, a known slice's data, slices, and the walk over them have every property that all ways of joining readers keep
 --   someForm-ok, -step           bit 2 of the flags asks for at least one optional
 --   eats-, starved-              of heads and slices
 --   Meant, meant-head            a meaning that is wrong has a refusal's number
@@ -107,7 +107,7 @@ module _ (T : List ℕ) (top : ℕ) (st : Stage) where
   unfolding slice judge
   starved-slice = starved-recall _ (starved-bind _ _ (starved-must judge _ (starved-head (standOf st) (idForm T st))))
 
--- ---- what each way of joining readers keeps
+-- ---- properties that all ways of joining readers keep
 
 module _ {P : (A : Type 0) → Parser A → Type 0} {Stops : (List ℕ → Option ℕ) → Type 0} (C : Closed P Stops) where
   -- whatever is judged of the type ID

@@ -158,7 +158,7 @@ any f (i ∷ l) = f i || any f l
 abbrev pub great : ℕ → Bool
 great n = negative 4 n
 
--- mark FGT, version 1, T 1..256, M 0..1,024, N 0..8,192, a zero byte, and nothing more behind the names; all at 0
+-- mark FGT, version 1, T 1..256, M 0..1,024, N 0..8,192, a zero byte, and nothing more after the names; all at 0
 unfoldable pub headerTests : List ℕ → List (ℕ × Bool)
 headerTests T =
     (31, not (sameBytes (take 5 T) (70 ∷ 71 ∷ 84 ∷ 1 ∷ 0 ∷ [])))

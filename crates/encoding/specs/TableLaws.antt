@@ -5,7 +5,7 @@
 --   length-tys                     the first n rows have n trees
 --   tys-at                         the tree of a row among the trees below any higher row
 --   ty-row, ty-past                the tree of a row that has one is made from the trees below it; any other row is broken
---   below-ty, below-none           among the trees below row t stand those of the rows below t and no other
+--   below-ty, below-none           the trees below row t are those of the rows below t and no other
 --   row-enum .. row-dict           the tree of a row of that kind, made from the trees below it
 --   row-bool .. row-double         the rows without parts; row-other, row-broken a row of kind 13 and above
 --   member-whole                   the type of a member row among all trees

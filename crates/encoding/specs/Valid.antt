@@ -112,7 +112,7 @@ pub record TypeName (T : List ℕ) (t : ℕ) : Type 0 where
   pub inside : field T t 3 + field T t 4 ≤ names T
   pub new : (r : ℕ) → r < t → RecordKind (kind T r) → nameOf T r ≡ nameOf T t → ⊥
 
--- 37: a record has such a name
+-- 37: a record has a name like this
 abbrev pub TypeNamed : List ℕ → ℕ → Type 0
 TypeNamed T t = RecordKind (kind T t) → TypeName T t
 

@@ -1,6 +1,6 @@
 -- The laws of values, proxies included: the frame; what they take and where they refuse lies within the input.
 --
---   closed-value                 of a value of any type, what each way of joining readers keeps; closed-values of values one after another
+--   closed-value                 a value of any type has every property that all ways of joining readers keep; closed-values of values one after another
 --   framed-value, held-value     the frame; bytes taken and places of refusals
 --   held-text .. held-reference  of the parts of a proxy
 --   eats-value                   a value that is not fixed-size takes at least one byte
@@ -22,7 +22,7 @@ use Rattle.encoding.specs.Proxy
 use Rattle.encoding.specs.Types.{allows, width, Ty, Tys, nil, cons, broken, bool, byte, string, proxy, num, enum, struct, seq, dict, fixed, fixeds}
 use Rattle.encoding.specs.Value.{enumForm, value, values, whole, exact}
 
--- ---- what each way of joining readers keeps
+-- ---- properties that all ways of joining readers keep
 
 module _ {P : (A : Type 0) → Parser A → Type 0} {Stops : (List ℕ → Option ℕ) → Type 0} (C : Closed P Stops) where
   pub closed-text : P (Unit {0}) text

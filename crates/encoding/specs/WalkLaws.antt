@@ -1,7 +1,7 @@
--- The slices of a record, step by step: what an acceptance tells, and how it is built.
+-- The slices of a record, step by step: what follows from acceptance, and when it is given.
 --
---   Heads, head-ok               flags and type ID; head-refused where the ID is judged away
---   heads-later                  behind a slice of a format the flags say the same format
+--   Heads, head-ok               flags and type ID; head-refused where the ID is refused
+--   heads-later                  after a slice of a format the flags say the same format
 --   Sliced, slice-ok, slice-step one slice; slice-refused where its head is refused
 --   Walk, walk-of                a walk over slices that accepts, slice by slice
 use mathlib.Core.Path.{_≡_, refl, sym, ap, ap₂, _∙_}
@@ -74,7 +74,7 @@ module _ (s : Stand) (j : Format → List ℕ → ℕ) (xs : List ℕ) where
     unfolding headOf
     same-format = ap (λ (x : Head). x .format) (H .is)
 
-    -- an ID that is due and judged away is refused at its own place
+    -- an ID that is due and does not pass its judgement is refused at its own place
     pub head-refused : (c : ℕ) → due s (h .format) ≡ true → j (h .format) (h .id) ≡ suc c → head s j xs ≡ bad (suc c) 1
     unfolding head idOf headOf mapc made must judged shift
     head-refused c d e =
@@ -84,7 +84,7 @@ module _ (s : Stand) (j : Format → List ℕ → ℕ) (xs : List ℕ) where
         ap (λ (g : Format). pick (due s g) (must (j g) string) (pure []) (drop 1 xs)) (sym same-format) ∙ ap (λ (q : Bool). pick q (must (j (h .format)) string) (pure []) (drop 1 xs)) d ∙ R in
         bind-next (must (flagForm s) byte) idOf xs (must-step byte xs (flagForm s) (H .read) (H .form)) ∙ ap (λ r. shift 1 (made (λ nm _. headOf (H .flags) nm) r)) Q
 
--- behind a slice of a format the flags say the same
+-- after a slice of a format the flags say the same
 pub heads-later : (g : Format) (xs : List ℕ) (h : Head) (n : ℕ) → Heads (later g) xs h n → h .format ≡ g
 unfolding flagForm mixed headOf
 heads-later g xs h n H = ap (λ (x : Head). x .format) (H .is) ∙ go g (bit (H .flags) 16) (not-false _ (firstOf-ok 13 (mixed (later g) (H .flags)) _ (firstOf-ok 13 _ _ (H .form) .1) .0))

@@ -115,7 +115,7 @@ bare-weight vsize s xs h = absurd s
 bare-weight fsize s xs h = absurd s
 bare-weight class s xs h = absurd s
 
--- what a form's part delivers stands behind its length field
+-- what a form's part delivers comes after its length field
 pub part-weight : (f : Form) → Sound f → (xs : List ℕ) {d : List ℕ} {n : ℕ} → part f xs ≡ ok d n → n ≡ length (lengthBytes f d ++ d)
 unfolding part lengthBytes extent
 part-weight (bare k) s xs h = bare-weight k s xs h
@@ -123,7 +123,7 @@ part-weight own s xs h = whole-weight (extent vsize) (held-extent vsize) xs h
 part-weight counted s xs h = counted-weight xs h
 part-weight sized s xs {d} h = declared-weight 1 0 xs h ∙ sym (length-append (leBytes 4 (length d)) d ∙ ap (λ (i : ℕ). i + length d) (length-leBytes 4 (length d)))
 
--- the length of a header does not hang on its type
+-- the length of a header does not depend on its type
 header-length : (t : ℕ) (k l : Bits) → length (headerBytes t k) ≡ length (headerBytes t l)
 unfolding headerBytes
 header-length t k l = go (ltb t 30)

@@ -43,7 +43,7 @@ use Rattle.heads.specs.Stages.{stageOf, idText, headOf, meaningAnswer, h
 
 -- ---- flags
 
--- what the code knows a format by
+-- the test by which the code knows a format
 format-sliced : (b : Bool) → isSliced (pick b sliced compact) ≡ b
 format-sliced true = refl
 format-sliced false = refl
@@ -235,7 +235,7 @@ module _ (T : List ℕ) (top : ℕ) (st : Slice.Stage) where
   abbrev judge : Head → ℕ
   judge h = meaningForm (meaning T top st h)
 
-  -- 16 and 17 stand at the flags, judged or not
+  -- 16 and 17 are at the flags, judged or not
   head-judged : (r : Res Head) → headAnswer T top st (judged judge r) ≡ headAnswer T top st r
   unfolding headAnswer judged meaningAnswer meaningForm
   head-judged (ok h n) = go (meaning T top st h) refl

@@ -1,5 +1,5 @@
 -- What is promised of the definitions, each promise in full, to be read without its proof.
--- A promise is the type of its proof; the files beside this one prove them, and `Promises` says where each stands.
+-- A promise is the type of its proof; the files beside this one prove them, and `Promises` names the proof of each.
 --
 -- Tables and messages are lists of numbers; a message is one of bytes, `Bytes m`.
 --
@@ -37,7 +37,7 @@
 --   NewerRead      demand 3: an old table accepts what a new one that extends it accepts, and lists the rows of the members that it knows
 --   NewerRefused   the one exception of demand 3; NewerRefusedReading of the reader's answer
 --   NewerReading   demand 3 of the reader's answer, given room
---   OneCounterpart, NewerThere   a new member has at most one match in the old table; demand 3 speaks of some message
+--   OneCounterpart, NewerThere   a new member has at most one match in the old table; demand 3 is about some message
 use mathlib.Core.Path.{_≡_}
 use mathlib.Core.List.{List, [], _∷_, _++_, map}
 use mathlib.Core.Option.{none, some}
@@ -129,7 +129,7 @@ ReaderRefuses =
 
 -- ---- the numbers of the public calls
 
--- the enum that the reader's call returns tells the seven numbers of the answer
+-- the enum that the reader's call returns has the seven numbers of the answer
 abbrev pub NumbersTold : Type 0
 NumbersTold =
     (T : List ℕ) (top : ℕ) (m : List ℕ) (bytes : ℕ)
@@ -145,7 +145,7 @@ pub record Follows (T : List ℕ) (top : ℕ) (m : List ℕ) (f : Format) (p : P
   pub conforms : Conform T top f p
   pub encoded : m ≡ encapsulate (encode f p)
 
--- Rules out a reader that only refuses, and one that gives a fixed list: both directions speak of every message.
+-- Rules out a reader that only refuses, and one that gives a fixed list: both directions are about every message.
 -- Rules out pieces invented after the first slice: the pieces are those of the message.
 abbrev pub Exact : Type 0
 Exact =
@@ -256,7 +256,7 @@ abbrev pub Unambiguous : Type 0
 Unambiguous =
     (T : List ℕ) (top : ℕ) (m : List ℕ) (f g : Format) (p q : Pieces) → Bytes m → Follows T top m f p → Follows T top m g q → readAs f p ≡ readAs g q
 
--- the members that stand in known slices, and the slices
+-- the members in known slices; the slices
 unfoldable pub membersIn : List Slice → ℕ
 membersIn [] = 0
 membersIn (known o ps ∷ ss) = length ps + membersIn ss
@@ -331,7 +331,7 @@ pub data Hidden (T : List ℕ) (top : ℕ) (m : List ℕ) (k : ℕ) : Type 0 whe
   refused-message : {n p : ℕ} → rules T top m ≡ bad n p → Hidden T top m k
   other-member : {r : Read} {n : ℕ} → rules T top m ≡ ok r n → (OfChain T (firstKnown T top (r .pieces)) k → ⊥) → Hidden T top m k
 
--- what the view shows of member k, and the bytes that it hands back, of the message or of a fallback
+-- what the view shows of member k, and the bytes that it returns, of the message or of a fallback
 -- Rules out a fallback for a refused message, and one for a member that the message has.
 pub record ViewedAs (T : List ℕ) (top : ℕ) (m : List ℕ) (k : ℕ) : Type 0 where
   pub part-shown : (p l : ℕ) → viewing T top m k ≡ part p l → Lists T top m (record { member = k; place = p; len = l })
@@ -596,7 +596,7 @@ unfoldable pub firstId : List Slice → List ℕ
 firstId [] = []
 firstId (s ∷ ss) = idOf s
 
--- a compact record whose first type ID the table lacks, and the place of that type ID: behind the flags, and the marker of a class
+-- a compact record whose first type ID the table lacks, and the place of that type ID: after the flags, and the marker of a class
 pub data Foreign (old : List ℕ) : Format → Pieces → ℕ → Type 0 where
   an-exception : {ss : List Slice} → named old (firstId ss) ≡ none → Foreign old compact (exception ss) 7
   a-class : {ss : List Slice} → named old (firstId ss) ≡ none → Foreign old compact (class ss) 8
@@ -647,7 +647,7 @@ OneCounterpart =
     (old new : List ℕ) (top top′ : ℕ) → Extends old new → top′ < types new → (m m′ n : ℕ)
     → Counterpart old new top top′ m n → Counterpart old new top top′ m′ n → m ≡ m′
 
--- there is a message that demand 3 speaks of, and the old table lists a member of it and skips a slice
+-- there is a message that demand 3 is about, and the old table lists a member of it and skips a slice
 -- Rules out a demand 3 that holds because nothing extends anything.
 pub record NewerThere : Type 0 where
   pub old : List ℕ

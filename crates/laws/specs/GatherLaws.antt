@@ -37,7 +37,7 @@ judged-append over K = K
 judged-append (taken e i x H) K = taken e i x (judged-append H K)
 judged-append (missed d H) K = missed d (judged-append H K)
 
--- rows that choose from slots and from those behind them
+-- rows that choose from slots and from those after them
 pub record Split (buffer : List ℕ) (ss ss′ : List Slot) (rs : List Row) (gs : List Given) : Type 0 where
   pub rows : List Row
   pub rows′ : List Row

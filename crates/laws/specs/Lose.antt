@@ -13,7 +13,7 @@ use Rattle.encoding.specs.Optional.{Piece, required, optional, skipped, lengthB
 use Rattle.encoding.specs.Slice.{Slice, known, passed, anyOptional, dataBytes}
 use Rattle.encoding.specs.Message.{Pieces, list, exception, class}
 
--- a known optional stays where the old table knows its tag, else its bytes behind the header are skipped
+-- a known optional stays where the old table knows its tag, else its bytes after the header are skipped
 unfoldable pub keepOr : ℕ → Form → List ℕ → Option Member → Piece
 keepOr t f b none = skipped t (bitsOf f) (lengthBytes f b ++ b)
 keepOr t f b (some m) = optional t f b

@@ -1,6 +1,6 @@
 -- A whole message: the rules accept it exactly when it is the encoding of pieces that conform, and those are read.
 --
---   contents-written, -canonical   what stands in the encapsulation, by the top's kind
+--   contents-written, -canonical   what is in the encapsulation, by the top's kind
 --   body-written, -canonical       the encapsulation around it
 --   rules-written                  what follows the rules is accepted
 --   exact-message, exact-rows      demand 2, first sentence, and the rows listed
@@ -99,7 +99,7 @@ module _ (T : List ℕ) (top : ℕ) where
   abbrev versionedP : Parser Read
   versionedP = must versionForm (number 2) >>= λ _. closedP
 
-  -- nothing is behind the record
+  -- nothing comes after the record
   closed-canonical : (xs : List ℕ) → Bytes xs → Short (length xs) → 13 ≤ kind T top → kind T top ≤ 15 → {r : Read} {n : ℕ} → closedP xs ≡ ok r n → Right T top xs r × (n ≡ length xs)
   closed-canonical xs y sh low high {r} {n} h = go (bind-ok (contents T top) ended xs h)
     where

@@ -111,7 +111,7 @@ newer-read = understood
 
 -- ---- the old table refuses: compact, and the first type ID is unknown to it
 
--- 15 at the type ID, behind the flags
+-- 15 at the type ID, after the flags
 slices-refused : (T : List ℕ) (top : ℕ) (o : List ℕ) → named T o ≡ none → Short (length o) → (ps : List Piece) (ss : List Slice)
     → slices T top (slicesBytes compact first (known o ps ∷ ss)) ≡ bad 15 1
 unfolding slices slicesBytes sliceFront walk unlessFinished finished standOf due idForm isNone idOf hasOptionals

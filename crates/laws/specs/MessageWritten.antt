@@ -1,8 +1,8 @@
--- The writer's judgements one after another, and where 22 stands.
+-- The writer's judgements one after another, and when 22 comes.
 --
 --   Composed, message-ok, message-step   a message is made exactly when each judgement lets pass
 --   writing-ok, writing-step             the same of what is written, within limit and room
---   too-long                             22 stands exactly where the message is too long
+--   too-long                             22 comes exactly where the message is too long
 use mathlib.Core.Path.{_≡_, refl, sym, ap, _∙_, subst}
 use mathlib.Core.Bool.{Bool, true, false, _&&_, true≢false}
 use mathlib.Core.Option.{Option, none, some}

@@ -1,7 +1,7 @@
 -- Pieces of one owner, read and encoded: what is read is what the encoder makes, and what it makes is read back.
 --
---   Told ms least p s              p is an optional that members ms know or do not, its tag at least `least`; s is the least tag behind it
---   header-written, -canonical     an optional's header, its tag in the header or behind it
+--   Told ms least p s              p is an optional that members ms know or do not, its tag at least `least`; s is the least tag after it
+--   header-written, -canonical     an optional's header, its tag in the header or after it
 --   part-written                   a known value in its part
 --   optional-written, -canonical   an optional, known or skipped
 --   optionals-written, -canonical  optionals up to a stop
@@ -83,7 +83,7 @@ header-written ms least t k r s l c w =
     either true = refl
     either false = refl
 
--- the bytes of a header behind its first
+-- the bytes of a header after its first
 tail-canonical : (x : ℕ) (ys : List ℕ) (h : Header) (m : ℕ) → x / 8 < 31 → Bytes ys → headerTail x ys ≡ ok h m → h .long && ltb (h .tag) 30 ≡ false
     → (x ∷ take m ys ≡ headerBytes (h .tag) (h .type)) × Short (h .tag)
 unfolding headerTail headerBytes pure
@@ -220,7 +220,7 @@ fit-written sized b r h s =
     let w = declared-written 1 0 b r (omega arith) (omega arith) (omega arith) in
     rw zero-add at w ∙ ap (ok b) (omega (arith, length-append (leBytes 4 (length b)) b, length-leBytes 4 (length b)))
 
--- a value behind its length, or bare, is its part
+-- a value after its length, or bare, is its part
 pub part-written : (t : Ty) (b r : List ℕ) → IsValue t b → Short (length b) → part (formOf t) (lengthBytes (formOf t) b ++ b ++ r) ≡ ok b (length (lengthBytes (formOf t) b ++ b))
 part-written t b r w s = fit-written (formOf t) b r (value-fits t b (exact-ok t b (is-exact t b w))) s
 
@@ -235,7 +235,7 @@ value-written t b r w = bytes-step (value t) (b ++ r) (takes-value t .written tt
 
 -- ---- an optional
 
--- an optional that members ms know, or one that they do not; behind it a tag is at least s
+-- an optional that members ms know, or one that they do not; after it a tag is at least s
 pub data Told (ms : List Member) (least : ℕ) : Piece → ℕ → Type 0 where
   known : {t : ℕ} {f : Form} {b : List ℕ} → Known ms least t f b → Told ms least (optional t f b) (suc t)
   unknown : {t : ℕ} {k : Bits} {b : List ℕ} → Unknown ms least t k b → Told ms least (skipped t k b) (suc t)
@@ -490,7 +490,7 @@ told-opens stop O (known {t = t} {f = f} {b = b} K) r =
     ap stop (append-assoc (headerBytes t (bitsOf f) ++ lengthBytes f b) b r ∙ append-assoc (headerBytes t (bitsOf f)) (lengthBytes f b) (b ++ r)) ∙ O t (bitsOf f) (lengthBytes f b ++ (b ++ r))
 told-opens stop O (unknown {t = t} {k = k} {b = b} K) r = ap stop (append-assoc (headerBytes t k) b r) ∙ O t k (b ++ r)
 
--- one more optional in front
+-- one more optional before the others
 run-step : (stop : List ℕ → Option ℕ) → Opens stop → (ms : List Member) (r : List ℕ) (k least s : ℕ) (p : Piece) (ps : List Piece) → Told ms least p s
     → Run stop (nextOptional ms) (length ps) s (concat pieceBytes ps ++ r) ps (length (concat pieceBytes ps) + k)
     → Run stop (nextOptional ms) (length (p ∷ ps)) least (concat pieceBytes (p ∷ ps) ++ r) (p ∷ ps) (length (concat pieceBytes (p ∷ ps)) + k)

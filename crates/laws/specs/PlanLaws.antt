@@ -3,11 +3,11 @@
 --   Pairs R l                      R holds of every two of a list, the earlier first; all-mapped, pairs-mapped, -append, -with
 --   RowsDiffer, KeysDiffer, KeysRise   of two members; all-rising, rises-rising, differ-rising: of members by rising tag
 --   from least l                   of members by rising tag, those whose tag is at least `least`; from-zero: all of them
---   Spot, find m ss                the slot of member row m with no due slot before it, and the slots behind it
+--   Spot, find m ss                the slot of member row m with no due slot before it, and the slots after it
 --   find-left, find-down           what holds of the slots from the one found on, and of all of them
 --   find-member, optional-spot     the slot found is the row's; the slot of a known optional whose tag may come
 --   Ordered T t                    the optionals of an owner differ in row and in tag
---   future T s                     the slots that are still to come where the rows stand at s
+--   future T s                     the slots that are still to come in state s
 --   anyDue, givenOf                a slot is due; what a row that chooses a slot gives
 --   judgeSlot, judgeSlots          the judgement of rows by the slots to come; judge-slots: it is the one by states
 --   out≢stop, next-ok              what lets pass does not stop; one judgement after another lets pass
@@ -189,7 +189,7 @@ from-zero (d ∷ ds) = rw (le-leb 0 (d .key) (omega arith))
 
 -- ---- the next slot
 
--- a slot, and those behind it
+-- a slot, and those after it
 pub record Spot : Type 0 where
   pub slot : Slot
   pub rest : List Slot
@@ -199,7 +199,7 @@ unfoldable pub find : ℕ → List Slot → Option Spot
 find m [] = none
 find m (s ∷ ss) = pick (eqb m (s .member .row)) (some (record { slot = s; rest = ss })) (pick (s .due) none (find m ss))
 
--- an optional of the owner, or what is found behind its slots
+-- an optional of the owner, or what is found after its slots
 unfoldable orRest : ℕ → List Member → List Slot → Option Spot → Option Member → Option Spot
 orRest o l rest f none = f
 orRest o l rest f (some d) = some (record { slot = slot o false d; rest = map (slot o false) (from (suc (d .key)) l) ++ rest })
@@ -269,7 +269,7 @@ unfoldable pub future : List ℕ → State → List Slot
 future T s =
     map (slot (s .owner) true) (s .due) ++ map (slot (s .owner) false) (from (leastOf (s .due) (s .least)) (rising (optionalMembers T (s .owner)))) ++ planOf T (s .above)
 
--- what a row reaches, as the slot that it chooses and those behind it
+-- what a row reaches, as the slot that it chooses and those after it
 unfoldable spot : List ℕ → Reached → Spot
 spot T z = record { slot = slot (z .state .owner) (z .required-one) (z .member); rest = future T (z .state) }
 
@@ -299,7 +299,7 @@ module _ (T : List ℕ) where
       go true = subst (λ (n : ℕ). Same (some (record { slot = slot o true d; rest = behind n })) (some (record { member = d; required-one = true; state = state }))) (least-zero ds) (both _ O)
       go false = neither
 
-  -- an optional of the owner, or what comes behind its slots
+  -- an optional of the owner, or what comes after its slots
   or-same : (m o least : ℕ) (ts : List ℕ) (r : Option Reached) → All Ordered (o ∷ ts) → Same (find m (planOf T ts)) r
       → Same (find m (map (slot o false) (from least (rising (optionalMembers T o))) ++ planOf T ts)) (orAbove o ts r (optionalRow m least (optionalMembers T o)))
   unfolding orRest orAbove spot future leastOf

@@ -2,7 +2,7 @@
 --
 --   all-any, all-with         what holds of all of a list
 --   Owner T t                 row t is there and takes member rows
---   Fit T s                   a slot's member stands under its owner and is found there by its key
+--   Fit T s                   a slot's member belongs to its owner and is found there by its key
 --   slots-owner, plan-owner   the owners of slots
 --   owner-ordered             the optionals of an owner differ in row and tag
 --   optional-fit, slots-fit   the slots of an owner
@@ -50,7 +50,7 @@ any-among {P} r (more {a} {l} p L) h = go (eqb a r) refl h (λ h. any-among r L 
     go true e h ih = subst P (eqb-true a r e) p
     go false e h ih = ih h
 
--- ---- where members stand
+-- ---- the owners of members
 
 abbrev RowsRise : Member → Member → Type 0
 RowsRise a b = a .row < b .row

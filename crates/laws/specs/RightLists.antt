@@ -1,13 +1,13 @@
--- Where 20 and 21 stand: the rows that pass leave the slots to come, and a right list is one that chooses from these.
+-- Where 20 and 21 come: the rows that pass leave the slots to come, and a right list is one that chooses from these.
 --
 --   Rightly ss rs            rows choose from slots and lie in the buffer
---   Passes ss qs ss′         rows that pass one after another, and the slots to come behind them
---   passes-right, -rest      a list is right behind them exactly if it is right with them
+--   Passes ss qs ss′         rows that pass one after another, and the slots to come after them
+--   passes-right, -rest      a list is right after them exactly if they and the list together are right
 --   Stops                    what stops at once, with 20 or 21
---   stopped, stops-at        judging stops exactly where rows that pass end at such
---   judging-twenty           20 stands at the first row with which no right list begins
---   judging-twentyOne        21 stands at the first row whose bytes aren't exactly its type's
---   judging-number           no other refusal comes of the rows
+--   stopped, stops-at        judging stops exactly where rows that pass are followed by one that stops
+--   judging-twenty           20 is at the first row with which no right list begins
+--   judging-twentyOne        21 is at the first row whose bytes aren't exactly its type's
+--   judging-number           the rows give no other refusal
 --   judging-right            a right list whose rows have their types' bytes is judged right, and no other
 use mathlib.Core.Path.{_≡_, refl, sym, ap, _∙_, subst, subst₂}
 use mathlib.Core.Bool.{Bool, true, false, true≢false}

@@ -18,7 +18,7 @@ earlier n m [] h A = tt
 earlier n m (r ∷ rs) h (l, A) = (omega arith, A)
 
 module _ (T : List ℕ) (t : ℕ) where
-  -- rows of pieces from a place on, and then rows behind them
+  -- rows of pieces from a place on, and then rows after them
   pieces-apart : (at : ℕ) (ps : List Piece) (rs : List Row) → Apart (at + length (concat pieceBytes ps)) rs → Apart at (pieceRows T t at ps ++ rs)
   unfolding pieceRows concat listRow pieceBytes
   pieces-apart at [] rs A = earlier at (at + 0) rs (omega arith) A

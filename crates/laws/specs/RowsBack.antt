@@ -1,8 +1,8 @@
--- Rows are read back from the 12 bytes in which each stands in a list.
+-- Rows are read back from the 12 bytes of each in a list.
 -- A number of a row fits 32 bits: a row lies in the message, and its member is one of the table's, since no bytes are a value of a member that is not.
 --
 --   SmallRow              the numbers of a row
---   rows-back             rows that stand at the front of a list are read back from it
+--   rows-back             rows at the start of a list are read back from it
 --   accepted-rows-small   of every message that the rules accept
 use mathlib.Core.Path.{_≡_, refl, ap, ap₂, _∙_, subst}
 use mathlib.Core.Bool.{Bool, true, false}

@@ -1,7 +1,7 @@
 -- Each listed row lies in the message, and its bytes are exactly one value of its member's type.
 -- Rows are read off the pieces, and the message is the encoding of the pieces: so a row's place is where the encoding puts the piece's content.
 --
---   Stands m at b      the bytes b stand in m from the place `at` on
+--   Stands m at b      the bytes b are in m from the place `at` on
 --   rows-exact         of pieces that conform
 --   exact-rows-from    of every message that the rules accept, where `Exact` holds
 use mathlib.Core.Path.{_≡_, refl, sym, ap, _∙_, subst}
@@ -28,7 +28,7 @@ use Rattle.encoding.specs.Message.{Pieces, list, exception, class, encode, enca
 use Rattle.encoding.specs.Conform.{Level, Owned, Follow, Slices, Conform}
 use Rattle.laws.specs.Demands.{All, end, more, RowExact, Exact, ExactRows}
 
--- ---- bytes that stand somewhere
+-- ---- bytes at a place of a message
 
 pub record Stands (m : List ℕ) (at : ℕ) (b : List ℕ) : Type 0 where
   pub before : List ℕ
@@ -160,7 +160,7 @@ required-found T t = all-map (λ x F. F .1) (required-from T (trees T) 0 (ownRow
 -- ---- the rows of one owner
 
 module _ (T m : List ℕ) where
-  -- the row of a piece's content, of a member whose value it is, and rows behind it
+  -- the row of a piece's content, of a member whose value it is, and rows after it
   listed-exact : {o : Option Member} {x : Member} (at : ℕ) (b : List ℕ) {rs : List Row} → o ≡ some x → x .ty ≡ memberTy T (trees T) (x .row)
       → IsValue (x .ty) b → Stands m at b → All (RowExact T m) rs → All (RowExact T m) (listRow o at b rs)
   unfolding listRow

@@ -1,4 +1,4 @@
--- Each row is of its piece: the message is the encoding of the pieces, so the content of a piece stands where its row says.
+-- Each row is of its piece: the message is the encoding of the pieces, so the content of a piece is where its row says.
 --
 --   level-listed, slices-listed   of the pieces of an owner; of slices
 --   listed-rows                   of a message

@@ -49,7 +49,7 @@ above-less least k h (m ∷ ms) = go (leb k (m .key)) refl (above-less least k h
     go true e ih = rw (le-leb least (m .key) (omega (arith, leb-true k (m .key) e))) (omega arith)
     go false e ih = omega arith
 
--- a member that is found is one less behind its tag
+-- a member that is found is not counted above its own tag
 above-found : (least k : ℕ) → least ≤ k → (ms : List Member) {x : Member} → lookup k ms ≡ some x → suc (above (suc k) ms) ≤ above least ms
 unfolding above lookup
 above-found least k h [] e = absurd (some≢none e refl)

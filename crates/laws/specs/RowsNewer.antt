@@ -1,6 +1,6 @@
 -- The rows of a newer message under an old table: those of the members that it knows, at the same places.
 --
---   Owners old new top top′ t u                        owners that match, the old one alone for the new one
+--   Owners old new top top′ t u                        t is the one owner of the old table that matches owner u of the new one
 --   owner-there, match-own, counterpart-owner          the new owner of matching members takes the new member's row, and is the only one
 --   pieces-kept                                        the rows of one owner
 --   slices-kept                                        the rows of a chain
@@ -241,7 +241,7 @@ module _ (old new : List ℕ) (X : Extends old new) (top top′ : ℕ) (top-ther
       (front-same g s (known o ps) ss now lose)
       (kept-append (pieces-lost u l r (ap (named old) (sym i) ∙ e) (at + f) ps) (rest (at + f + length d))))
 
-  -- behind a slice that both know
+  -- after a slice that both know
   follow-kept : (ss : List Slice) (g : Format) (s : Stand) {b c : ℕ} → Bases old new b c → Follow new (upward (chain new) c) ss → Lists g s (upward (chain new) c) (upward (chain old) b) ss
   unfolding upward sliceRows
   follow-kept [] g s B F = λ at. ended

@@ -1,6 +1,6 @@
 -- Slices of a record, read and encoded: what is read is what the encoder makes, and what it makes is read back.
 --
---   Agrees s g                     format g may stand where a slice stands
+--   Agrees s g                     format g agrees with the slice before, if there is one
 --   flags-written, -canonical      the flags byte
 --   head-written, -canonical       flags and type ID
 --   data-written, -canonical       size and members of a known slice
@@ -36,7 +36,7 @@ use Rattle.laws.specs.OptionalExact.{fields-written, fields-canonical}
 
 -- ---- flags
 
--- a slice behind another has its format
+-- a slice after another has its format
 abbrev pub Agrees : Stand → Format → Type 0
 Agrees first g = Unit {0}
 Agrees (later h) g = h ≡ g
@@ -118,7 +118,7 @@ flags-canonical s f h =
 
 -- ---- flags and type ID
 
--- what stands before a slice's size and data
+-- what comes before a slice's size and data
 abbrev front : Format → Stand → Bool → Bool → List ℕ → List ℕ
 front g s opt last nm = flagBits g (due s g) opt last ∷ pick (due s g) (stringBytes nm) []
 
@@ -135,7 +135,7 @@ Given true form nm = InString nm × (form nm ≡ 0)
 Given false form nm = Unit {0}
 
 module _ (s : Stand) (form : Format → List ℕ → ℕ) where
-  -- behind the flags
+  -- after the flags
   abbrev idP : Format → Bool → Bool → Parser Head
   idP g opt last = mapc (λ nm _. headOf g opt last nm) (pick (due s g) (must (form g) string) (pure []))
 
@@ -188,7 +188,7 @@ module _ (s : Stand) (form : Format → List ℕ → ℕ) where
 
 -- ---- size and data
 
--- data behind its size, where the format has one
+-- data after its size, where the format has one
 abbrev sized : Format → List ℕ → List ℕ
 sized g d = pick (isSliced g) (leBytes 4 (4 + length d)) [] ++ d
 
@@ -253,7 +253,7 @@ Taken T top z (follow g zero) sl next = ⊥
 Taken T top z (follow g (suc t)) (known o ps) next = Knows T t g (later g) o ps z next
 Taken T top z (follow g (suc t)) (passed b nm d) next = ⊥
 
--- where a walk comes: behind a skipped slice the format is sliced
+-- the stages that a walk reaches: after a skipped slice the format is sliced
 abbrev pub Ready : Stage → Type 0
 Ready (seek first) = Unit {0}
 Ready (seek (later compact)) = ⊥
@@ -313,7 +313,7 @@ module _ (T : List ℕ) (top : ℕ) (xs : List ℕ) (y : Bytes xs) (sh : Short (
         },
       )
 
-  -- an unknown type ID stands in sliced format
+  -- an unknown type ID is in sliced format
   passed-format : (s : Stand) (g : Format) (nm : List ℕ) → Ready (seek s) → Agrees s g → Given (due s g) (idForm T (seek s) g) nm → named T nm ≡ none → g ≡ sliced
   unfolding idForm isNone
   passed-format s g nm R a G e = go s R a (subst (λ (q : Bool). Given q (idForm T (seek s) g) nm) (ready-due s g R a) G .1)
@@ -450,7 +450,7 @@ module _ (T : List ℕ) (top : ℕ) where
   same-last true = refl
   same-last false = refl
 
-  -- what the head of a first known slice means, of a skipped one, and of one behind a known one
+  -- what the head of a first known slice means, of a skipped one, and of one after a known one
   finds-meaning : (s : Stand) (g : Format) (t : ℕ) (o : List ℕ) (opt : Bool) → due s g ≡ true → named T o ≡ some t → any (λ r. eqb r top) (chain T t) ≡ true
       → meaning T top (seek s) (headOf g opt (eqb (base T t) 0) (pick (due s g) o [])) ≡ row t
   unfolding meaning seekMeaning knownMeaning wrongLast
@@ -546,7 +546,7 @@ module _ (T : List ℕ) (top : ℕ) where
       ap₂ _++_ (K .spelt ∙ ap₂ (λ (f : Format) (l : Bool). sliceFront f s l (known o ps) ++ dataBytes (known o ps)) e (sym (follow-last (base T t) ss L)))
       (b ∙ ap (λ (st : Stage). slicesBytes g (standOf st) ss) (K .behind) ∙ ap (λ (f : Format). slicesBytes g (later f) ss) e)
 
-  -- a slice in front of those that come behind it
+  -- a slice before those that come after it
   fits-ahead : (st : Stage) (sl : Slice) (next : Stage) (g : Format) (ss : List Slice) (z w : List ℕ) → Taken T top z st sl next → Fits T top next g ss → w ≡ slicesBytes g (standOf next) ss
       → Fits T top st g (sl ∷ ss) × (z ++ w ≡ slicesBytes g (standOf st) (sl ∷ ss))
   unfolding slicesBytes standOf upward
@@ -607,7 +607,7 @@ module _ (T : List ℕ) (top : ℕ) where
   fits-end (follow h zero) g F = ap some (F .0)
   fits-end (follow h (suc t)) g F = absurd (subst (λ (l : List ℕ). Follow T l []) (chain-node T t) (F .1))
 
-  -- the next slice, and those behind it
+  -- the next slice, and those after it
   record Next (st : Stage) (g : Format) (sl : Slice) (ss : List Slice) : Type 0 where
     next : Stage
     turn : finished st ≡ none

@@ -1,7 +1,7 @@
 -- A table breaks no rule exactly if it is valid (`ExactTable`): each test of the passes is one property of `Valid`, and the look-ups
--- of the passes give what the properties speak of.
+-- of the passes give what the properties are about.
 --
---   record-, owner-, uses-, part-, base-, taken-   -ok what a test or a look-up tells; -step the test or the look-up from what holds
+--   record-, owner-, uses-, part-, base-, taken-   -ok what follows from a test or a look-up; -step the test or the look-up from what holds
 --   header-, type-, member-                        the same of the header, of a type row, of a member row
 --   Tells                                          a test, of all rules of one class, is true exactly where a property fails
 --   type-broken, broken-type                       the class that the rules give a row, from what is wrong with it, and back; of a member row member-broken, broken-member
@@ -226,7 +226,7 @@ val-one : val (1 ∷ 0 ∷ []) ≡ 1
 unfolding val
 val-one = refl
 
--- two bytes that stand for 1
+-- two bytes of the number 1
 one-bytes : (l : List ℕ) → length l ≡ 2 → val l ≡ 1 → l ≡ 1 ∷ 0 ∷ []
 unfolding val
 one-bytes [] n h = absurd (omega arith)

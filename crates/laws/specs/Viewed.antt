@@ -3,7 +3,7 @@
 --
 --   rowOf-listed, rowOf-part, rowOf-absent, rowOf-fallback   the row found is the row listed
 --   chain-true, chain-says                                   the test for a member of the chain
---   viewed                                                   what is shown, case by case, and the bytes handed back
+--   viewed                                                   what is shown, case by case, and the bytes returned
 use mathlib.Core.Path.{_≡_, refl, sym, ap, _∙_, subst}
 use mathlib.Core.Bool.{Bool, true, false, _||_, true≢false, false≢true}
 use mathlib.Core.List.{List, [], _∷_}

@@ -1,4 +1,4 @@
--- Demand 3 speaks of some message: the old table has a record B, the new one B and D, which descends from B.
+-- Demand 3 is about some message: the old table has a record B, the new one B and D, which descends from B.
 -- A message of D is read under both; the old table skips the slice of D and lists the byte of B. All of it is computed.
 use mathlib.Core.Path.{_≡_, refl, sym, _∙_}
 use mathlib.Core.Bool.{true, true≢false, false}

@@ -87,7 +87,7 @@ pieces-given t [] = refl
 pieces-given t (p ∷ ps) = ap (λ (l : List Piece). p ∷ l) (pieces-given t ps)
 
 module _ (T m : List ℕ) (t : ℕ) where
-  -- a row of content that stands in the message chooses its slot
+  -- a row of content that is in the message chooses its slot
   row-taken : (s : Slot) (g : Given) (at : ℕ) (b : List ℕ) {ss : List Slot} {rs : List Row} {gs : List Given} → givenOf s b ≡ g → IsValue (s .member .ty) b → Stands m at b
       → Judged m ss rs gs → Judged m (s ∷ ss) (record { member = s .member .row; place = at; len = length b } ∷ rs) (g ∷ gs)
   unfolding partOf

@@ -1,5 +1,5 @@
 -- The numbers of what the writer answers are small: each fits the 32 bits in which a call gives it.
--- Rows that are judged right are at most 1,024, each of at most 65,536 bytes behind at most 11, and a chain has at most 256 slices, each with at most 266 bytes of its own.
+-- Rows that are judged right are at most 1,024, each of at most 65,536 bytes after at most 11, and a chain has at most 256 slices, each with at most 266 bytes of its own.
 --
 --   Narrow            a message's length, or a refusal's number and place, is below 2 ^ 32
 --   writing-narrow    what is written, or the refusal

@@ -1,6 +1,6 @@
 -- The loop over an owner's rows that reads its required members and puts a row for each. Assumes nothing.
 --
---   Due            what holds at its head: the answer and the list at the end come of the rows that are left
+--   Due            what holds at its head: the answer and the list at the end follow from the rows that are left
 --   due-begin      at the start
 --   due-past       after an optional row
 --   due-next       after a required member that was read

@@ -1,8 +1,8 @@
 -- Laws of `Fill.fill`. Assumes nothing.
 --
 --   fill-length    the list keeps its length
---   fill-append    rows behind rows
---   fill-listed    where all rows fit: their bytes one behind another, and the rest as it was
+--   fill-append    rows after rows
+--   fill-listed    where all rows fit: their bytes one after another, and the rest as it was
 use mathlib.Core.Path.{_≡_, refl, sym, ap, _∙_}
 use mathlib.Core.List.{List, [], _∷_, _++_}
 use Prim.Native.Nat.{ℕ, suc, _+_, _*_, _≤_}

@@ -1,4 +1,4 @@
--- Where the rows stand, as three numbers.
+-- The state after some rows, as three numbers.
 --
 --   requiredIn       how many of some member rows are required
 --   dueIn            the required members of some member rows still due, where so many of them are passed

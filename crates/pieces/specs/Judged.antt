@@ -2,7 +2,7 @@
 --
 --   partForm       20 where a part lies outside the buffer, 21 where it isn't exactly a value of a type, else 0
 --   stateFrom      the state after a row that was checked
---   judgedRow      row i, judged where the rows stand
+--   judgedRow      row i, judged in a state
 --   verdictOf      whether every row is right
 --   verdictFrom    the verdict on row i and those after it, of `count` rows
 --   verdictAbove   the same where the rows go on with the owners above: from a base row + 1 on, or there is none

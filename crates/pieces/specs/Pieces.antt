@@ -4,7 +4,7 @@
 --   lengthField    the length field before so many bytes, by a form's number
 --   optionalField  an optional of a tag, a form's number and bytes
 --   Taken          the piece of a row, and the state after it
---   pieceAt        row i as a member of the owner where the rows stand, if it is one
+--   pieceAt        row i as a member of the state's owner, if it is one
 --   group          the pieces of that owner from row i on, at most k rows
 --   RowLaid        what is put of a row that is right, and what the code answers of it, its part being judged before or now
 --   RowPut         the same of every answer

@@ -1,4 +1,4 @@
-// Proxies (document 01, "Proxies"), read from the bytes in front. One endpoint is a function of its own.
+// Proxies (document 01, "Proxies"), read from the start of the bytes given. One endpoint is a function of its own.
 ghost use mathlib.Core.Path.{_≡_};
 ghost use Rattle.encoding.specs.Result.{times};
 ghost use Rattle.encoding.specs.Proxy.{facets, endpoint, endpoints, reference, proxy};

@@ -121,7 +121,7 @@ module _ (w : Walk) (l : ℕ) where
   unfolding endedWalk
   ended-stop c p q = rw q
 
--- contents, and nothing behind them
+-- contents, and nothing after them
 read-ended : (T : List ℕ) (top at : ℕ) (m : List ℕ) (r : Res Read) → at ≤ length m → ((x : Read) (n : ℕ) → r ≡ ok x n → at + n ≤ length m)
     → endedWalk (length m) (readWalk T top at r) ≡ bodyWalk T top (shift at (after r Message.ended (drop at m)))
 unfolding endedWalk readWalk readDone bodyWalk after shift Message.ended
@@ -218,7 +218,7 @@ module _ (T : List ℕ) (top : ℕ) (m : List ℕ) where
   sized-in : ℕ → Parser Read
   sized-in _ = must versionForm (number 2) >>= held-in
 
-  -- size and version take six bytes, and the contents stand behind them
+  -- size and version take six bytes, and the contents come after them
   body-inside : (v k : ℕ) → capsule m ≡ ok v k → (6 ≤ length m) × (body T top m ≡ shift 6 (after (contents T top (drop 6 m)) Message.ended (drop 6 m)))
   unfolding capsule body versioned held-in sized-in number _>>=_
   body-inside v k e = go (bind-ok (must (outerForm (length m)) (number 4)) versioned m e)
@@ -269,7 +269,7 @@ module _ (T : List ℕ) (top : ℕ) (m : List ℕ) where
       pub body-six : 6 ≤ length m
       body-six = inside .0
 
-      -- the walk over the contents, and nothing behind
+      -- the walk over the contents, and nothing after them
       by-contents : endedWalk (length m) (readWalk T top 6 (contents T top (drop 6 m))) ≡ bodyWalk T top (body T top m)
       by-contents =
           read-ended T top 6 m (contents T top (drop 6 m)) (inside .0) (λ x k e. omega (arith, held-took (contents T top) (held-contents T top) (drop 6 m) e, length-drop 6 m, inside .0))
@@ -298,7 +298,7 @@ module _ (T : List ℕ) (top : ℕ) (m : List ℕ) where
               let C = contents-ok r n e in
               filled T top asList (pieceRows T top 6) (list-rows T top) (parameters T top (drop 6 m)) r (C .0) (sym lists ∙ C .1) out l fills
 
-        -- slices, behind a class instance's marker
+        -- slices, after a class instance's marker
         module _ (u : k ≡ 15 → ⊥) (mark : Step) (em : mark ≡ stepOf (markerOf k (take (length m - 6) (drop 6 m)))) where
           marks : mark ≡ stepOf (markerOf (kind T top) (drop 6 m))
           marks = em ∙ ap₂ (λ (i : ℕ) (l : List ℕ). stepOf (markerOf i l)) ek (rest-is m 6)

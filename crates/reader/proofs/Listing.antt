@@ -1,7 +1,7 @@
 -- The walk over a parameter list: what holds at the head of its loop, and what each step makes of it. Assumes nothing.
 --
 --   list-asks, list-at, list-place    places that fit
---   told-both                  what is told of one answer is the same
+--   told-both                  two results of one answer are the same
 --   Listing, list-begin        what holds at the loop's head, and that it does at first
 --   listing-..                 what each step makes of it
 --   done-.., stopped-.., refused-..   the answer and the lent list are those of the walk: at the end, where an optional is refused, where a required member is
@@ -125,7 +125,7 @@ module _ (T : List ℕ) (top : ℕ) (m : List ℕ) (start : ℕ) (h : start ≤ 
             ∙ ap₂ (λ (i : ℕ) (l : List ℕ). finish T top (listClose top) refused false (start + n) i 0 l (optionalsFrom atEnd (Table.optionalMembers T top) 0 (drop n (drop start m)))) (sym (R .2)) (sym (fills (R .0) n e))
             ∙ ap (λ (l : List ℕ). finish T top (listClose top) refused false (start + n) j 0 out′ (optionalsFrom atEnd (Table.optionalMembers T top) 0 l)) (drop-drop n start m)
 
--- what is told of one answer
+-- two results of one answer are the same
 pub told-both : (ms x y : Members) → ms ≡ x → ms ≡ y → x ≡ y
 told-both ms x y e h = sym e ∙ h
 
@@ -270,7 +270,7 @@ listing-answer T top m at least k o out out′ = go (optionalsFrom atEnd (Table.
 
 module _ (T : List ℕ) (top : ℕ) (m : List ℕ) (start n j i : ℕ) (mid : List ℕ) (stop at least row k o : ℕ) (out : List ℕ) (inv : Listing T top m (listing T top m (start + n) 0 j 0 mid) stop at least row k o out)
     (h : start ≤ length m) (ms : Members) (em : ms ≡ membersOf 0 (optionalStart T top) (requireds (Table.requiredMembers T top) (take (length m - start) (drop start m)))) (w : ms ≡ Read n j i) where
-  -- the optionals decide
+  -- the optionals decide the answer
   same-answer : answerOf (listing T top m (start + n) 0 j 0 mid) ≡ listWalk T top start (parameters T top (drop start m))
   same-answer = go (members-read (Table.requiredMembers T top) 0 (optionalStart T top) (drop start m) ms (reads T top m start h ms em) n j i w)
     where

@@ -4,8 +4,8 @@
 --   overlay-start    nothing is laid over it
 --   overlay-next     row i stored over a list with i rows laid over it: i + 1 rows laid over it
 --   count-rows       as many rows as the bytes have, and as there is room for
---   told-accepted, told-refused   the rows that an answer tells of, case by case
---   all-rows         a list of 1,024 rows has as many as an answer tells of
+--   told-accepted, told-refused   the row count of an answer, case by case
+--   all-rows         a list of 1,024 rows has as many as an answer counts
 --   filled           rows past the list's end are lost, so as many as there is room for are enough
 use mathlib.Core.Path.{_≡_, refl, sym, _∙_, ap}
 use mathlib.Core.Bool.{Bool, true, false}

@@ -1,4 +1,4 @@
--- What the tests of the check tell, rule by rule, and its loops. Assumes nothing.
+-- What follows from the tests of the check, rule by rule, and its loops. Assumes nothing.
 --
 --   whole-..                   a row read whole is the table's
 --   at-below                   a number of k bytes is below 256 ^ k
@@ -346,7 +346,7 @@ module _ (from t : ℕ) (b : Bool) where
   unfolding past
   past-before h = rw (ne-eqb from t h)
 
--- no row before `from` is a record, and `from` is not behind row t
+-- no row before `from` is a record, and `from` is not after row t
 pub record Plain (T : List ℕ) (t from : ℕ) : Type 0 where
   pub within : from ≤ t
   pub plain : (r : ℕ) → r < from → isRecord (kind T r) ≡ false
@@ -555,7 +555,7 @@ module _ (T : List ℕ) (t a e : ℕ) (ea : a ≡ rowAt T t) (ee : e ≡ rowAt T
   unfolding isBasic
   basic-rest h v ev = rw (← first-is, lt-ltb n 8 h) (ap (λ (z : ℕ). eqb z 0) (ev ∙ row-shows T t a e ea ee .same 8 4 (omega arith)))
 
--- a number that is 0 begins with a short that is 0, and so does what is behind it
+-- a number that is 0 begins with a short that is 0, and so does what comes after it
 zero-parts : (T : List ℕ) (k p : ℕ) → at T (2 + k) p ≡ 0 → (at T 2 p ≡ 0) × (at T k (p + 2) ≡ 0)
 zero-parts T k p h = (omega (arith, at-split T 2 k p), omega (arith, at-split T 2 k p))
 

@@ -332,7 +332,7 @@ fn is_basic(table: &[u8], t: usize) -> bool
     false
 }
 
-// Advances `from`, the first row that may be a record, past row t if it is t and t is plain, that is, no record.
+// Advances `from`, the first row that may be a record, past row t if t is not one (`plain`).
 fn past(from: usize, t: usize, plain: bool) -> usize
     requires { ⌜ t < 65536 ⌝ }
     ensures { λ r. ⌜ r ≡ past from t plain ⌝ }
@@ -495,7 +495,7 @@ fn raised(above: usize, tag: usize) -> usize
     if above <= tag { tag + 1 } else { above }
 }
 
-// A member row, given as one number, is usual: required with tag 0, or optional, in no struct, with a tag not below `above`. Of such a row only the type is left to judge.
+// A member row, given as one number, is usual: required with tag 0, or optional, in no struct, with a tag not below `above`. Only its type is left to judge.
 fn is_usual(x: usize, optional: bool, above: usize) -> bool
     ensures { λ r. ⌜ r ≡ isUsual x optional above ⌝ }
 {

@@ -1,8 +1,8 @@
 -- Shapes of rows, each from the shapes of the rows below. Assumes nothing.
 --
---   code-..                                    the form that a shape stands for
+--   code-..                                    the form that a shape says
 --   plain-at, plain-none                       the shape of a row without parts
---   width-none, width-number, width-struct     the width that a shape stands for
+--   width-none, width-number, width-struct     the width that a shape says
 --   shape-here, shape-past                     the shape of a row, in the array and past its end
 --   fixed-..                                   what the test of one row finds, by its shape and kind
 --   Members, members-..                        the loop over a struct's members: each is fixed-size
@@ -91,7 +91,7 @@ module _ (shapes : List ℕ) (t : ℕ) where
 
 -- ---- one row
 
--- fixed-size rows have the shape 0 or one above 10, and structs of only such without a width 9
+-- fixed-size rows have the shape 0 or one above 10, and structs of only these without a width 9
 abbrev fixedBy : ℕ → ℕ → Bool
 fixedBy x k = ltb 10 x || (eqb x 0 || (eqb x 9 && eqb k 9))
 
@@ -164,7 +164,7 @@ module _ (T shapes : List ℕ) (t i : ℕ) (l : t ≤ typeRows T) (below : Shape
 
 -- ---- a struct's members
 
--- what is left to look at decides
+-- what is left to look at decides the answer
 abbrev pub Members : List ℕ → ℕ → ℕ → ℕ → Type 0
 Members T t m left = (m + left < 131072)
     × (fixeds (memberTys T (tys T t) (ownRows T t)) ≡ fixeds (memberTys T (tys T t) (range m left)))
@@ -207,7 +207,7 @@ width-part T shapes t i r l below e = e ∙ go (leb t i) refl
         let h = leb-false _ _ q in
         rw (below-ty T t i l h) (ap widthCode (sym (shape-here shapes i _ (omega (arith, rows-below T)) (sym (below .below i h)))) ∙ shape-width (tyOf T i))
 
--- the sum so far and what is left to look at decide
+-- the sum so far and what is left to look at decide the answer
 abbrev pub Widths : List ℕ → ℕ → ℕ → ℕ → ℕ → Type 0
 Widths T t m left sum = (m + left < 131072)
     × ((sum + 256 * left < 16777216) × (widthsFrom 0 (memberTys T (tys T t) (ownRows T t)) ≡ widthsFrom sum (memberTys T (tys T t) (range m left))))
@@ -316,7 +316,7 @@ module _ (T : List ℕ) (t : ℕ) (h : t < typeRows T) (k : ℕ) (ek : k ≡ kin
 
 -- ---- the array
 
--- the shapes of the rows below t are there, and behind them stands 10, which a row without a tree has
+-- the shapes of the rows below t are there, and after them comes 10, the shape of a row without a tree
 pub record Filling (T shapes : List ℕ) (t : ℕ) : Type 0 where
   pub few : t ≤ typeRows T
   pub size : length shapes ≡ 256

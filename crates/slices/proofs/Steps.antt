@@ -1,7 +1,7 @@
--- The small steps of the walk, case by case as the code tells them apart. Assumes nothing.
+-- The small steps of the walk, one case for each way out of the code. Assumes nothing.
 --
 --   opening-..     a slice up to its data
---   next-..        what stands next among a slice's optionals
+--   next-..        what comes next among a slice's optionals
 --   recall-.., over-.., first-..    a refusal's place, bytes left over, the first known type
 use mathlib.Core.Path.{_≡_, refl, sym, ap, _∙_}
 use mathlib.Core.Bool.{Bool, true, false, _&&_, not}
@@ -45,7 +45,7 @@ use Rattle.slices.specs.Left.{answerOf, recallTo, recalling}
 
 -- ---- a slice up to its data
 
--- the declared length behind n bytes
+-- the declared length after n bytes
 module _ (s : List ℕ) (n : ℕ) (l : n ≤ length s) (step : Step) (f : step ≡ stepOf (declared 4 4 (take (length s - n) (drop n s)))) where
   declares : step ≡ stepOf (declared 4 4 (drop n s))
   declares = f ∙ ap (λ (z : List ℕ). stepOf (declared 4 4 z)) (rest-is s n)

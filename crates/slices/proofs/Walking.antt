@@ -77,7 +77,7 @@ credit (Following z b) = b
 
 -- ---- the loop over slices
 
--- the outcome comes of the slices ahead
+-- the outcome follows from the slices ahead
 pub record Outer (T : List ℕ) (top : ℕ) (m : List ℕ) (whole : WalkEnd) (stage : Stage) (pos k o s fst : ℕ) (out : List ℕ) : Type 0 where
   pub small : Small T
   pub room : length m < 2 ^ 63
@@ -88,7 +88,7 @@ pub record Outer (T : List ℕ) (top : ℕ) (m : List ℕ) (whole : WalkEnd) (st
   pub on : finished (stageOf stage) ≡ none
   pub rest : whole ≡ left T (stageOf stage) pos k o s fst out (onward T top (stageOf stage) (drop pos m))
 
--- the outcome comes of the optionals ahead, where there may be more, or of what is behind the slice's members
+-- the outcome follows from the optionals ahead, where there may be more, or from what comes after the slice's members
 pub record Inner (T : List ℕ) (top : ℕ) (m : List ℕ) (whole : WalkEnd) (stage : Stage) (pos t : ℕ) (z : Bool) (from end s fst stop : ℕ) (at least row k o : ℕ) (more : Bool) (out : List ℕ) : Type 0 where
   pub small : Small T
   pub room : length m < 2 ^ 63
@@ -231,7 +231,7 @@ module _ {T : List ℕ} {top : ℕ} {m : List ℕ} {whole : WalkEnd} {stage : St
         at-fits = omega (arith, inv .room, at-within, known-within)
 
         module _ {out′ : List ℕ} (fills : (ps : List Piece) (n : ℕ) → requireds (Table.requiredMembers T t) part ≡ ok ps n → out′ ≡ fill k (pieceRows T t (pos + a) ps) out) where
-          -- the members behind the required ones decide
+          -- the members after the required ones decide the answer
           pub outer-same : whole ≡ amid T top m (stageOf stage) pos t z (pos + a) (pos + b) s fst (pos + a + n) 0 j o opt out′
           unfolding amid
           outer-same = go (members-read (Table.requiredMembers T t) k (optionalStart T t) part ms em n j i w)
@@ -424,7 +424,7 @@ module _ {T : List ℕ} {top : ℕ} {m : List ℕ} {whole : WalkEnd} {stage : St
           go (inr W) =
               ends-refused whole c (recallTo c pos (at + p)) v out (ahead ∙ finish-wrong T t close-in (recalling pos) atMark (eqb least 0) least part-in at k o out (W .0) c p (W .1)) h
 
-  -- behind the members
+  -- after the members
   module _ (enough : more ≡ false) {b : Bool} (eb : b ≡ z && not (eqb at end)) where
     behind : whole ≡ closing T top m z (base T t) s (firstOr (stageOf stage) fst t) from end at k o out
     unfolding amid
@@ -465,7 +465,7 @@ module _ {T : List ℕ} {top : ℕ} {m : List ℕ} {whole : WalkEnd} {stage : St
           go zero n = absurd (n refl)
           go (suc i) n = refl
 
--- the length of a slice with bytes left over stands before its data
+-- the length of a slice with bytes left over is before its data
 pub size-place : (z : Bool) (from at end : ℕ) → (z ≡ true → 4 ≤ from) → (b : Bool) → b ≡ z && not (eqb at end) → b ≡ true → 4 ≤ from
 size-place z from at end f b eb over = f (both-true z (not (eqb at end)) (sym eb ∙ over) .0)
 
@@ -505,7 +505,7 @@ module _ (T : List ℕ) (top : ℕ) (m : List ℕ) (start : ℕ) (out₀ : List 
       pub refused-gives : (out′ : List ℕ) (c : Chain) (n : ℕ) → slices T top (drop start m) ≡ ok c n → out′ ≡ fill 0 (chainRows T start c) out₀
       refused-gives out′ = ends-gives T start out₀ (slices T top (drop start m)) v out′ (known-refused inv e q em w h out′)
 
-    -- the members behind the required ones decide
+    -- the members after the required ones decide the answer
     pub outer-answer : (n j i : ℕ) → ms ≡ Read n j i → (out′ : List ℕ)
         → ((ps : List Piece) (n : ℕ) → requireds (Table.requiredMembers T t) (take (pos + b - (pos + a)) (drop (pos + a) m)) ≡ ok ps n → out′ ≡ fill k (pieceRows T t (pos + a) ps) out)
         → sliceWalk T start (slices T top (drop start m)) ≡ answerOf (amid T top m (stageOf stage) pos t z (pos + a) (pos + b) s fst (pos + a + n) 0 j o opt out′)

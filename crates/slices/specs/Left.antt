@@ -1,14 +1,14 @@
--- What is left of a walk, from where it stands: its answer and the lent list come of what was counted so far and of the bytes ahead.
+-- What is left of a walk: its answer and the lent list follow from what was counted so far and from the bytes ahead.
 --
 --   WalkEnd              how a walk ends: its answer with the lent list, or a refusal; answerOf the answer
---   recallTo             14 stands at the flags
+--   recallTo             14 is at the flags
 --   owners, firstFrom    the rows whose slices are to come, and the first known type, from a stage on
 --   onward               the walk over the slices ahead
 --   left                 the outcome, by the slices ahead
 --   optionalsFrom        the optionals ahead, their tags at least `least`
 --   finish               the outcome, by the optionals ahead: `go` the way on, `refuse` a refusal, `due` whether one has to be there
 --   recalling            a refusal inside a slice
---   closing              the outcome behind a known slice's members: 11 for bytes left over, else by the slices ahead
+--   closing              the outcome after a known slice's members: 11 for bytes left over, else by the slices ahead
 --   amid                 the outcome inside a known slice
 --   listClose, listing   the outcome at the end of a parameter list, and at its optionals
 use mathlib.Core.Bool.{Bool, true, false, _&&_, not}
@@ -63,7 +63,7 @@ left T st at k o s first out (ok c n) =
     (fill k (rowsFrom T st at c) out)
 left T st at k o s first out (bad c p) = refused c (at + p)
 
--- behind the members of a slice, sliced or not, whose data lie between two places and whose base row + 1 is b
+-- after the members of a slice, sliced or not, whose data lie between two places and whose base row + 1 is b
 unfoldable pub closing : List ℕ → ℕ → List ℕ → Bool → (b s first from end : ℕ) → (at k o : ℕ) → List ℕ → WalkEnd
 closing T top m z b s first from end at k o out =
     pick (z && not (eqb at end)) (refused 11 (from - 4))
@@ -88,7 +88,7 @@ finish T t go refuse due at k o out (ok ps n) =
     (go (at + n) (k + length (pieceRows T t at ps)) (o + skippedPieces ps) (fill k (pieceRows T t at ps) out))
 finish T t go refuse due at k o out (bad c p) = refuse c (at + p)
 
--- in a known slice of row t, at its optionals, where there may be more, or behind its members
+-- in a known slice of row t, at its optionals, where there may be more, or after its members
 unfoldable pub amid : List ℕ → ℕ → List ℕ → Stage → (pos t : ℕ) → Bool → (from end s first : ℕ) → (at least k o : ℕ) → Bool → List ℕ → WalkEnd
 amid T top m st pos t z from end s first at least k o more out =
     pick more

@@ -3,7 +3,7 @@
 --   onward-..                  the walk over the slices ahead: ended, refused, one slice further
 --   optionals-..               the optionals ahead: ended, refused, one further
 --   left-whole, left-listed    the whole walk, from its start: its answer and its rows
---   left-refused, -skipped, -known       what the slice in front makes of the outcome
+--   left-refused, -skipped, -known       what the next slice makes of the outcome
 --   fields-.., parameters-..   what the required members of a slice or a list make of it
 --   finish-..                  what the next optional makes of it
 use mathlib.Core.Path.{_≡_, refl, sym, ap, ap₂, _∙_}
@@ -106,7 +106,7 @@ unfolding left chainRows rowsFrom owners standOf
 left-listed T at out c n w l h = cc
 
 module _ (T : List ℕ) (top : ℕ) (xs : List ℕ) (at k o s fst : ℕ) (out : List ℕ) where
-  -- a refusal of the slice in front, recalled or not
+  -- a refusal of the next slice, recalled or not
   pub left-refused : (st : Stage) → finished st ≡ none → (c p : ℕ) → slice T top st xs ≡ bad c (recallTo c 0 p) → left T st at k o s fst out (onward T top st xs) ≡ refused c (recallTo c at (at + p))
   unfolding left recallTo
   left-refused st f c p e = ap (left T st at k o s fst out) (onward-bad T top st xs f c (recallTo c 0 p) e) ∙ go (eqb c 14)
@@ -193,7 +193,7 @@ module _ (T : List ℕ) (st : Stage) (g : Format) (t b : ℕ) (nm : List ℕ) (p
       (ap (λ (rs : List Row). fill k rs out) R ∙ fill-append ps′ (rowsFrom T (follow g b) (at + a + n) c) k out)
   known-step k o s fst fst′ out e (bad c p) f = ap (refused c) (omega arith)
 
--- the outcome, by the members of the slice in front
+-- the outcome, by the members of the next slice
 module _ (T : List ℕ) (top : ℕ) (st : Stage) (m : List ℕ) (pos t : ℕ) (opt z : Bool) (a e : ℕ) (O : Opened T top st (drop pos m) t opt z a e) (on : finished st ≡ none)
     (k o s fst : ℕ) (out : List ℕ) where
   format-is : O .h .format ≡ pick z sliced compact
@@ -273,7 +273,7 @@ module _ (T : List ℕ) (top : ℕ) (st : Stage) (m : List ℕ) (pos t : ℕ) (o
       go (ok ps n) f = tested ps n f (z && not (eqb (pos + a + n) (pos + e))) (ap (λ (b : Bool). z && not b) (sym (same-end n)))
       go (bad c p) f = known-bad c p f
 
--- ---- members, one behind another
+-- ---- members, one after another
 
 -- where there is a piece, none is missing
 never : (b : Bool) (x y : WalkEnd) → pick (b && false) x y ≡ y
@@ -281,7 +281,7 @@ never true x y = refl
 never false x y = refl
 
 module _ (T : List ℕ) (t : ℕ) (go : (at k o : ℕ) → List ℕ → WalkEnd) (refuse : ℕ → ℕ → WalkEnd) where
-  -- required members, then what was read behind them
+  -- required members, then what was read after them
   module _ (xs : List ℕ) (ps : List Piece) (n : ℕ) (e : requireds (Table.requiredMembers T t) xs ≡ ok ps n) (at k o : ℕ) (out : List ℕ) where
     finish-append : (r : Res (List Piece))
         → finish T t go refuse false at k o out (shift n (made (λ qs _. ps ++ qs) r)) ≡ finish T t go refuse false (at + n) (k + length ps) o (fill k (pieceRows T t at ps) out) r
@@ -342,7 +342,7 @@ module _ (T : List ℕ) (t : ℕ) (go : (at k o : ℕ) → List ℕ → WalkEnd)
     unfolding parameters finish
     parameters-refused = ap (finish T t go refuse false at k o out) (bind-bad (requireds (Table.requiredMembers T t)) _ xs e)
 
-  -- ---- optionals, one behind another
+  -- ---- optionals, one after another
 
   module _ (stop : List ℕ → Option ℕ) (due : Bool) (least : ℕ) (xs : List ℕ) (at k o : ℕ) (out : List ℕ) where
     abbrev pub ahead-of : WalkEnd

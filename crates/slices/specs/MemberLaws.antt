@@ -1,4 +1,4 @@
--- The members of a slice as pieces: which are optional, what they weigh, and their rows, one list behind another.
+-- The members of a slice as pieces: which are optional, how many bytes they take, and their rows, one list after another.
 --
 --   required-plain          required members are none of them optional, nor skipped
 --   required-few            they are at most as many as the owner names
@@ -6,7 +6,7 @@
 --   optional-two            it takes at least two bytes
 --   mark-byte               an end marker takes one byte
 --   fields-weight           the members of a slice take as many bytes as their encoding has
---   length-pieces, rows-append, skipped-append   of pieces behind pieces
+--   length-pieces, rows-append, skipped-append   of pieces after pieces
 use mathlib.Core.Path.{_≡_, refl, sym, ap, _∙_}
 use mathlib.Core.Bool.{Bool, true, false, _||_}
 use mathlib.Core.Option.{Option, none, some}
@@ -30,7 +30,7 @@ use Rattle.encoding.specs.WeightLaws.{requireds-weight, run-weight}
 use Rattle.encoding.specs.Slice.{known, someForm, fields, anyOptional, dataBytes}
 use Rattle.encoding.specs.Message.{Row, listRow, pieceMember, pieceRows, skippedPieces}
 
--- ---- pieces behind pieces
+-- ---- pieces after pieces
 
 pub length-pieces : (a b : List Piece) → length (concat pieceBytes (a ++ b)) ≡ length (concat pieceBytes a) + length (concat pieceBytes b)
 unfolding concat

@@ -1,14 +1,14 @@
--- One slice, by its opening: what its reading gives, and what it weighs.
+-- One slice, by its opening: what its reading gives, and how many bytes it takes.
 --
 --   skip-head-within, known-head-within   flags and ID lie within the bytes at hand
 --   opening-wrong, opening-place          a refusal before the data, and its place
 --   Skipped, opening-skip                 a skipped slice
 --   Opened, opening-known                 a slice of a known row, and the part that its data lie in
 --   Marks, format-kept                    the format that a stage fixes is that of the chain
---   owners-known, first-known             whose rows a known slice has, and the first known type behind it
+--   owners-known, first-known             whose rows a known slice has, and the first known type after it
 --   row-below, row-base                   its row is one of the table, or the base that was due
 --   known-place, opened-eats, -sized      where its data begin
---   passed-end, passed-never              where a skipped slice ends; none is behind a known one
+--   passed-end, passed-never              where a skipped slice ends; none comes after a known one
 use mathlib.Core.Path.{_≡_, refl, sym, ap, _∙_, subst}
 use mathlib.Core.Bool.{Bool, true, false, _&&_, _||_, not, true≢false}
 use mathlib.Core.Option.{Option, none, some}
@@ -46,7 +46,7 @@ use Rattle.slices.specs.Left.{recallTo, owners, firstFrom}
 -- ---- flags and ID
 
 module _ (T : List ℕ) (top : ℕ) (st : Slice.Stage) (xs : List ℕ) where
-  -- what the code's answer of a head tells
+  -- what the code's answer of a head says
   data Headed : Heading → Type 0 where
     skips : (h : Head) (n : ℕ) → head (standOf st) (idForm T st) xs ≡ ok h n → meaning T top st h ≡ skip → headed T top st xs ≡ ok h n → Headed (SkipHeading n)
     knows : (h : Head) (n t : ℕ) → head (standOf st) (idForm T st) xs ≡ ok h n → meaning T top st h ≡ row t → headed T top st xs ≡ ok h n
@@ -163,7 +163,7 @@ ended-sliced n k l (ok ps m) h = go (eqb m l) refl
 ended-sliced n k l (bad c p) h = ap (bad c) (omega arith)
 
 module _ (T : List ℕ) (top : ℕ) (st : Slice.Stage) (xs : List ℕ) where
-  -- members behind flags and ID
+  -- members after flags and ID
   slice-known : (h : Head) (n t : ℕ) → headed T top st xs ≡ ok h n → meaning T top st h ≡ row t
       → slice T top st xs ≡ recalled 14 (made (λ ps _. (known (nameOf T t) ps, follow (h .format) (base T t)))
       (shift n (pick (isSliced (h .format)) (inside (declared 4 4) (fields T t (h .optionals))) (fields T t (h .optionals)) (drop n xs))))
@@ -348,7 +348,7 @@ marks-stand (seek first) g m = absurd m
 marks-stand (seek (later f)) g m = ap later (m .0 ∙ sym (m .1))
 marks-stand (follow f b) g m = ap later m
 
--- behind a known slice none is skipped
+-- after a known slice none is skipped
 follow-skips : (T : List ℕ) (top : ℕ) (g : Format) (b : ℕ) (h : Head) → meaning T top (follow g b) h ≡ skip → ⊥
 unfolding meaning
 follow-skips T top g zero h e = let z : _≡_ {A = ℕ} 0 1 = cc in omega arith
@@ -552,6 +552,6 @@ module _ (T : List ℕ) (top : ℕ) (stage : Stage) (xs : List ℕ) (n : ℕ) (K
       ∙ ap (λ (q : Bool). 1 + length (pick q (stringBytes (K .h .id)) []) + 4) skipped-due in
       omega (arith, K .sum)
 
--- none is skipped behind a known one
+-- none is skipped after a known one
 pub passed-never : (T : List ℕ) (top : ℕ) (g : Format) (b : ℕ) (xs : List ℕ) (n : ℕ) → Skipped T top (follow g b) xs n → ⊥
 passed-never T top g b xs n K = follow-skips T top g b (K .h) (K .means)

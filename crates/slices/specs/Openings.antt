@@ -1,9 +1,9 @@
--- What the code answers of the slice in front, and of what stands next among its optionals.
+-- What the code answers of the next slice, and of what comes next among its optionals.
 --
 --   opening        a slice up to its data: skipped whole, of a known row with the part that its data lie in, or a refusal
 --   ended          the members of a known slice, read in the part from a to e
 --   turnOf         the end marker, the next optional, or a refusal: 14 for a marker before any optional
---   firstOr        the first known type behind a slice of row t
+--   firstOr        the first known type after a slice of row t
 use mathlib.Core.Bool.{Bool, true, false, _&&_, not}
 use mathlib.Core.Option.{Option, none, some}
 use mathlib.Core.List.{List}
@@ -26,7 +26,7 @@ use Rattle.slices.specs.declared.Turn.{Turn}
 use Rattle.slices.specs.declared.Turn.the-variants.{End, Known as KnownTurn, Skipped as SkippedTurn, Wrong as WrongTurn}
 use Rattle.heads.specs.Stages.{headAnswer}
 
--- behind n bytes of flags and ID, a skipped slice's declared data
+-- after n bytes of flags and ID, a skipped slice's declared data
 unfoldable pub skipOpening : ℕ → Res (List ℕ) → Opening
 skipOpening n (ok d k) = Skip (n + k)
 skipOpening n (bad c p) = Wrong c (n + p)

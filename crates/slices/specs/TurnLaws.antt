@@ -1,10 +1,10 @@
--- What stands next among a slice's optionals, as the code's answer tells it.
+-- What comes next among a slice's optionals, as the code answers it.
 --
---   turn-end         the end marker, behind an optional
+--   turn-end         the end marker, after an optional
 --   turn-known, turn-skipped   the next optional
 --   turn-wrong       a refusal: of the next optional, or 14 for a marker before any
 --   turn-place       its place is there
---   passed-turn      what stands next, where its tag is looked up behind the members that were passed
+--   passed-turn      what comes next, where its tag is looked up after the members that were passed
 use mathlib.Core.Path.{_≡_, refl, sym, ap, _∙_}
 use mathlib.Core.Bool.{Bool, true, false}
 use mathlib.Core.Option.{Option, none, some}
@@ -124,7 +124,7 @@ module _ (ms : List Member) (least : ℕ) (xs : List ℕ) (r : Turn) (e : r ≡ 
       go (inl E) = omega (arith, E .place)
       go (inr W) = held-refused (nextOptional ms least) (held-optional ms least) xs (W .1)
 
--- what stands next, where its tag is looked up behind the members that were passed
+-- what comes next, where its tag is looked up after the members that were passed
 pub passed-turn : (T : List ℕ) (t end from least : ℕ) → Passed T t end from least → (xs : List ℕ) → turnOf (optionalFrom T end from) least xs ≡ turnOf (Table.optionalMembers T t) least xs
 unfolding turnOf
 passed-turn T t end from least P xs = ap (λ (r : Optional). turnBy (atMark xs) least (turnAnswer r)) (passed-answer T t end from least P xs)

@@ -4,7 +4,7 @@
 --   listWalk       of a parameter list
 --   capsule        an encapsulation's size and version
 --   markerOf       a class instance's marker byte; no byte before the slices of another kind
---   endedWalk      the same where a message ends at a place: 18 for bytes behind
+--   endedWalk      the same where a message ends at a place: 18 for bytes after it
 --   readWalk       of what an encapsulation holds
 --   bodyWalk       of a whole message: its first known type, format, rows, optionals and slices skipped, and its end; or a refusal
 use Prim.Native.Nat.{ℕ, _+_}

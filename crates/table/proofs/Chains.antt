@@ -101,7 +101,7 @@ end-is T t a b ea eb = ap₂ _+_ ea eb
 
 -- ---- members from a row on
 
--- the rows left to look at decide
+-- the rows left to look at decide the answer
 abbrev pub Optionals : List ℕ → ℕ → ℕ → ℕ → ℕ → Type 0
 Optionals T end from key m = memberFound T (lookup key (optionalFrom T end from)) ≡ memberFound T (lookup key (optionalsIn T (trees T) (range m (end - m))))
 
@@ -143,9 +143,9 @@ module _ (T : List ℕ) (end from key m : ℕ) (inv : Optionals T end from key m
       unfolding rest
       optionals-other e = optionals-more ∙ rw (ne-eqb (r .mark) 0 o, ne-eqb key (r .tag) e)
 
--- ---- behind a member
+-- ---- after a member
 
--- the rows left to look at decide
+-- the rows left to look at decide the answer
 abbrev pub Passing : List ℕ → ℕ → ℕ → ℕ → ℕ → Type 0
 Passing T from m key i = behind T from m key ≡ firstAbove T key (m + 1) i (m - i)
 

@@ -45,7 +45,7 @@ module _ (a b : List ℕ) where
   pub long-stop : (i x y : ℕ) → x ≡ at a 8 i → y ≡ at b 8 i → (x ≡ y → ⊥) → false ≡ sameBytes a b
   long-stop i x y ex ey h = differ a b (λ e. h (ex ∙ ap (λ (l : List ℕ). at l 8 i) e ∙ sym ey))
 
--- what is left to compare decides
+-- what is left to compare decides the answer
 abbrev pub Same : List ℕ → List ℕ → ℕ → Type 0
 Same a b i = (i ≤ length a) × (length a ≡ length b) × (sameBytes a b ≡ sameBytes (drop i a) (drop i b))
 
@@ -131,7 +131,7 @@ module _ (T nm : List ℕ) (t : ℕ) (k : ℕ) (ek : k ≡ kind T t) (b : Bool) 
   pub record-none : b ≡ false → false ≡ isNamed T nm t
   record-none q = sym (ap (λ (z : Bool). z && sameBytes nm (nameOf T t)) (ap isRecord (sym ek) ∙ sym eb ∙ q))
 
--- what is left to look at decides
+-- what is left to look at decides the answer
 abbrev pub Naming : List ℕ → List ℕ → ℕ → ℕ → Type 0
 Naming T nm n t = (t ≤ n) × (foundOf (named T nm) ≡ foundOf (find (isNamed T nm) (range t (n - t))))
 

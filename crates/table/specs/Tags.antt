@@ -4,7 +4,7 @@
 --   firstOptional end m n    the first optional row of n from row m on, or `end`
 --   optionalStart t          row t's first optional member row, or the row after its member rows
 --   isAbove k m              member row m is optional and its tag is above k
---   firstAbove k end m n     the first such row of n from row m on, or `end`
+--   firstAbove k end m n     the first of these rows among n from row m on, or `end`
 --   behind from m k          where the look-up of a tag above k begins, once k was found at member row m by a look-up from row `from`
 --   Passed t end from least  row t's member rows end before `end`, and each optional one before row `from`, which is none before its first, has a tag below `least`
 use mathlib.Core.Path.{_≡_}

@@ -1,12 +1,12 @@
--- A tag that is not below the least is found behind the members that were passed. Assumes nothing.
+-- A tag that is not below the least is found after the members that were passed. Assumes nothing.
 --
---   first-begun, first-most   the first optional row is none before the first row, nor behind the end
+--   first-begun, first-most   the first optional row is none before the first row, nor after the end
 --   passed-none       before the first tag
---   passed-still      behind a tag, the look-up from where it was
---   passed-behind     behind a tag, the look-up behind its member
---   Own, found-own    what the look-up of a tag among the optional members of rows tells of the member found
+--   passed-still      after a tag, the look-up from where it was
+--   passed-behind     after a tag, the look-up after its member
+--   Own, found-own    what the look-up of a tag among the optional members of rows says of the member found
 --   optional-own      the same among those of a row
---   passed-lookup     the member of a tag, looked up behind the passed
+--   passed-lookup     the member of a tag, looked up after the members passed
 use mathlib.Core.Path.{_≡_, refl, sym, ap, ap₂, _∙_, subst}
 use mathlib.Core.Bool.{Bool, true, false}
 use mathlib.Core.Option.{some}

@@ -17,7 +17,7 @@ pub enum Found {
     Nothing,
 }
 
-// A member row and the row number of its type, if there is such a member.
+// A member row and the row number of its type, if there is one.
 pub enum FoundMember {
     At(usize, usize),
     Nothing,
@@ -390,7 +390,7 @@ pub fn owns(k: usize) -> bool
     k == 15
 }
 
-// The row of a member's type; if there is no such member, 256, a row without a type tree.
+// The row of a member's type; 256, a row without a type tree, if there is no such member.
 pub fn type_of_member(table: &[u8], m: usize) -> usize
     ensures { λ r. ⌜ (tyOf (now (table .entry)) r ≡ memberTy (now (table .entry)) (trees (now (table .entry))) m) × (r < 65536) ⌝ }
 {

@@ -2,9 +2,9 @@
 --
 --   row-not, as-bool .. as-other                             a value by its row's kind
 --   row-wide, exact-wide, part-wide                          a value by its row's width
---   text-there, -not                                         what the shapes tell of a part, by whether it lies below
+--   text-there, -not                                         what the shapes say of a part, by whether it lies below
 --   row-text, text-value, text-values                        a string, by its row's shape; row-bool, row-enum a bool, an enum
---   again-took, again-bad                                    an answer that is taken apart and put together again
+--   again-took, again-bad                                    an answer that is rebuilt
 --   struct-begin, member-gone, -read, -next, -fault, -done   the loop over members
 --   seq-none, -wide, -took, -bad                             a sequence: its size, then its elements
 --   dict-none, -took, -bad                                   a dictionary: its size, then its entries
@@ -122,7 +122,7 @@ module _ (T : List ℕ) (t e : ℕ) (s : List ℕ) where
 
 -- ---- a value by its row's shape
 
--- what the shapes tell of a part, by whether it lies below
+-- what the shapes say of a part, by whether it lies below
 module _ (shapes : List ℕ) (t e : ℕ) where
   pub text-there : e < t → (r : Bool) → r ≡ isTextIn shapes e → r ≡ isTextBelow shapes t e
   unfolding isTextBelow
@@ -190,7 +190,7 @@ module _ (T shapes : List ℕ) (f : shapes ≡ shapesOf T) where
     unfolding value
     text-values b g h s r n q = rw (part-text (sym g ∙ h)) q
 
-  -- by what the shapes tell of a part
+  -- by what the shapes say of a part
   module _ (t e : ℕ) where
     below-takes : (w : ℕ) → w ≡ widthBelow shapes t e → 0 < w → (s : List ℕ) → w ≤ length s → value (partTy T t e) s ≡ ok tt w
     below-takes w g h s k = go (leb t e) refl g
@@ -207,7 +207,7 @@ module _ (T shapes : List ℕ) (f : shapes ≡ shapesOf T) where
         go true q z = absurd (false≢true z)
         go false q z = rw (part-text t e (leb-false _ _ q) z) d
 
--- an answer that is taken apart and put together again
+-- an answer that is rebuilt
 module _ (X : Ty) (s : List ℕ) (r : Step) (e : r ≡ stepOf (value X s)) where
   pub again-took : (n : ℕ) → r ≡ Took n → Took n ≡ stepOf (value X s)
   again-took n q = sym q ∙ e

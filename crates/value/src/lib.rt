@@ -43,7 +43,7 @@ fn value(table: &[u8], shapes: &[u8; 256], t: usize, e: usize, s: &[u8]) -> Step
     }
 }
 
-// The same; a value that may be any bytes is taken at once. (An answer that is taken apart and put together again stays in registers.)
+// The same; a value that may be any bytes is taken at once. The answer is rebuilt, so that it stays in registers.
 fn part(table: &[u8], shapes: &[u8; 256], t: usize, e: usize, s: &[u8]) -> Step
     requires { ⌜ now shapes ≡ shapesOf (now table) ⌝ }
     ensures { λ r. ⌜ r ≡ stepOf (value (partTy (now (table .entry)) t e) (now (s .entry))) ⌝ }

@@ -36,7 +36,7 @@ use Rattle.view.specs.declared.View.the-variants.{Part, Fallback, Nothin
 
 -- ---- the loop over rows
 
--- the rows from i on decide
+-- the rows from i on decide the answer
 pub record Seeks (list : List ℕ) (member n i : ℕ) : Type 0 where
   pub inside : i ≤ n
   pub few : n ≤ 1024
@@ -179,7 +179,7 @@ nothing-inside l = record { inside = λ p n q. let z : _≡_ {A = ℕ} 0 1 = cc 
 -- ---- the bytes returned
 
 module _ (T : List ℕ) (top : ℕ) (m other : List ℕ) (member : ℕ) (v : View) (ev : v ≡ viewAnswer T top m member) where
-  -- what the view hands back where it refuses nothing
+  -- what the view returns where it refuses nothing
   returned : (u : View) → v ≡ u → ((c p : ℕ) → u ≡ Refused c p → ⊥) → u ≡ viewOf (viewing T top m member)
   unfolding viewAnswer viewAnswerOf viewing
   returned u q none = go (rules T top m) (sym q ∙ ev)

@@ -1,4 +1,4 @@
--- Bits of headers and flags, from masks and shifts to the numbers that the definitions speak of. Assumes nothing.
+-- Bits of headers and flags, from masks and shifts to the numbers of the definitions. Assumes nothing.
 --
 --   bit-set          a masked bit is there where its digit is 1
 --   over-none        bits from the k-th on

@@ -1,7 +1,7 @@
 -- Whether bytes fit at a place. Assumes nothing.
 --
 --   fits-low, fits-else    the test in two steps, without a sum
---   fits-yes, fits-no      what the test tells
+--   fits-yes, fits-no      what follows from the test
 use mathlib.Core.Path.{_≡_, refl, sym, _∙_}
 use mathlib.Core.Bool.{Bool, true, false}
 use Prim.Native.Nat.{ℕ, _+_, _-_, _≤_, _<_}

@@ -1,4 +1,4 @@
--- Sums of places do not wrap: what a reader takes, and where it refuses, lies within what is left of the bytes in front. Assumes nothing.
+-- Sums of places do not wrap: what a reader takes, and where it refuses, lies within what is left of the bytes given. Assumes nothing.
 --
 --   TookFits p, took-fits         what p takes, added to the n bytes before it
 --   BadFits p, bad-fits           where p refuses, added to them

@@ -3,7 +3,7 @@
 --
 --   rest-is                        that part is what is left
 --   step-took, -fault              what an answer says of the result; sized-is, -isnt of a number; bytes-is, -isnt of bytes
---   took-held, bad-held            bytes taken and places lie within the bytes in front; took-within, bad-within within what is left
+--   took-held, bad-held            bytes taken and places lie within the bytes given; took-within, bad-within within what is left
 --   sized-held                     the same of a number
 --   rest-took, -bad                an answer about the rest, moved past the bytes before it
 --   then-none, -took, -bad         one reader, then another
@@ -60,7 +60,7 @@ unfolding bytesOf
 bytes-isnt (ok d m) f p h = let z : _≡_ {A = ℕ} 0 1 = cc in absurd (omega arith)
 bytes-isnt (bad c q) f p h = cc
 
--- ---- within the bytes in front, and within what is left of them
+-- ---- within the bytes given, and within what is left of them
 
 module _ {A : Type 0} (p : Parser A) (P : Held p) (s : List ℕ) (r : Step) where
   pub took-held : r ≡ stepOf (p s) → (m : ℕ) → r ≡ Took m → m ≤ length s

@@ -1,4 +1,4 @@
-// Numbers, sizes, strings, declared lengths and bits, read from the bytes in front and put at a place. Each function equals a definition, on any bytes.
+// Numbers, sizes, strings, declared lengths and bits, read from the start of the bytes given and put at a place. Each function equals a definition, on any bytes.
 // rows.rt has the layout of a row of a list.
 pub mod rows;
 
@@ -16,7 +16,7 @@ ghost use Rattle.encoding.specs.Slice.{sliced, compact, bit, worth, flagBits};
 ghost use Rattle.wire.specs.Steps.{stepOf, sizedOf, bytesOf};
 ghost use Rattle.wire.specs.Put.{put, headerBits, formBits};
 
-// What a reader took: so many bytes; or a refusal's number and its place, counted from the bytes in front.
+// What a reader took: so many bytes; or a refusal's number and its place, counted from the first byte given.
 pub enum Step {
     Took(usize),
     Fault(usize, usize),

@@ -1,4 +1,4 @@
-// The one layout of a row: 12 bytes, its member row, a place and a length, four bytes each. The reader lists such rows, the view looks one up, the writer is given them.
+// The one layout of a row: 12 bytes, its member row, a place and a length, four bytes each. The reader lists rows of this form, the view looks one up, the writer is given them.
 ghost use mathlib.Core.Path.{_≡_};
 ghost use Prim.Native.Nat.{_*_, _<_};
 ghost use lib.ListN.{length};

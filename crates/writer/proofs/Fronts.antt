@@ -3,7 +3,7 @@
 --   still-wrong                  rows that are refused stay refused
 --   data-marked, data-plain      the rows of an owner, with and without byte 255 after them
 --   front-sized, front-plain     flags, type ID and, in sliced format, a size
---   front-long, front-short      how many bytes stand before the data
+--   front-long, front-short      how many bytes come before the data
 --   slice-laid                   the front put before the data
 use mathlib.Core.Path.{_≡_, refl, sym, ap, _∙_}
 use mathlib.Core.Bool.{Bool, true, false}

@@ -1,9 +1,9 @@
 -- The writer's outcome, and the answer made of it. Assumes nothing.
 --
---   anew-outcome, anew-output                         the outcome and the output of slices taken anew
+--   anew-outcome, anew-output                         the outcome and the output of slices passed as new parts
 --   refused-outcome, -fits, -output                   if a check before the rows refuses: the outcome, its numbers fit 32 bits, the output
 --   rows-outcome, -fits, -output                      the same if none refuses
---   made-fits, number-fits, place-fits                each number of an outcome fits; fits-made, fits-stopped, fits-needed: outcomes of such numbers
+--   made-fits, number-fits, place-fits                each number of an outcome fits; fits-made, fits-stopped, fits-needed: outcomes of these numbers
 --   told-made, told-stopped                           the answer of an outcome
 --   fit-made, fit-other, fit-over, fit-room, fit-fits the outcome for a room
 --   answer-told, answer-fitted                        the answer is document 01's
@@ -35,7 +35,7 @@ use Rattle.laws.specs.MessageWritten.{message-ok, too-long}
 use Rattle.laws.specs.WriteSmall.{Narrow, writing-narrow}
 use Rattle.writing.specs.Tell.{Fits, tells, fitted}
 
--- ---- parts taken anew
+-- ---- slices passed as new parts
 
 -- a slice from 0 on, as the check names it
 abbrev anew : List ℕ → List ℕ

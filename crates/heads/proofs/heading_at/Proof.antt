@@ -1,4 +1,4 @@
--- By where the walk stands. Assumes nothing.
+-- By the stage of the walk. Assumes nothing.
 use Rattle.heads.proofs.Headings.{heading-seeking, heading-following}
 use borrow.Author.Needs.{needs}
 use Rattle.heads.proofs.heading_at.Statement.{statement}

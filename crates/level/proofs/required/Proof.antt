@@ -1,4 +1,4 @@
--- The loop's invariant: the answer and the list come of the rows that are left. The measure is their number. Assumes nothing.
+-- The loop's invariant: the answer and the list follow from the rows that are left. The measure is their number. Assumes nothing.
 use borrow.Author.Needs.{needs}
 use mathlib.Core.Logic.{⊎-elim}
 use native.Mathlib.Omega.{arith}

@@ -1,4 +1,4 @@
--- By the byte in front. Assumes nothing.
+-- By the first byte. Assumes nothing.
 use Rattle.reader.proofs.Bodies.{marker-none, marker-other, marker-right}
 use borrow.Author.Needs.{needs}
 use Rattle.reader.proofs.marker.Statement.{statement}

@@ -1,4 +1,4 @@
--- By the first four bytes of the row, then by the eight behind them. Assumes nothing.
+-- By the first four bytes of the row, then by the eight after them. Assumes nothing.
 use borrow.Author.Needs.{needs}
 use Rattle.rules.proofs.Judging.{basic-rest, basic-other}
 use Rattle.rules.proofs.is_basic.Statement.{statement}

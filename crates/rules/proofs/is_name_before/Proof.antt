@@ -1,4 +1,4 @@
--- The loop's invariant: the rows left to look at decide. The measure is their number. Assumes nothing.
+-- The loop's invariant: the rows left to look at decide the answer. The measure is their number. Assumes nothing.
 use Prim.Native.Nat.{_-_}
 use mathlib.Core.Logic.{⊎-elim}
 use borrow.Author.Needs.{needs}

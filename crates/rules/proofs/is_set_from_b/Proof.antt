@@ -1,4 +1,4 @@
--- The one field, then the fields behind it. Assumes nothing.
+-- The one field, then the fields after it. Assumes nothing.
 use borrow.Author.Needs.{needs}
 use Rattle.rules.proofs.Judging.{set-b, clear-b}
 use Rattle.rules.proofs.is_set_from_b.Statement.{statement}

@@ -1,4 +1,4 @@
--- The invariant of both loops: the members left are there and decide, and the tags before are below `above`. The measure is the number of members left. Assumes nothing.
+-- The invariant of both loops: the members left are there and decide the answer, and the tags before are below `above`. The measure is the number of members left. Assumes nothing.
 use Prim.Native.Nat.{_+_, _≤_}
 use borrow.Author.Needs.{needs}
 use native.Mathlib.Omega.{arith}

@@ -1,4 +1,4 @@
--- By where it stands, then by the row. Assumes nothing.
+-- By whether `from` is t, then by whether t is plain. Assumes nothing.
 use borrow.Author.Needs.{needs}
 use Rattle.rules.proofs.Judging.{past-plain, past-record, past-before}
 use Rattle.rules.proofs.past.Statement.{statement}

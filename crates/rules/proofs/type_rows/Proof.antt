@@ -1,4 +1,4 @@
--- The loop's invariant: the rows left decide, `prior` is what the rows before t take, and no row before `from` is a record. The measure is the number of rows left. Assumes nothing.
+-- The loop's invariant: the rows left decide the answer, `prior` is what the rows before t take, and no row before `from` is a record. The measure is the number of rows left. Assumes nothing.
 use Prim.Native.Nat.{_-_}
 use borrow.Author.Needs.{needs}
 use native.Mathlib.Omega.{arith}

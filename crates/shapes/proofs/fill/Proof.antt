@@ -1,4 +1,4 @@
--- The loop's invariant: the rows below t have their shapes, and behind them stands 10. The measure is the number of rows left. Assumes nothing.
+-- The loop's invariant: the rows below t have their shapes, and after them comes 10. The measure is the number of rows left. Assumes nothing.
 use Prim.Native.Nat.{_-_, _≤_}
 use borrow.Author.Needs.{needs}
 use mathlib.Core.Path.{_≡_}

@@ -1,4 +1,4 @@
--- The form that the row's shape stands for. Assumes nothing.
+-- The form that the row's shape says. Assumes nothing.
 use borrow.Author.Needs.{needs}
 use mathlib.Core.Path.{ap, _∙_}
 use Rattle.shapes.specs.Shapes.{formCode}

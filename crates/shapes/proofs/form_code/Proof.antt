@@ -1,4 +1,4 @@
--- By where the shape stands. Assumes nothing.
+-- By the range of the shape. Assumes nothing.
 use native.Mathlib.Omega.{arith}
 use Rattle.shapes.proofs.Filling.{code-own, code-same, code-number, code-eight, code-struct}
 use Rattle.shapes.proofs.form_code.Statement.{statement}

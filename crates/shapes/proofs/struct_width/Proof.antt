@@ -1,4 +1,4 @@
--- The loop's invariant: the sum so far and the members left to look at decide. The measure is their number. Assumes nothing.
+-- The loop's invariant: the sum so far and the members left to look at decide the answer. The measure is their number. Assumes nothing.
 use borrow.Author.Needs.{needs}
 use native.Mathlib.Omega.{arith}
 use Rattle.shapes.proofs.Filling.{Widths, widths-begin, widths-past, widths-not, widths-next, widths-wide, widths-end}

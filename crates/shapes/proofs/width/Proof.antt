@@ -1,4 +1,4 @@
--- The width that the row's shape stands for. Assumes nothing.
+-- The width that the row's shape says. Assumes nothing.
 use borrow.Author.Needs.{needs}
 use native.Mathlib.Omega.{arith}
 use mathlib.Core.Path.{ap, _∙_}

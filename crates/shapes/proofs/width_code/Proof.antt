@@ -1,4 +1,4 @@
--- By where the shape stands: without a width, a number's, a struct's. Assumes nothing.
+-- By the range of the shape: without a width, a number's, a struct's. Assumes nothing.
 use borrow.Author.Needs.{needs}
 use native.Mathlib.Omega.{arith}
 use Rattle.shapes.proofs.Filling.{width-none, width-number, width-struct}

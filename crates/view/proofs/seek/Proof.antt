@@ -1,4 +1,4 @@
--- The loop's invariant: the rows from i on decide. The measure is their number. Assumes nothing.
+-- The loop's invariant: the rows from i on decide the answer. The measure is their number. Assumes nothing.
 use Prim.Native.Nat.{_-_}
 use borrow.Author.Needs.{needs}
 use native.Mathlib.Omega.{arith}

@@ -1,4 +1,4 @@
--- Header, length field and content, one behind another. Assumes nothing.
+-- Header, length field and content, one after another. Assumes nothing.
 use borrow.Author.Needs.{needs}
 use native.Mathlib.Omega.{arith}
 use Rattle.pieces.proofs.Fields.{optional-put}

@@ -1,4 +1,4 @@
--- The next required member stands before the last member row. Assumes nothing.
+-- The next required member comes before the last member row. Assumes nothing.
 use borrow.Author.Needs.{needs}
 use Rattle.pieces.proofs.Reaches.{due-is}
 use Rattle.pieces.proofs.state.is_due.Statement.{statement}

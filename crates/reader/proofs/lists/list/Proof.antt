@@ -1,4 +1,4 @@
--- The loop's invariant: the outcome comes of the optionals ahead. The measure is the bytes left. Assumes nothing.
+-- The loop's invariant: the outcome follows from the optionals ahead. The measure is the bytes left. Assumes nothing.
 use mathlib.Core.Path.{_≡_, refl}
 use lib.ListN.{length}
 use Prim.Native.Nat.{_-_}

@@ -1,4 +1,4 @@
--- By where the walk stands. Assumes nothing.
+-- By the stage of the walk. Assumes nothing.
 use Rattle.slices.proofs.Steps.{first-here, first-found, first-kept}
 use borrow.Author.Needs.{needs}
 use Rattle.slices.proofs.walks.first_of.Statement.{statement}

@@ -1,4 +1,4 @@
--- By the byte in front, then by the optional. Assumes nothing.
+-- By the next byte, then by the optional. Assumes nothing.
 use Rattle.slices.proofs.Steps.{next-early, next-end, next-known, next-skipped, next-wrong}
 use borrow.Author.Needs.{needs}
 use Rattle.slices.proofs.walks.next.Statement.{statement}

@@ -1,4 +1,4 @@
--- The loops' invariants: the outcome comes of the slices ahead, and inside a slice, with the answer, of the optionals ahead. Each measure is the bytes left. Assumes nothing.
+-- The loops' invariants: the outcome follows from the slices ahead and, inside a slice, together with the answer from the optionals ahead. Each measure is the bytes left. Assumes nothing.
 use mathlib.Core.Path.{_≡_, refl, _∙_}
 use lib.ListN.{length, drop}
 use Prim.Native.Nat.{_-_}
@@ -30,7 +30,7 @@ Inv-slices table shapes top m start out₀ stage₀ pos₀ count₀ optionals₀
 abbrev μ-slices : tie.MeasureT-slices
 μ-slices table shapes top m start out₀ stage₀ pos₀ count₀ optionals₀ skipped₀ fst₀ out stage pos count optionals skipped fst = length m - pos
 
--- the answers that take facts from in front of the slice
+-- the answers that take facts from before the slice
 loop-holds : tie.Need-loop-holds Inv-loop μ-loop Inv-slices μ-slices
 loop-holds c =
     let read = c .before .before in

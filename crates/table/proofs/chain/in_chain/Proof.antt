@@ -1,4 +1,4 @@
--- The loop's invariant: the chain from the row at hand decides. The measure is the row number, since a base is smaller. Assumes nothing.
+-- The loop's invariant: the chain from the row at hand decides the answer. The measure is the row number, since a base is smaller. Assumes nothing.
 use borrow.Author.Needs.{needs}
 use lib.Dec.{eqb}
 use mathlib.Core.Path.{_≡_, refl}

@@ -1,4 +1,4 @@
--- The loops' invariant: what is left to compare decides. Each measure is what is left of the first. Assumes nothing.
+-- The loops' invariant: what is left to compare decides the answer. Each measure is what is left of the first. Assumes nothing.
 use Prim.Native.Nat.{_-_}
 use mathlib.Core.Path.{refl}
 use borrow.Author.Needs.{needs}

@@ -1,4 +1,4 @@
--- A bool: one case of `bool` for each way out, told by the first byte.
+-- A bool: one case of `bool` for each way out, by the first byte.
 use borrow.Author.Needs.{needs}
 use Rattle.value.proofs.PlainLaws.{bool-none, bool-high, bool-whole}
 use Rattle.value.proofs.plain.bool.Statement.{statement}

@@ -1,4 +1,4 @@
--- The loop's invariant: the slices from the owner at hand on are still to be put, and the rows left decide. The measure is the owner, since a base is smaller. Assumes nothing.
+-- The loop's invariant: the slices from the owner at hand on are still to be put, and the rows left decide the answer. The measure is the owner, since a base is smaller. Assumes nothing.
 use borrow.Author.Needs.{needs}
 use mathlib.Core.Path.{_≡_, refl}
 use native.Mathlib.Omega.{arith}

@@ -1,4 +1,4 @@
--- The rows and, behind optionals, the end marker; or the refusal of the rows. Assumes nothing.
+-- The rows and, after optionals, the end marker; or the refusal of the rows. Assumes nothing.
 use borrow.Author.Needs.{needs}
 use native.Mathlib.Omega.{arith}
 use Rattle.writer.proofs.Fronts.{still-wrong, data-marked, data-plain}

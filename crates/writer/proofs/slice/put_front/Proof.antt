@@ -1,4 +1,4 @@
--- Flags, type ID and size, one behind another. Assumes nothing.
+-- Flags, type ID and size, one after another. Assumes nothing.
 use borrow.Author.Needs.{needs}
 use Rattle.writer.proofs.Fronts.{front-sized, front-plain}
 use Rattle.writer.proofs.slice.put_front.Statement.{statement}

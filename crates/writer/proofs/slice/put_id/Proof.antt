@@ -1,4 +1,4 @@
--- The size, and the name behind it. Assumes nothing.
+-- The size, and the name after it. Assumes nothing.
 use borrow.Author.Needs.{needs}
 use native.Mathlib.Omega.{arith}
 use Rattle.writer.proofs.Names.{id-put, id-put-none}
