@@ -47,6 +47,8 @@ run: $(TOOL)
 	@$(TOOL) show samples/fault-newer.table ::Guard::Fault samples/fault.message
 	@echo && echo '--- the same fault, damaged'
 	@$(TOOL) show samples/fault.table ::Guard::Fault samples/fault-damaged.message || [ $$? -eq 1 ]
+	@echo && echo '--- a valve state that is not on its list'
+	@$(TOOL) show samples/valve.table 3 samples/valve-between.message || [ $$? -eq 1 ]
 
 ## test: the gate: prove every crate from nothing, try the wrong edits, run the programs, then `make callers`
 test:
@@ -54,7 +56,7 @@ test:
 
 ## callers: test the library from C and from Rust: example, bindings, the independent implementation and 100,000 compared calls
 callers: example bindings
-	$(CARGO) test --offline --release --manifest-path tests/independent/Cargo.toml
+	$(CARGO) test $(INDEPENDENT)
 	$(CARGO) run $(INDEPENDENT) --bin fuzz -- 100000 20261116
 
 ## library: prove and build the static library, target/staticlib/libicehub.a; with TARGET target/TARGET/libicehub.a

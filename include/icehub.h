@@ -58,7 +58,7 @@ enum icehub_format {
 };
 
 /* What a call may be refused for, and what its place is then (icehub_read_place, icehub_write_place,
- * icehub_table_place). A place counts bytes from the start of the message; of the table for 31 to 38; or it is the
+ * icehub_table_place). A place counts bytes from the start of the message; of the table for 31 to 39; or it is the
  * number named. */
 enum icehub_refusal {
     /* Not refused. */
@@ -77,7 +77,7 @@ enum icehub_refusal {
     ICEHUB_BAD_SIZE = 7,
     /* a bool is neither 0 nor 1. Place: its byte. */
     ICEHUB_BAD_BOOL = 8,
-    /* an enumerator is too great. Place: its size. */
+    /* an enumerator is not one that its enum allows. Place: its size. */
     ICEHUB_BAD_ENUMERATOR = 9,
     /* a proxy's identity, facet count or mode is wrong. Place: the identity, the facet count or the mode byte. */
     ICEHUB_BAD_PROXY = 10,
@@ -111,7 +111,8 @@ enum icehub_refusal {
     ICEHUB_OUTPUT_TOO_LONG = 22,
     /* the format is not 0 or 1, or is 0 for a parameter list. Place: 0. */
     ICEHUB_BAD_FORMAT = 23,
-    /* 31 to 38: the table breaks a rule, the first of this order that its first broken row breaks. */
+    /* 31 to 39: the table breaks a rule, the first of this order that its first broken row breaks. Lists of enumerators
+     * (39) are judged after all type rows. */
     /* the table's header is wrong, or its length is not what the header says. Place: 0. */
     ICEHUB_BAD_TABLE_HEADER = 31,
     /* in a row of the table a zero byte or an unused field is not 0, or a required member has a tag. Place: the
@@ -132,14 +133,36 @@ enum icehub_refusal {
     ICEHUB_BAD_TABLE_NAME = 37,
     /* a tag or an enum's greatest enumerator is over 2,147,483,647, or an owner has a tag twice. Place: the row's
      * first byte, in the table. */
-    ICEHUB_BAD_TABLE_TAG = 38
+    ICEHUB_BAD_TABLE_TAG = 38,
+    /* an enum's list of enumerators is not taken in turn, is empty, reaches beyond the entries, does not rise or does
+     * not end with the greatest, or entries are left over. Place: the row's first byte, in the table; 0 for entries
+     * left over. */
+    ICEHUB_BAD_TABLE_ENUMERATORS = 39
 };
 
 /* ---- The table by itself ----
  *
+ * A table is of version 1 or 2; every call takes both. All its numbers are little-endian.
+ *
+ *   bytes    what
+ *   3        the mark FGT
+ *   2        the version, 1 or 2
+ *   2, 2, 2  T, M, N: how many type rows (1 to 256), member rows (0 to 1,024) and name bytes (0 to 8,192)
+ *   1        zero
+ *   2        in version 2 only: E, how many entries the lists of enumerators have (0 to 1,024)
+ *   12 * T   type rows: kind, zero, then a, b, c, d, e of two bytes each
+ *   8 * M    member rows: type (2 bytes), mark, zero, tag (4 bytes)
+ *   N        name bytes
+ *   4 * E    in version 2 only: the lists of enumerators, four bytes an entry
+ *
+ * In version 1 an enum allows all numbers up to its greatest, a + 65,536 * b. In version 2 it allows the d entries of
+ * its list, from entry c on. The list rises strictly, and its last entry is the greatest. The lists of the enum rows
+ * follow each other in row order, and no entry is left over. docs/USERS.md has all kinds and a worked example of each
+ * version.
+ *
  * Every call below checks its table first. These two check it without a message, for whoever makes tables. */
 
-/* Returns ICEHUB_OK, or the number of the first rule that the table breaks: 31 to 38. */
+/* Returns ICEHUB_OK, or the number of the first rule that the table breaks: 31 to 39. */
 uint32_t icehub_table(const uint8_t *table, size_t table_len);
 /* The place of that rule; 0 if the table breaks none. */
 uint32_t icehub_table_place(const uint8_t *table, size_t table_len);
@@ -357,6 +380,7 @@ static inline const char *icehub_refusal_name(uint32_t refusal)
     case ICEHUB_BAD_TABLE_MARK: return "BAD_TABLE_MARK";
     case ICEHUB_BAD_TABLE_NAME: return "BAD_TABLE_NAME";
     case ICEHUB_BAD_TABLE_TAG: return "BAD_TABLE_TAG";
+    case ICEHUB_BAD_TABLE_ENUMERATORS: return "BAD_TABLE_ENUMERATORS";
     default: return "";
     }
 }
@@ -373,7 +397,7 @@ static inline const char *icehub_refusal_text(uint32_t refusal)
     case ICEHUB_BAD_VERSION: return "the encoding's version is not 1.1";
     case ICEHUB_BAD_SIZE: return "a size below 255 in the long form, or a negative size";
     case ICEHUB_BAD_BOOL: return "a bool is neither 0 nor 1";
-    case ICEHUB_BAD_ENUMERATOR: return "an enumerator is too great";
+    case ICEHUB_BAD_ENUMERATOR: return "an enumerator is not one that its enum allows";
     case ICEHUB_BAD_PROXY: return "a proxy's identity, facet count or mode is wrong";
     case ICEHUB_BAD_LENGTH:
         return "a declared length is below its least (FSize 1, slice 4, endpoint 6), negative, or not"
@@ -410,6 +434,9 @@ static inline const char *icehub_refusal_text(uint32_t refusal)
                "another record's";
     case ICEHUB_BAD_TABLE_TAG:
         return "a tag or an enum's greatest enumerator is over 2,147,483,647, or an owner has a tag twice";
+    case ICEHUB_BAD_TABLE_ENUMERATORS:
+        return "an enum's list of enumerators is not taken in turn, is empty, reaches beyond the entries, does not "
+               "rise or does not end with the greatest, or entries are left over";
     default: return "";
     }
 }

@@ -38,7 +38,7 @@ mod table;
 mod value;
 
 pub use refusal::{Reason, Refusal};
-pub use table::{Kind, MemberRow, Table, TypeRow};
+pub use table::{Allowed, Enumerators, Kind, MemberRow, Table, TypeRow};
 pub use value::{Elements, Endpoint, Endpoints, Entries, Fields, Proxy, Value};
 
 use core::iter::FusedIterator;

@@ -91,9 +91,9 @@ macro_rules! reasons {
 }
 
 impl Reason {
-    /// The table breaks a rule: 31 to 38, and the place is in the table.
+    /// The table breaks a rule: 31 to 39, and the place is in the table.
     pub const fn is_of_table(self) -> bool {
-        matches!(self.number(), 31..=38)
+        matches!(self.number(), 31..=39)
     }
 }
 
@@ -105,7 +105,7 @@ reasons! {
     BadVersion = 6, "BAD_VERSION": "the encoding's version is not 1.1", "4";
     BadSize = 7, "BAD_SIZE": "a size below 255 in the long form, or a negative size", "the byte 255 of the size";
     BadBool = 8, "BAD_BOOL": "a bool is neither 0 nor 1", "its byte";
-    BadEnumerator = 9, "BAD_ENUMERATOR": "an enumerator is too great", "its size";
+    BadEnumerator = 9, "BAD_ENUMERATOR": "an enumerator is not one that its enum allows", "its size";
     BadProxy = 10, "BAD_PROXY": "a proxy's identity, facet count or mode is wrong",
         "the identity, the facet count or the mode byte";
     BadLength = 11, "BAD_LENGTH":
@@ -150,6 +150,10 @@ reasons! {
     BadTableTag = 38, "BAD_TABLE_TAG":
         "a tag or an enum's greatest enumerator is over 2,147,483,647, or an owner has a tag twice",
         "the row's first byte, in the table";
+    BadTableEnumerators = 39, "BAD_TABLE_ENUMERATORS":
+        "an enum's list of enumerators is not taken in turn, is empty, reaches beyond the entries, does not rise or \
+        does not end with the greatest, or entries are left over",
+        "the row's first byte, in the table; 0 for entries left over";
 }
 
 /// `refusal 19 at 3 (the number of rows needed): the lent list is too short`; without the brackets where the place is
@@ -217,12 +221,12 @@ mod tests {
     fn numbers() {
         assert_eq!(
             Reason::ALL.iter().map(|reason| reason.number()).collect::<Vec<_>>(),
-            (2..=23).chain(31..=38).collect::<Vec<_>>()
+            (2..=23).chain(31..=39).collect::<Vec<_>>()
         );
         for reason in Reason::ALL {
             assert_eq!(Reason::from_number(reason.number()), Some(*reason));
         }
-        assert!([0, 1, 24, 30, 39].into_iter().all(|number| Reason::from_number(number).is_none()));
+        assert!([0, 1, 24, 30, 40].into_iter().all(|number| Reason::from_number(number).is_none()));
     }
 
     #[test]

@@ -3,7 +3,9 @@
 //! The library judges a table; this module reads one that was accepted and decides nothing.
 
 use crate::{ffi, Refusal};
+use core::iter::FusedIterator;
 use core::ops::Range;
+use core::slice;
 
 /// What a type is: the kinds of document 01.
 #[derive(Clone, Copy, Debug, PartialEq, Eq, Hash)]
@@ -25,7 +27,7 @@ pub enum Kind {
     Double = 6,
     /// 7: a size and that many bytes.
     String = 7,
-    /// 8: a size, at most the greatest enumerator.
+    /// 8: a size, one of the numbers that the enum allows.
     Enum = 8,
     /// 9: its members, one after another.
     Struct = 9,
@@ -102,7 +104,6 @@ impl Kind {
     }
 }
 
-const HEADER: usize = 12;
 const TYPE_ROW: usize = 12;
 const MEMBER_ROW: usize = 8;
 
@@ -136,7 +137,7 @@ impl<'a> Table<'a> {
         self.bytes
     }
 
-    /// Its version.
+    /// Its version: 1, or 2 where its enums have lists of enumerators.
     pub fn version(self) -> u16 {
         self.number(3)
     }
@@ -155,6 +156,15 @@ impl<'a> Table<'a> {
     pub fn names(self) -> &'a [u8] {
         let count = usize::from(self.number(9));
         self.bytes.get(self.names_start()..).and_then(|names| names.get(..count)).unwrap_or_default()
+    }
+
+    /// How many entries its lists of enumerators have; none in version 1.
+    pub fn entries(self) -> u32 {
+        if self.has_lists() {
+            self.number(12).into()
+        } else {
+            0
+        }
     }
 
     /// Type row `number`.
@@ -185,12 +195,31 @@ impl<'a> Table<'a> {
         u16::from_le_bytes([self.byte(place), self.byte(place + 1)])
     }
 
+    fn has_lists(self) -> bool {
+        self.version() == 2
+    }
+
+    fn types_start(self) -> usize {
+        if self.has_lists() {
+            14
+        } else {
+            12
+        }
+    }
+
     fn members_start(self) -> usize {
-        HEADER + TYPE_ROW * self.types() as usize
+        self.types_start() + TYPE_ROW * self.types() as usize
     }
 
     fn names_start(self) -> usize {
         self.members_start() + MEMBER_ROW * self.members() as usize
+    }
+
+    /// The entries of all lists.
+    fn lists(self) -> &'a [[u8; 4]] {
+        let start = self.names_start() + usize::from(self.number(9));
+        let entries = self.bytes.get(start..).unwrap_or_default().as_chunks().0;
+        &entries[..entries.len().min(self.entries() as usize)]
     }
 }
 
@@ -214,7 +243,7 @@ impl<'a> TypeRow<'a> {
 
     /// The place of its first byte in the table.
     pub fn place(self) -> usize {
-        HEADER + TYPE_ROW * self.number as usize
+        self.table.types_start() + TYPE_ROW * self.number as usize
     }
 
     /// Its kind.
@@ -259,6 +288,17 @@ impl<'a> TypeRow<'a> {
         (self.kind() == Kind::Enum).then(|| u32::from(self.field(0)) | u32::from(self.field(1)) << 16)
     }
 
+    /// The enumerators that an enum allows.
+    pub fn allowed(self) -> Option<Allowed<'a>> {
+        let greatest = self.greatest()?;
+        if !self.table.has_lists() {
+            return Some(Allowed::UpTo(greatest));
+        }
+        let (first, count) = (usize::from(self.field(2)), usize::from(self.field(3)));
+        let entries = self.table.lists().get(first..).and_then(|entries| entries.get(..count)).unwrap_or_default();
+        Some(Allowed::Only(Enumerators { entries: entries.iter() }))
+    }
+
     /// The element of a sequence.
     pub fn element(self) -> Option<TypeRow<'a>> {
         self.part(Kind::Sequence, 0)
@@ -286,6 +326,46 @@ impl<'a> TypeRow<'a> {
         self.table.number(self.place() + 2 + 2 * field)
     }
 }
+
+/// The enumerators that an enum allows.
+#[derive(Clone, Debug)]
+pub enum Allowed<'a> {
+    /// In a table of version 1: all numbers up to the greatest.
+    UpTo(u32),
+    /// In a table of version 2: those of its list.
+    Only(Enumerators<'a>),
+}
+
+impl Allowed<'_> {
+    /// Whether a number is allowed.
+    pub fn contains(&self, number: u32) -> bool {
+        match self {
+            Allowed::UpTo(greatest) => number <= *greatest,
+            Allowed::Only(list) => list.clone().any(|entry| entry == number),
+        }
+    }
+}
+
+/// The entries of an enum's list, rising.
+#[derive(Clone, Debug)]
+pub struct Enumerators<'a> {
+    entries: slice::Iter<'a, [u8; 4]>,
+}
+
+impl Iterator for Enumerators<'_> {
+    type Item = u32;
+
+    fn next(&mut self) -> Option<u32> {
+        self.entries.next().map(|entry| u32::from_le_bytes(*entry))
+    }
+
+    fn size_hint(&self) -> (usize, Option<usize>) {
+        self.entries.size_hint()
+    }
+}
+
+impl ExactSizeIterator for Enumerators<'_> {}
+impl FusedIterator for Enumerators<'_> {}
 
 /// A member as a table declares it: a member row.
 #[derive(Clone, Copy, Debug, PartialEq, Eq)]

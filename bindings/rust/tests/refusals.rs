@@ -52,6 +52,23 @@ fn table_and_arguments() {
     assert_eq!(told(refusal), (Reason::InputTooLong, 0));
 }
 
+/// A list of enumerators: a number between two entries, a list that does not rise, entries left over.
+#[test]
+fn lists() {
+    let sample = include_bytes!("../samples/valve.table");
+    assert_eq!(reader(sample, 3, include_bytes!("../samples/valve-between.message")), (Reason::BadEnumerator, 6));
+    let row = row((0, 0, 1)).to_bytes();
+    let refusal = write(sample, 3, Format::Sliced, &row, &[2], &mut [0; 16]).unwrap_err();
+    assert_eq!(told(refusal), (Reason::BadRowBytes, 0));
+    let mut table = sample.to_vec();
+    table[90] = 1;
+    assert_eq!(reader(&table, 3, &[]), (Reason::BadTableEnumerators, 14));
+    let mut table = sample.to_vec();
+    table[12] = 7;
+    table.extend([0; 4]);
+    assert_eq!(reader(&table, 3, &[]), (Reason::BadTableEnumerators, 0));
+}
+
 #[test]
 fn encapsulation() {
     assert_eq!(reader(&p2_table(), LIST, &[]), (Reason::CutOff, 0));

@@ -1,6 +1,6 @@
 //! The values of members by their types: every kind in the sample `kinds`, and a table's own rows.
 
-use icehub::{read, Kind, Reason, Table, Value, MOST_ROWS, ROW_SIZE};
+use icehub::{read, Allowed, Kind, Reason, Table, Value, MOST_ROWS, ROW_SIZE};
 
 const TABLE: &[u8] = include_bytes!("../samples/kinds.table");
 const MESSAGE: &[u8] = include_bytes!("../samples/kinds.message");
@@ -92,10 +92,30 @@ fn rows_of_a_table() {
         (Some(i32::MAX as u32), Kind::String, Some(report), 348)
     );
     assert_eq!((table.member_row(0).unwrap().tag(), table.member_row(19), table.type_row(16)), (None, None, None));
-    assert_eq!(table.type_row(8).unwrap().greatest(), Some(3));
+    assert_eq!((table.type_row(8).unwrap().greatest(), table.entries()), (Some(3), 0));
+    assert!(matches!(table.type_row(8).unwrap().allowed(), Some(Allowed::UpTo(3))));
+    assert!(table.type_row(7).unwrap().allowed().is_none());
     let (key, value) = (table.type_row(12).unwrap().key().unwrap(), table.type_row(12).unwrap().value().unwrap());
     assert_eq!((key.kind(), value.kind()), (Kind::String, Kind::Int));
     assert_eq!(table.type_rows().filter(|row| row.kind().can_be_top()).count(), 2);
+}
+
+/// A table of version 2: its rows are two bytes later, and its enums have lists.
+#[test]
+fn lists_of_a_table() {
+    let table = Table::new(include_bytes!("../samples/valve.table")).unwrap();
+    assert_eq!((table.version(), table.types(), table.members(), table.entries()), (2, 4, 3, 6));
+    let (state, mode) = (table.type_row(0).unwrap(), table.type_row(1).unwrap());
+    assert_eq!((state.place(), state.greatest(), mode.place(), mode.greatest()), (14, Some(4), 26, Some(2)));
+    let list = |of: icehub::TypeRow| match of.allowed() {
+        Some(Allowed::Only(list)) => (list.len(), list.collect::<Vec<_>>()),
+        _ => panic!("no list"),
+    };
+    assert_eq!((list(state), list(mode)), ((3, vec![1, 3, 4]), (3, vec![0, 1, 2])));
+    let allows = |number| state.allowed().unwrap().contains(number);
+    assert_eq!([0, 1, 2, 3, 4, 5].map(allows), [false, true, false, true, true, false]);
+    let member = table.member_row(2).unwrap();
+    assert_eq!((member.place(), member.tag(), member.of(), member.owner()), (78, Some(1), mode, table.type_row(3)));
 }
 
 /// The library judges a table.

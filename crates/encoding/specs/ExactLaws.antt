@@ -1,4 +1,4 @@
--- The readers of values and of extents take exactly the strings of their grammars: by the type, each by the law of its combinator.
+-- The readers of values, of types whose lists rise, and of extents take exactly the strings of their grammars: by the type, each by the law of its combinator.
 --
 --   takes-value, takes-values   the readers of values
 --   exact-is, is-exact          exactly one value of a type is a string of the grammar, and the other way round
@@ -11,15 +11,15 @@ use Prim.Native.Nat.{ℕ}
 use native.Mathlib.Omega.{arith}
 use lib.ListN.{length}
 use lib.Seq.{take-length}
-use borrow.Author.Tests.{leb-true, le-leb}
 use Rattle.encoding.specs.Result.{Parser, ok, chunk, skip, mapc, bytes}
 use Rattle.encoding.specs.ResultLaws.{pick-true, bytes-ok, bytes-step, mapc-ok, mapc-step}
-use Rattle.encoding.specs.Types.{Allowed, upto, allows, Num, short, int, long, float, double, width, Ty, Tys, nil, cons, broken, bool, byte, string, proxy, num, enum, struct, seq, dict, Bits, f1, f2, f4, f8, size, vsize, fsize, class}
+use Rattle.encoding.specs.Types.{Allowed, allows, Num, short, int, long, float, double, width, Ty, Tys, nil, cons, broken, bool, byte, string, proxy, num, enum, struct, seq, dict, Bits, f1, f2, f4, f8, size, vsize, fsize, class}
 use Rattle.encoding.specs.Value.{enumForm, value, values, exact}
 use Rattle.encoding.specs.ValueLaws.{exact-ok, exact-step}
 use Rattle.encoding.specs.Optional.{extent}
-use Rattle.encoding.specs.Grammar.{IsInt, IsSize, AnyBytes, IsNum, Among, IsEnum, enumerator, IsValue, AreValues, IsSizeAlone, alone, IsVSize, vsize-of, IsFSize, fsize-of, IsExtent}
+use Rattle.encoding.specs.Grammar.{IsInt, IsSize, AnyBytes, IsNum, IsEnum, enumerator, IsValue, AreValues, IsSizeAlone, alone, IsVSize, vsize-of, IsFSize, fsize-of, IsExtent, ListRises, ListsRise, AllRise}
 use Rattle.encoding.specs.GrammarLaws.{Reads, Takes, reads-as, reads-must, takes-map, takes-then, reads-fail, reads-chunk, takes-skip, takes-pure, takes-counted, reads-size, SizeThen, after-size, reads-sized, IntThen, after-int, reads-declared}
+use Rattle.encoding.specs.AllowedLaws.{allows-among, among-allows}
 use Rattle.encoding.specs.ProxyLaws.{takes-text, takes-bool, takes-proxy}
 
 -- ---- values
@@ -31,47 +31,39 @@ takes-num long = takes-skip 8
 takes-num float = takes-skip 4
 takes-num double = takes-skip 8
 
-allows-among : (g : Allowed) (n : ℕ) → allows g n ≡ true → Among g n
-unfolding allows
-allows-among (upto g) n h = leb-true n g h
-
-among-allows : (g : Allowed) (n : ℕ) → Among g n → allows g n ≡ true
-unfolding allows
-among-allows (upto g) n h = le-leb n g h
-
-takes-enum : (g : Allowed) → Takes (value (enum g)) (IsEnum g)
+takes-enum : (g : Allowed) → ListRises g → Takes (value (enum g)) (IsEnum g)
 unfolding value enumForm
-takes-enum g =
+takes-enum g R =
     reads-as (λ _ b w. enumerator (allows-among g (w .0) (pick-true (allows g (w .0)) 8 (w .1 .0))) (w .1 .1)) (λ _ b w. back w)
     (takes-map (reads-must (enumForm g) reads-size))
   where
     back : {b : List ℕ} → IsEnum g b → (n : ℕ) × ((enumForm g n ≡ 0) × IsSize n b)
-    back (enumerator {n} a s) = (n, (rw (among-allows g n a), s))
+    back (enumerator {n} a s) = (n, (rw (among-allows g n R a), s))
 
 mutual
-  unfolding value values IsValue AreValues
+  unfolding value values IsValue AreValues ListsRise AllRise
 
-  pub takes-value : (t : Ty) → Takes (value t) (IsValue t)
-  takes-value broken = reads-fail 4
-  takes-value bool = takes-bool
-  takes-value byte = takes-skip 1
-  takes-value string = takes-text
-  takes-value proxy = takes-proxy
-  takes-value (num w) = takes-num w
-  takes-value (enum g) = takes-enum g
-  takes-value (struct ts) = takes-values ts
-  takes-value (seq t) = takes-counted (takes-value t)
-  takes-value (dict k v) = takes-counted (takes-then (takes-value k) (takes-value v))
+  pub takes-value : (t : Ty) → ListsRise t → Takes (value t) (IsValue t)
+  takes-value broken R = reads-fail 4
+  takes-value bool R = takes-bool
+  takes-value byte R = takes-skip 1
+  takes-value string R = takes-text
+  takes-value proxy R = takes-proxy
+  takes-value (num w) R = takes-num w
+  takes-value (enum g) R = takes-enum g R
+  takes-value (struct ts) R = takes-values ts R
+  takes-value (seq t) R = takes-counted (takes-value t R)
+  takes-value (dict k v) R = takes-counted (takes-then (takes-value k (R .0)) (takes-value v (R .1)))
 
-  pub takes-values : (ts : Tys) → Takes (values ts) (AreValues ts)
-  takes-values nil = takes-pure
-  takes-values (cons t ts) = takes-then (takes-value t) (takes-values ts)
+  pub takes-values : (ts : Tys) → AllRise ts → Takes (values ts) (AreValues ts)
+  takes-values nil R = takes-pure
+  takes-values (cons t ts) R = takes-then (takes-value t (R .0)) (takes-values ts (R .1))
 
-pub exact-is : (t : Ty) (b : List ℕ) → exact t b ≡ true → IsValue t b
-exact-is t b h = subst (IsValue t) (take-length b) (takes-value t .canonical b tt (length b) (exact-ok t b h))
+pub exact-is : (t : Ty) → ListsRise t → (b : List ℕ) → exact t b ≡ true → IsValue t b
+exact-is t R b h = subst (IsValue t) (take-length b) (takes-value t R .canonical b tt (length b) (exact-ok t b h))
 
-pub is-exact : (t : Ty) (b : List ℕ) → IsValue t b → exact t b ≡ true
-is-exact t b w = exact-step t b (rw append-nil at (takes-value t .written tt b w []))
+pub is-exact : (t : Ty) → ListsRise t → (b : List ℕ) → IsValue t b → exact t b ≡ true
+is-exact t R b w = exact-step t b (rw append-nil at (takes-value t R .written tt b w []))
 
 -- ---- extents
 

@@ -14,15 +14,17 @@
 --   IsString t      the string t: its size, then its bytes
 --   IsText          any string
 --   IsProxy         a proxy
+--   Among a n       an enumerator n that an enum has
+--   ListsRise t     the lists of allowed enumerators in a type rise
 --   IsValue t       a value of type t
 --   AreValues ts    values of the types ts, one after another
 --   IsExtent k      what an optional declares whose header has type k
 use mathlib.Core.Path.{_≡_}
 use mathlib.Core.List.{List, [], _∷_, _++_}
 use Prim.Native.Nat.{ℕ, zero, suc, _+_, _≤_, _<_}
-use lib.ListN.{length}
+use lib.ListN.{length, getD}
 use Rattle.encoding.specs.Number.{val, Short}
-use Rattle.encoding.specs.Types.{Allowed, upto, Num, short, int, long, float, double, Ty, Tys, nil, cons, broken, bool, byte, string, proxy, num, enum, struct, seq, dict, Bits, f1, f2, f4, f8, size, vsize, fsize, class}
+use Rattle.encoding.specs.Types.{Allowed, upto, only, Num, short, int, long, float, double, Ty, Tys, nil, cons, broken, bool, byte, string, proxy, num, enum, struct, seq, dict, Bits, f1, f2, f4, f8, size, vsize, fsize, class}
 
 -- ---- putting grammars together
 
@@ -107,9 +109,10 @@ IsNum long = AnyBytes 8
 IsNum float = AnyBytes 4
 IsNum double = AnyBytes 8
 
--- an enumerator that the enum has: at most the greatest
+-- an enumerator that the enum has: at most the greatest; or one of the list
 abbrev pub Among : Allowed → ℕ → Type 0
 Among (upto g) n = n ≤ g
+Among (only l) n = (i : ℕ) × (i < length l) × (getD l i 0 ≡ n)
 
 -- an enumerator, as a size
 pub data IsEnum (g : Allowed) : List ℕ → Type 0 where
@@ -132,6 +135,35 @@ unfoldable mutual
   pub AreValues : Tys → List ℕ → Type 0
   AreValues nil = AnyBytes 0
   AreValues (cons t ts) = IsValue t ⨾ AreValues ts
+
+-- ---- lists of allowed enumerators
+
+-- each entry is below the next
+abbrev pub Rises : List ℕ → Type 0
+Rises l = (i : ℕ) → suc i < length l → getD l i 0 < getD l (suc i) 0
+
+-- so does the list of an enum, if it has one
+abbrev pub ListRises : Allowed → Type 0
+ListRises (upto g) = Unit {0}
+ListRises (only l) = Rises l
+
+-- every list in a type rises: so it is in a table that breaks no rule
+unfoldable mutual
+  pub ListsRise : Ty → Type 0
+  ListsRise broken = Unit {0}
+  ListsRise bool = Unit {0}
+  ListsRise byte = Unit {0}
+  ListsRise string = Unit {0}
+  ListsRise proxy = Unit {0}
+  ListsRise (num w) = Unit {0}
+  ListsRise (enum a) = ListRises a
+  ListsRise (struct ts) = AllRise ts
+  ListsRise (seq t) = ListsRise t
+  ListsRise (dict k v) = ListsRise k × ListsRise v
+
+  pub AllRise : Tys → Type 0
+  AllRise nil = Unit {0}
+  AllRise (cons t ts) = ListsRise t × AllRise ts
 
 -- ---- extents
 

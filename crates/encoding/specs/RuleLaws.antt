@@ -1,9 +1,10 @@
 -- What a table that breaks no rule gives: `faults T ≡ fine`.
 --
+--   typePass, listPass, memberPass the passes over type rows, lists and member rows
 --   pass-fine                      a pass that is fine has no true test
---   header-right, type-right, member-right   each pass is fine: no test of the header or of a row is true
---   header-test, row-test, member-row-test, member-test   each of these tests is false
---   row-begins, sum-right          what follows from the tests of the member rows taken
+--   header-right, type-right, list-right, member-right   each pass is fine: no test of the header, of a row or of a list is true
+--   header-test, row-test, list-test, member-row-test, member-test   each of these tests is false
+--   row-begins, sum-right          what follows from the tests of the member rows taken; entries-right, entries-whole of the entries
 --   any-none                       no number of a range passes a test
 --   members-most, types-most       at most 1,024 members and 256 types
 --   kind-known                     a kind is at most 15
@@ -16,7 +17,7 @@
 --   climb-enough, chain-node       a chain is the row, then the chain of its base
 --   Own, own-later, required-own, optional-own  the place of a member among the rows of its owner
 --   length-range, own-sum          the required and optional members of an owner are as many as its member rows
---   taken-rises, taken-next        the member rows that the rows before one take
+--   takenBy-rises, takenBy-next    what the rows before one take; taken-rises, taken-next of the member rows
 --   taken-at, taken-whole          an owner's member rows begin where those of the rows before it end; all are taken
 --   turn-apart, turn-owner         where owners take the member rows in turn, a member row has one owner, which is found
 --   rows-apart                     a member row has one owner
@@ -27,7 +28,7 @@
 --   fault-place                    the place of a broken rule is bounded, whatever the table
 use mathlib.Core.Path.{_≡_, refl, sym, ap, _∙_, subst}
 use mathlib.Core.Bool.{Bool, true, false, _&&_, _||_, not, true≢false, false≢true}
-use mathlib.Core.Logic.{_⊎_, inl, inr}
+use mathlib.Core.Logic.{_⊎_, inl, inr, ⊎-elim}
 use mathlib.Core.Option.{some}
 use mathlib.Core.List.{List, [], _∷_}
 use Prim.Native.Nat.{ℕ, zero, suc, _+_, _-_, _≤_, _<_}
@@ -39,10 +40,19 @@ use borrow.Author.Tests.{eqb-true, eqb-false, leb-true, leb-false, ltb-true, ltb
 use Rattle.encoding.specs.Result.{pick, firstOf, sameBytes}
 use Rattle.encoding.specs.ResultLaws.{both-true, both-false, either-false, sameBytes-ok, sameBytes-same}
 use Rattle.encoding.specs.Types.{Ty}
-use Rattle.encoding.specs.Table.{types, members, kind, field, mark, tag, isRecord, owns, takes, range, namesAt, nameOf, Fault, fine, fault, orElse, faultAt, any, headerTests, headerRules, taken, noBase, alike, typeRules, sumRules, ownerOf, tagAlike, memberRules, rowAt, memberAt, pass, passes, faults, search, named, base, upward, climb, chain, Member, memberTy, lookup, requiredsIn, optionalsIn, requiredMembers, optionalMembers, ownRows, trees}
+use Rattle.encoding.specs.Table.{types, members, entries, kind, field, mark, tag, isRecord, owns, takes, range, namesAt, nameOf, Fault, fine, fault, orElse, faultAt, any, headerTests, headerRules, takenBy, taken, noBase, alike, typeRules, entriesTaken, allowedRules, entriesRules, sumRules, ownerOf, tagAlike, memberRules, rowAt, memberAt, pass, passes, faults, search, named, base, upward, climb, chain, Member, memberTy, lookup, requiredsIn, optionalsIn, requiredMembers, optionalMembers, ownRows, trees}
 use Rattle.encoding.specs.TableLaws.{header-most}
 
 -- ---- passes
+
+abbrev pub typePass : List ℕ → Fault
+typePass T = pass (rowAt T) (typeRules T) (range 0 (types T))
+
+abbrev pub listPass : List ℕ → Fault
+listPass T = pass (rowAt T) (allowedRules T) (range 0 (types T))
+
+abbrev pub memberPass : List ℕ → Fault
+memberPass T = pass (memberAt T) (memberRules T) (range 0 (members T))
 
 orElse-fine : (f g : Fault) → orElse f g ≡ fine → (f ≡ fine) × (g ≡ fine)
 unfolding orElse
@@ -169,17 +179,26 @@ pub chain-node : (T : List ℕ) (t : ℕ) → chain T t ≡ t ∷ upward (chain 
 unfolding chain climb
 chain-node T t = ap (λ (l : List ℕ). t ∷ l) (upward-same _ (chain T) t (base T t) (base-le T t) (λ r l. climb-enough T t (suc r) r l (omega arith)))
 
--- ---- member rows, in turn
+-- ---- member rows and entries, in turn
+
+module _ (f : ℕ → Bool) (count : ℕ → ℕ) where
+  pub takenBy-rises : (t r : ℕ) → t ≤ r → takenBy f count t ≤ takenBy f count r
+  unfolding takenBy
+  takenBy-rises t zero h = let e : t ≡ 0 = omega arith in rw e (omega arith)
+  takenBy-rises t (suc r) h = elim (ℕ-discrete t (suc r)) [ yes e ↦ rw e (omega arith) | no e ↦ omega (arith, takenBy-rises t r (omega (arith, e))) ]
+
+  pub takenBy-next : (t : ℕ) → f t ≡ true → takenBy f count (suc t) ≡ takenBy f count t + count t
+  unfolding takenBy
+  takenBy-next t e = rw e
 
 pub taken-rises : (T : List ℕ) (t r : ℕ) → t ≤ r → taken T t ≤ taken T r
 unfolding taken
-taken-rises T t zero h = let e : t ≡ 0 = omega arith in rw e (omega arith)
-taken-rises T t (suc r) h = elim (ℕ-discrete t (suc r)) [ yes e ↦ rw e (omega arith) | no e ↦ omega (arith, taken-rises T t r (omega (arith, e))) ]
+taken-rises T t r h = takenBy-rises _ _ t r h
 
 -- an owner takes its rows
 pub taken-next : (T : List ℕ) (t : ℕ) → owns (kind T t) ≡ true → taken T (suc t) ≡ taken T t + field T t 1
 unfolding taken
-taken-next T t o = rw o
+taken-next T t o = takenBy-next _ _ t o
 
 -- ---- the members of an owner
 
@@ -315,11 +334,11 @@ module _ (T : List ℕ) (right : headerRules T ≡ fine) where
 
   types-few : types T ≤ 256
   unfolding headerTests
-  types-few = ltb-false 256 (types T) (either-false (eqb (types T) 0) (ltb 256 (types T)) (header-test 2) .1)
+  types-few = ltb-false 256 (types T) (either-false (eqb (types T) 0) (ltb 256 (types T)) (header-test 3) .1)
 
   members-few : members T ≤ 1024
   unfolding headerTests
-  members-few = ltb-false 1024 (members T) (header-test 3)
+  members-few = ltb-false 1024 (members T) (header-test 4)
 
 pub row-test : (T : List ℕ) (t : ℕ) → firstOf (typeRules T t) ≡ 0 → (i : ℕ) → getD (typeRules T t) i (0, false) .1 ≡ false
 unfolding typeRules
@@ -330,6 +349,18 @@ pub row-begins : (T : List ℕ) (t : ℕ) → firstOf (typeRules T t) ≡ 0 → 
 unfolding typeRules
 row-begins T t h o =
     eqb-true (field T t 0) (taken T t) (not-false (eqb (field T t 0) (taken T t)) (both-false (owns (kind T t)) (not (eqb (field T t 0) (taken T t))) (row-test T t h 6) o))
+
+pub list-test : (T : List ℕ) (t : ℕ) → firstOf (allowedRules T t) ≡ 0 → (i : ℕ) → getD (allowedRules T t) i (0, false) .1 ≡ false
+unfolding allowedRules
+list-test T t h i = test-at (allowedRules T t) tt h i
+
+pub entries-right : (T : List ℕ) → entriesRules T ≡ fine → entriesTaken T (types T) ≡ entries T
+unfolding entriesRules
+entries-right T h = go (eqb (entriesTaken T (types T)) (entries T)) refl (faultAt-fine 0 _ h)
+  where
+    go : (b : Bool) → eqb (entriesTaken T (types T)) (entries T) ≡ b → _≡_ {A = ℕ} (pick b 0 39) 0 → entriesTaken T (types T) ≡ entries T
+    go true e h = eqb-true (entriesTaken T (types T)) (entries T) e
+    go false e h = absurd (omega arith)
 
 pub sum-right : (T : List ℕ) → sumRules T ≡ fine → taken T (types T) ≡ members T
 unfolding sumRules
@@ -356,27 +387,42 @@ module _ (T : List ℕ) (right : faults T ≡ fine) where
   unfolding faults passes
   header-right = orElse-fine (headerRules T) _ right .0
 
-  after-header : passes (pass (rowAt T) (typeRules T) (range 0 (types T)) ∷ sumRules T ∷ pass (memberAt T) (memberRules T) (range 0 (members T)) ∷ []) ≡ fine
+  after-header : passes (typePass T ∷ listPass T ∷ entriesRules T ∷ sumRules T ∷ memberPass T ∷ []) ≡ fine
   unfolding faults passes
   after-header = orElse-fine (headerRules T) _ right .1
 
-  after-types : passes (sumRules T ∷ pass (memberAt T) (memberRules T) (range 0 (members T)) ∷ []) ≡ fine
+  after-types : passes (listPass T ∷ entriesRules T ∷ sumRules T ∷ memberPass T ∷ []) ≡ fine
   unfolding passes
-  after-types = orElse-fine (pass (rowAt T) (typeRules T) (range 0 (types T))) _ after-header .1
+  after-types = orElse-fine (typePass T) _ after-header .1
+
+  after-lists : passes (entriesRules T ∷ sumRules T ∷ memberPass T ∷ []) ≡ fine
+  unfolding passes
+  after-lists = orElse-fine (listPass T) _ after-types .1
+
+  after-entries : passes (sumRules T ∷ memberPass T ∷ []) ≡ fine
+  unfolding passes
+  after-entries = orElse-fine (entriesRules T) _ after-lists .1
 
   pub type-right : (t : ℕ) → t < types T → firstOf (typeRules T t) ≡ 0
   unfolding passes
-  type-right t l = pass-fine (rowAt T) (typeRules T) 0 (types T) (orElse-fine (pass (rowAt T) (typeRules T) (range 0 (types T))) _ after-header .0) t (omega arith) (omega arith)
+  type-right t l = pass-fine (rowAt T) (typeRules T) 0 (types T) (orElse-fine (typePass T) _ after-header .0) t (omega arith) (omega arith)
+
+  pub list-right : (t : ℕ) → t < types T → firstOf (allowedRules T t) ≡ 0
+  unfolding passes
+  list-right t l = pass-fine (rowAt T) (allowedRules T) 0 (types T) (orElse-fine (listPass T) _ after-types .0) t (omega arith) (omega arith)
+
+  pub entries-whole : entriesTaken T (types T) ≡ entries T
+  unfolding passes
+  entries-whole = entries-right T (orElse-fine (entriesRules T) _ after-lists .0)
 
   pub taken-whole : taken T (types T) ≡ members T
   unfolding passes
-  taken-whole = sum-right T (orElse-fine (sumRules T) _ after-types .0)
+  taken-whole = sum-right T (orElse-fine (sumRules T) _ after-entries .0)
 
   pub member-right : (m : ℕ) → m < members T → firstOf (memberRules T m) ≡ 0
   unfolding passes
   member-right m l =
-      pass-fine (memberAt T) (memberRules T) 0 (members T)
-      (orElse-fine (pass (memberAt T) (memberRules T) (range 0 (members T))) _ (orElse-fine (sumRules T) _ after-types .1) .0) m (omega arith) (omega arith)
+      pass-fine (memberAt T) (memberRules T) 0 (members T) (orElse-fine (memberPass T) _ (orElse-fine (sumRules T) _ after-entries .1) .0) m (omega arith) (omega arith)
 
   pub types-most : types T ≤ 256
   types-most = types-few T header-right
@@ -515,28 +561,24 @@ pass-place place rules most i (suc k) all c p h = go (orElse-fault (faultAt (pla
 
 -- a broken rule is at 0 or at the first byte of a row; there are at most 256 type rows and 1,024 member rows
 pub fault-place : (T : List ℕ) (c p : ℕ) → faults T ≡ fault c p → p ≤ 65536
-unfolding faults passes headerRules sumRules
-fault-place T c p h = go (orElse-fault (headerRules T) _ c p h)
+unfolding faults passes headerRules entriesRules sumRules
+fault-place T c p h = ⊎-elim (λ e. omega (arith, faultAt-place 0 (firstOf (headerTests T)) c p e)) (λ e. rest (e .0) (e .1)) (orElse-fault (headerRules T) _ c p h)
   where
-    rest : headerRules T ≡ fine → passes (pass (rowAt T) (typeRules T) (range 0 (types T)) ∷ sumRules T ∷ pass (memberAt T) (memberRules T) (range 0 (members T)) ∷ []) ≡ fault c p → p ≤ 65536
-    rest e k = types-then (orElse-fault (pass (rowAt T) (typeRules T) (range 0 (types T))) _ c p k)
+    rest : headerRules T ≡ fine → passes (typePass T ∷ listPass T ∷ entriesRules T ∷ sumRules T ∷ memberPass T ∷ []) ≡ fault c p → p ≤ 65536
+    rest e k =
+        ⊎-elim (λ z. of-row (typeRules T) z) (λ z.
+        ⊎-elim (λ z. of-row (allowedRules T) z) (λ z.
+        ⊎-elim (λ z. omega (arith, faultAt-place 0 _ c p z)) (λ z.
+        ⊎-elim (λ z. omega (arith, faultAt-place 0 _ c p z)) (λ z.
+        ⊎-elim of-member (λ z. let u : _≡_ {A = ℕ} 0 1 = cc in absurd (omega arith))
+        (orElse-fault (memberPass T) fine c p (z .1)))
+        (orElse-fault (sumRules T) _ c p (z .1)))
+        (orElse-fault (entriesRules T) _ c p (z .1)))
+        (orElse-fault (listPass T) _ c p (z .1)))
+        (orElse-fault (typePass T) _ c p k)
       where
-        last : passes (pass (memberAt T) (memberRules T) (range 0 (members T)) ∷ []) ≡ fault c p → p ≤ 65536
-        last q = one (orElse-fault (pass (memberAt T) (memberRules T) (range 0 (members T))) fine c p q)
-          where
-            one : (pass (memberAt T) (memberRules T) (range 0 (members T)) ≡ fault c p) ⊎ ((pass (memberAt T) (memberRules T) (range 0 (members T)) ≡ fine) × (fine ≡ fault c p)) → p ≤ 65536
-            one (inl z) = pass-place (memberAt T) (memberRules T) 65536 0 (members T) (λ r l. omega (arith, header-most T, types-few T e, members-few T e)) c p z
-            one (inr z) = let u : _≡_ {A = ℕ} 0 1 = cc in absurd (omega arith)
+        of-row : (rules : ℕ → List (ℕ × Bool)) → pass (rowAt T) rules (range 0 (types T)) ≡ fault c p → p ≤ 65536
+        of-row rules z = pass-place (rowAt T) rules 65536 0 (types T) (λ r l. omega (arith, header-most T, types-few T e)) c p z
 
-        sum-then : (sumRules T ≡ fault c p) ⊎ ((sumRules T ≡ fine) × (passes (pass (memberAt T) (memberRules T) (range 0 (members T)) ∷ []) ≡ fault c p)) → p ≤ 65536
-        sum-then (inl z) = omega (arith, faultAt-place 0 _ c p z)
-        sum-then (inr z) = last (z .1)
-
-        types-then : (pass (rowAt T) (typeRules T) (range 0 (types T)) ≡ fault c p)
-            ⊎ ((pass (rowAt T) (typeRules T) (range 0 (types T)) ≡ fine) × (passes (sumRules T ∷ pass (memberAt T) (memberRules T) (range 0 (members T)) ∷ []) ≡ fault c p)) → p ≤ 65536
-        types-then (inl z) = pass-place (rowAt T) (typeRules T) 65536 0 (types T) (λ r l. omega (arith, header-most T, types-few T e)) c p z
-        types-then (inr z) = sum-then (orElse-fault (sumRules T) _ c p (z .1))
-
-    go : (headerRules T ≡ fault c p) ⊎ ((headerRules T ≡ fine) × (passes (pass (rowAt T) (typeRules T) (range 0 (types T)) ∷ sumRules T ∷ pass (memberAt T) (memberRules T) (range 0 (members T)) ∷ []) ≡ fault c p)) → p ≤ 65536
-    go (inl e) = omega (arith, faultAt-place 0 (firstOf (headerTests T)) c p e)
-    go (inr e) = rest (e .0) (e .1)
+        of-member : memberPass T ≡ fault c p → p ≤ 65536
+        of-member z = pass-place (memberAt T) (memberRules T) 65536 0 (members T) (λ r l. omega (arith, header-most T, types-few T e, members-few T e)) c p z

@@ -1,14 +1,16 @@
 -- The type table: its layout, its rules, and what a row means. Every look-up is total: past the end is 0.
 --
---   types, members, names        T, M, N of the header
---   typesAt, membersAt, namesAt  where the type rows, member rows and names begin
+--   version, withLists           the header's version; version 2 has lists of allowed enumerators
+--   types, members, names, entries   T, M, N, E of the header
+--   typesAt, membersAt, namesAt, entriesAt   where the type rows, member rows, names and list entries begin
 --   rowAt t, memberAt m          where a type row, a member row begins; fieldAt i where field i is within a type row
 --   kind t, field t i            a type row's kind, and its fields a, b, c, d, e as i = 0..4; spare t its zero byte
 --   memberType, mark, tag m      a member row's fields; memberSpare m its zero byte
+--   listEntry i, entriesOf t     an entry of the lists; those of enum row t
 --   greatest t, allowed t        an enum row's greatest enumerator; what enumerators it allows
 --   owns k, isRecord k           a row of kind k takes member rows; is an exception or a class
 --   ownRows t, takes t m         the member rows of row t; whether m is one
---   Fault, faults                the first rule broken, as its rule class (31 to 38, below) and its place
+--   Fault, faults                the first rule broken, as its rule class (31 to 39, below) and its place
 --   ruleNumber                   the refusal's number of a class: the class itself
 --   tableVerdict, verdictNumbers what the call for a table alone answers, and its two numbers
 --   typeRows                     how many rows have a tree
@@ -20,7 +22,7 @@
 --   base t, chain t              the base row, if any; the row and its bases, one after another
 use mathlib.Core.Bool.{Bool, false, _&&_, _||_, not}
 use mathlib.Core.Option.{Option, none, some}
-use mathlib.Core.List.{List, [], _∷_, _++_}
+use mathlib.Core.List.{List, [], _∷_, _++_, map}
 use Prim.Native.Nat.{ℕ, zero, suc, _+_, _-_, _*_}
 use lib.ListN.{length, take, drop, getD}
 use lib.Dec.{eqb, leb, ltb}
@@ -28,13 +30,21 @@ use Rattle.encoding.specs.declared.Verdict.{Verdict}
 use Rattle.encoding.specs.declared.Verdict.the-variants.{Sound, Broken}
 use Rattle.encoding.specs.Result.{pick, firstOf, sameBytes}
 use Rattle.encoding.specs.Number.{val, negative}
-use Rattle.encoding.specs.Types.{Allowed, upto, short, int, long, float, double, Ty, Tys, nil, cons, broken, bool, byte, string, proxy, num, enum, struct, seq, dict}
+use Rattle.encoding.specs.Types.{Allowed, upto, allowedOf, short, int, long, float, double, Ty, Tys, nil, cons, broken, bool, byte, string, proxy, num, enum, struct, seq, dict}
 
 -- ---- layout
 
 -- the number of k bytes at a place
 unfoldable pub at : List ℕ → ℕ → ℕ → ℕ
 at T k i = val (take k (drop i T))
+
+-- the version of the header, 16 bits
+unfoldable pub version : List ℕ → ℕ
+version T = at T 2 3
+
+-- version 2 has lists of allowed enumerators
+unfoldable pub withLists : List ℕ → Bool
+withLists T = eqb (version T) 2
 
 -- T of the header, a 16-bit count
 unfoldable pub types : List ℕ → ℕ
@@ -48,9 +58,13 @@ members T = at T 2 7
 unfoldable pub names : List ℕ → ℕ
 names T = at T 2 9
 
--- the header is 12 bytes
+-- E, after the zero byte; version 1 has none
+unfoldable pub entries : List ℕ → ℕ
+entries T = pick (withLists T) (at T 2 12) 0
+
+-- the header is 12 bytes, with E 14
 unfoldable pub typesAt : List ℕ → ℕ
-typesAt T = 12
+typesAt T = pick (withLists T) 14 12
 
 -- T type rows of 12 bytes
 abbrev pub rowAt : List ℕ → ℕ → ℕ
@@ -67,6 +81,14 @@ memberAt T m = membersAt T + 8 * m
 -- then N name bytes
 abbrev pub namesAt : List ℕ → ℕ
 namesAt T = memberAt T (members T)
+
+-- then E entries
+abbrev pub entriesAt : List ℕ → ℕ
+entriesAt T = namesAt T + names T
+
+-- of 32 bits each
+unfoldable pub listEntry : List ℕ → ℕ → ℕ
+listEntry T i = at T 4 (entriesAt T + 4 * i)
 
 -- a type row's kind byte
 unfoldable pub kind : List ℕ → ℕ → ℕ
@@ -125,6 +147,10 @@ nameOf T t = take (field T t 4) (drop (namesAt T + field T t 3) T)
 unfoldable pub greatest : List ℕ → ℕ → ℕ
 greatest T t = field T t 0 + 65536 * field T t 1
 
+-- the list of enum row t: c its first entry, d their count
+unfoldable pub entriesOf : List ℕ → ℕ → List ℕ
+entriesOf T t = map (listEntry T) (range (field T t 2) (field T t 3))
+
 -- ---- rules
 
 -- no rule is broken, or the first that is: its class and its place
@@ -152,36 +178,43 @@ any f (i ∷ l) = f i || any f l
 --   32  unused or zero bytes, a required tag not 0          36  empty structs, wrong marks
 --   33  unknown kind (its fields unjudged)                  37  names outside, of bad length or alike
 --   34  a reference not smaller or of the wrong kind        38  tags or enumerators too great, tags alike
+--                                                           39  lists of allowed enumerators
 -- A row that breaks several has the first class of this order.
 
 -- 2 ^ 31 and above
 abbrev pub great : ℕ → Bool
 great n = negative 4 n
 
--- mark FGT, version 1, T 1..256, M 0..1,024, N 0..8,192, a zero byte, and nothing more after the names; all at 0
+-- mark FGT, version 1 or 2, T 1..256, M 0..1,024, N 0..8,192, a zero byte, E 0..1,024, and nothing more after the entries; all at 0
 unfoldable pub headerTests : List ℕ → List (ℕ × Bool)
 headerTests T =
-    (31, not (sameBytes (take 5 T) (70 ∷ 71 ∷ 84 ∷ 1 ∷ 0 ∷ [])))
+    (31, not (sameBytes (take 3 T) (70 ∷ 71 ∷ 84 ∷ [])))
+    ∷ (31, not (eqb (version T) 1 || withLists T))
     ∷ (31, ltb (length T) (typesAt T))
     ∷ (31, eqb (types T) 0 || ltb 256 (types T))
     ∷ (31, ltb 1024 (members T))
     ∷ (31, ltb 8192 (names T))
     ∷ (31, not (eqb (at T 1 11) 0))
-    ∷ (31, not (eqb (length T) (namesAt T + names T)))
+    ∷ (31, ltb 1024 (entries T))
+    ∷ (31, not (eqb (length T) (entriesAt T + 4 * entries T)))
     ∷ []
 
 -- the first pass
 unfoldable pub headerRules : List ℕ → Fault
 headerRules T = faultAt 0 (firstOf (headerTests T))
 
--- how many fields a kind uses, from a on
+-- how many fields a kind uses, from a on; an enum's c and d are its list, in version 2
 unfoldable pub used : List ℕ → ℕ → ℕ
-used T k = getD (0 ∷ 0 ∷ 0 ∷ 0 ∷ 0 ∷ 0 ∷ 0 ∷ 0 ∷ 2 ∷ 2 ∷ 1 ∷ 2 ∷ 0 ∷ 5 ∷ 5 ∷ 2 ∷ []) k 5
+used T k = getD (0 ∷ 0 ∷ 0 ∷ 0 ∷ 0 ∷ 0 ∷ 0 ∷ 0 ∷ pick (withLists T) 4 2 ∷ 2 ∷ 1 ∷ 2 ∷ 0 ∷ 5 ∷ 5 ∷ 2 ∷ []) k 5
 
--- the member rows that the first n type rows take
+-- what the first n rows take, where those that pass a test take as many as a count says
+unfoldable pub takenBy : (ℕ → Bool) → (ℕ → ℕ) → ℕ → ℕ
+takenBy f count zero = 0
+takenBy f count (suc n) = takenBy f count n + pick (f n) (count n) 0
+
+-- the member rows that the first n type rows take: b is an owner's count
 unfoldable pub taken : List ℕ → ℕ → ℕ
-taken T zero = 0
-taken T (suc n) = taken T n + pick (owns (kind T n)) (field T n 1) 0
+taken T n = takenBy (λ t. owns (kind T t)) (λ t. field T t 1) n
 
 -- r is no row below t of kinds 0..12
 unfoldable pub noPart : List ℕ → ℕ → ℕ → Bool
@@ -213,6 +246,32 @@ typeRules T t =
     ∷ (37, isRecord k && alike T t)
     ∷ (38, eqb k 8 && great (greatest T t))
     ∷ []
+
+-- row t has a list of allowed enumerators: an enum of version 2
+unfoldable pub hasList : List ℕ → ℕ → Bool
+hasList T t = withLists T && eqb (kind T t) 8
+
+-- the entries that the lists of the first n type rows take: d is a list's count
+unfoldable pub entriesTaken : List ℕ → ℕ → ℕ
+entriesTaken T n = takenBy (hasList T) (λ t. field T t 3) n
+
+-- a list of at least one entry, rising strictly, whose last is g
+unfoldable pub risesTo : ℕ → List ℕ → Bool
+risesTo g [] = false
+risesTo g (x ∷ []) = eqb x g
+risesTo g (x ∷ y ∷ l) = ltb x y && risesTo g (y ∷ l)
+
+-- the rules of the list of row t: lists follow each other in row order and lie within the entries; a list rises to the greatest enumerator
+unfoldable pub allowedRules : List ℕ → ℕ → List (ℕ × Bool)
+allowedRules T t =
+    (39, hasList T t && not (eqb (field T t 2) (entriesTaken T t)))
+    ∷ (39, hasList T t && ltb (entries T) (field T t 2 + field T t 3))
+    ∷ (39, hasList T t && not (risesTo (greatest T t) (entriesOf T t)))
+    ∷ []
+
+-- the entries are all taken, none left over, at 0
+unfoldable pub entriesRules : List ℕ → Fault
+entriesRules T = faultAt 0 (pick (eqb (entriesTaken T (types T)) (entries T)) 0 39)
 
 -- the member rows are all taken, none left over, at 0
 unfoldable pub sumRules : List ℕ → Fault
@@ -250,16 +309,18 @@ unfoldable pub passes : List Fault → Fault
 passes [] = fine
 passes (f ∷ fs) = orElse f (passes fs)
 
--- header, type rows, member sum, member rows
+-- header, type rows, lists, entries left over, member sum, member rows
 unfoldable pub faults : List ℕ → Fault
 faults T =
     passes (headerRules T
     ∷ pass (rowAt T) (typeRules T) (range 0 (types T))
+    ∷ pass (rowAt T) (allowedRules T) (range 0 (types T))
+    ∷ entriesRules T
     ∷ sumRules T
     ∷ pass (memberAt T) (memberRules T) (range 0 (members T))
     ∷ [])
 
--- 31 to 38: the class itself
+-- 31 to 39: the class itself
 unfoldable pub ruleNumber : ℕ → ℕ
 ruleNumber class = class
 
@@ -288,9 +349,9 @@ memberTys T l (m ∷ ms) = cons (memberTy T l m) (memberTys T l ms)
 unfoldable pub ownRows : List ℕ → ℕ → List ℕ
 ownRows T t = range (field T t 0) (field T t 1)
 
--- the enumerators that enum row t allows
+-- the enumerators that enum row t allows: those of its list; under version 1 all up to the greatest
 unfoldable pub allowed : List ℕ → ℕ → Allowed
-allowed T t = upto (greatest T t)
+allowed T t = pick (withLists T) (allowedOf (greatest T t) (entriesOf T t)) (upto (greatest T t))
 
 -- the tree of a row, where l has the trees of the rows below it
 unfoldable pub rowTy : List ℕ → List Ty → ℕ → Ty

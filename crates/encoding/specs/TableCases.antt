@@ -3,7 +3,8 @@
 --
 --   sample                          the table
 --   Meaning, sample-means           its trees, members, names and bases
---   Change, changes, changes-told   for each rule, one byte changed: the class and the place of the fault
+--   Change, changed, told           a byte changed; the number and the place of the fault
+--   changes, changes-told           for each rule, one byte changed: the class and the place of the fault
 --   cuts-told, zero-bytes-apart     bytes left out; a zero byte that is not 0
 use mathlib.Core.Path.{_≡_, refl}
 use mathlib.Core.List.{List, [], _∷_, _++_, map}
@@ -14,6 +15,7 @@ use Rattle.encoding.specs.Result
 use Rattle.encoding.specs.Number
 use Rattle.encoding.specs.Types.{upto, short, int, long, float, double, Ty, nil, cons, bool, byte, string, proxy, num, enum, struct, seq, dict, broken}
 use Rattle.encoding.specs.Table
+use Rattle.encoding.specs.Cases.{computed}
 
 -- ---- the table
 
@@ -92,7 +94,7 @@ pub record Meaning (T : List ℕ) : Type 0 where
   pub chains : map (Table.chain T) (13 ∷ 14 ∷ 15 ∷ 16 ∷ []) ≡ (13 ∷ []) ∷ (14 ∷ []) ∷ (15 ∷ []) ∷ (16 ∷ 13 ∷ []) ∷ []
 
 pub sample-means : Meaning sample
-unfolding sample Result.firstOf Result.sameBytes Number.val Number.negative Table.at Table.types Table.members Table.names Table.typesAt Table.kind Table.spare Table.field Table.memberType Table.mark Table.memberSpare Table.tag Table.takes Table.range Table.greatest Table.nameOf Table.orElse Table.faultAt Table.any Table.headerTests Table.headerRules Table.used Table.taken Table.noPart Table.noBase Table.alike Table.typeRules Table.sumRules Table.ownerOf Table.tagAlike Table.memberRules Table.pass Table.passes Table.faults Table.memberTy Table.memberTys Table.ownRows Table.allowed Table.rowTy Table.grow Table.tys Table.typeRows Table.trees Table.requiredsIn Table.optionalsIn Table.requiredMembers Table.optionalMembers Table.search Table.named Table.base Table.upward Table.climb Table.chain
+unfolding computed sample
 sample-means = record { fine = refl; trees = refl; required = refl; optional = refl; names = refl; named = refl; chains = refl }
 
 -- ---- one byte changed
@@ -104,17 +106,22 @@ pub record Change : Type 0 where
   pub class : ℕ
   pub place : ℕ
 
--- the sample with the byte changed
-pub changed : Change → List ℕ
-changed c = take (c .at) sample ++ (c .to ∷ drop (suc (c .at)) sample)
+-- a table with the byte changed
+unfoldable pub changed : List ℕ → Change → List ℕ
+changed T c = take (c .at) T ++ (c .to ∷ drop (suc (c .at)) T)
 
-abbrev change : ℕ → ℕ → ℕ → ℕ → Change
+-- the number and the place that the call for a table alone answers
+unfoldable pub told : List ℕ → List ℕ
+told T = Table.verdictNumbers (Table.tableVerdict (Table.faults T))
+
+abbrev pub change : ℕ → ℕ → ℕ → ℕ → Change
 change i v c p = record { at = i; to = v; class = c; place = p }
 
 pub changes : List Change
 changes =
     change 2 85 31 0  -- mark FGU
-    ∷ change 3 2 31 0  -- version 2
+    ∷ change 3 3 31 0  -- version 3
+    ∷ change 3 2 31 0  -- version 2, too short for its header and its rows
     ∷ change 4 1 31 0  -- version 257
     ∷ change 5 0 31 0  -- no types
     ∷ change 6 1 31 0  -- 273 types
@@ -150,30 +157,26 @@ changes =
     ∷ change 276 6 38 272  -- two optionals of an owner with one tag
     ∷ []
 
-pub changes-told : map (λ c. Table.verdictNumbers (Table.tableVerdict (Table.faults (changed c)))) changes ≡ map (λ c. c .class ∷ c .place ∷ []) changes
-unfolding sample changed changes Result.firstOf Result.sameBytes Number.val Number.negative Table.at Table.types Table.members Table.names Table.typesAt Table.kind Table.spare Table.field Table.memberType Table.mark Table.memberSpare Table.tag Table.takes Table.range Table.greatest Table.nameOf Table.orElse Table.faultAt Table.any Table.headerTests Table.headerRules Table.used Table.taken Table.noPart Table.noBase Table.alike Table.typeRules Table.sumRules Table.ownerOf Table.tagAlike Table.memberRules Table.pass Table.passes Table.faults Table.ruleNumber Table.tableVerdict Table.verdictNumbers
+pub changes-told : map (λ c. told (changed sample c)) changes ≡ map (λ c. c .class ∷ c .place ∷ []) changes
+unfolding computed sample changed told changes Table.tableVerdict Table.verdictNumbers
 changes-told = refl
 
 -- ---- two broken rules
 
--- the sample with two bytes changed
-pub changedTwice : Change → Change → List ℕ
-changedTwice c d = take (d .at) (changed c) ++ (d .to ∷ drop (suc (d .at)) (changed c))
-
 -- of two rows the first is named, whatever the classes: an enumerator too great, and the zero byte of the next row;
 -- of one row the first class: a member passed over, and an empty name
-pub first-told : (Table.faults (changedTwice (change 113 128 38 108) (change 121 1 32 120)) ≡ Table.fault 38 108) × (Table.faults (changedTwice (change 178 0 37 168) (change 170 3 35 168)) ≡ Table.fault 35 168)
-unfolding sample changed changedTwice Result.firstOf Result.sameBytes Number.val Number.negative Table.at Table.types Table.members Table.names Table.typesAt Table.kind Table.spare Table.field Table.memberType Table.mark Table.memberSpare Table.tag Table.takes Table.range Table.greatest Table.nameOf Table.orElse Table.faultAt Table.any Table.headerTests Table.headerRules Table.used Table.taken Table.noPart Table.noBase Table.alike Table.typeRules Table.sumRules Table.ownerOf Table.tagAlike Table.memberRules Table.pass Table.passes Table.faults
+pub first-told : (told (changed (changed sample (change 113 128 38 108)) (change 121 1 32 120)) ≡ 38 ∷ 108 ∷ []) × (told (changed (changed sample (change 178 0 37 168)) (change 170 3 35 168)) ≡ 35 ∷ 168 ∷ [])
+unfolding computed sample changed told Table.tableVerdict Table.verdictNumbers
 first-told = (refl, refl)
 
 -- ---- bytes left out
 
 -- cut off in the mark, in the header, after the header, before the last byte; and whole
 pub cuts-told : map (λ n. Table.faults (take n sample)) (0 ∷ 4 ∷ 11 ∷ 12 ∷ 295 ∷ 296 ∷ []) ≡ Table.fault 31 0 ∷ Table.fault 31 0 ∷ Table.fault 31 0 ∷ Table.fault 31 0 ∷ Table.fault 31 0 ∷ Table.fine ∷ []
-unfolding sample Result.firstOf Result.sameBytes Number.val Number.negative Table.at Table.types Table.members Table.names Table.typesAt Table.kind Table.spare Table.field Table.memberType Table.mark Table.memberSpare Table.tag Table.takes Table.range Table.greatest Table.nameOf Table.orElse Table.faultAt Table.any Table.headerTests Table.headerRules Table.used Table.taken Table.noPart Table.noBase Table.alike Table.typeRules Table.sumRules Table.ownerOf Table.tagAlike Table.memberRules Table.pass Table.passes Table.faults
+unfolding computed sample
 cuts-told = refl
 
 -- a zero byte that is not 0 is no part of the kind or of the mark before it
-pub zero-bytes-apart : (Table.kind (changed (change 13 1 32 12)) 0 ≡ 0) × (Table.mark (changed (change 219 1 32 216)) 0 ≡ 0)
-unfolding sample changed Number.val Table.at Table.types Table.typesAt Table.kind Table.mark
+pub zero-bytes-apart : (Table.kind (changed sample (change 13 1 32 12)) 0 ≡ 0) × (Table.mark (changed sample (change 219 1 32 216)) 0 ≡ 0)
+unfolding computed sample changed
 zero-bytes-apart = (refl, refl)

@@ -26,17 +26,25 @@ use lib.Dec.{leb}
 use borrow.Author.Tests.{leb-true, ne-eqb, lt-ltb, le-ltb}
 use Rattle.encoding.specs.Result.{pick}
 use Rattle.encoding.specs.Types.{short, int, long, float, double, Ty, nil, cons, broken, bool, byte, string, proxy, num, enum, struct, seq, dict}
-use Rattle.encoding.specs.Table.{types, typesAt, kind, field, members, memberType, allowed, range, memberTy, memberTys, ownRows, rowTy, grow, tys, typeRows, trees, tyOf, isRecord, base, upward, climb, chain}
+use Rattle.encoding.specs.Table.{withLists, types, typesAt, kind, field, members, memberType, allowed, range, memberTy, memberTys, ownRows, rowTy, grow, tys, typeRows, trees, tyOf, isRecord, base, upward, climb, chain}
 
 -- all that laws and proofs use of the header's length
 module _ (T : List ℕ) where
   pub header-least : 12 ≤ typesAt T
   unfolding typesAt
-  header-least = omega arith
+  header-least = go (withLists T)
+    where
+      go : (b : Bool) → 12 ≤ pick b 14 12
+      go true = omega arith
+      go false = omega arith
 
   pub header-most : typesAt T ≤ 64
   unfolding typesAt
-  header-most = omega arith
+  header-most = go (withLists T)
+    where
+      go : (b : Bool) → pick b 14 12 ≤ 64
+      go true = omega arith
+      go false = omega arith
 
 pub rows-below : (T : List ℕ) → typeRows T ≤ 256
 unfolding typeRows

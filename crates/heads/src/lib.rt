@@ -84,7 +84,7 @@ fn id_text(due: bool, s: &[u8]) -> Sized
 fn wrong_last(table: &[u8], t: usize, last: bool) -> bool
     ensures { λ r. ⌜ r ≡ wrongLast (now (table .entry)) t last ⌝ }
 {
-    last != (table::chain::base(table, t) == 0)
+    last != (table::chain::base(table, table::types_at(table), t) == 0)
 }
 
 // An ID before the first known slice. Unknown: skipped, or 15, or 16. Known: the top or below it, or 17.
@@ -121,7 +121,7 @@ fn other_id(table: &[u8], sliced: bool, t: usize, id: &[u8]) -> bool
     ensures { λ r. ⌜ r ≡ sliced && not (sameBytes (now (id .entry)) (nameOf (now (table .entry)) t)) ⌝ }
 {
     if sliced {
-        return !table::naming::is_named(table, t, id);
+        return !table::naming::is_named(table, table::types_at(table), t, id);
     }
     false
 }

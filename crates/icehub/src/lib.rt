@@ -35,7 +35,7 @@ fn rule_place(v: Verdict) -> u32
     }
 }
 
-// The check of a table by itself: 0, or the number of the first rule that it breaks, 31 to 38.
+// The check of a table by itself: 0, or the number of the first rule that it breaks, 31 to 39.
 // Wrong and ruled out: the rule's place in place of its number; 1 for every rule.
 #[no_mangle]
 pub extern "C" fn icehub_table(table: &[u8]) -> u32

@@ -5,7 +5,7 @@
 --
 --   ExactTable     a table breaks no rule exactly if it is valid, said by properties apart from the passes that look for a broken rule
 --   OneOwner       each member row of a valid table has exactly one owner, and no owner takes a row that is not there
---   TableFault     the number and the place of a broken rule: 31 to 38 by what is wrong with the first row that is not valid; its first byte, or 0
+--   TableFault     the number and the place of a broken rule: 31 to 39 by what is wrong with the first row that is not valid; its first byte, or 0
 --   ReaderRefuses  demand 1: each refusal of the reader has its number and place of document 01's table; every other number is 0 and no lent byte changes
 --   NumbersTold    the numbers of the public calls are those of the reader's answer
 --   Exact          demand 2, first sentence: a message is accepted exactly when it is the encoding of pieces that conform, and those are read
@@ -18,13 +18,16 @@
 --   Unambiguous    a message has one reading
 --   ExactCounts    the skip counts count what the rows leave out
 --   ExactValues    a value of a type is exactly a string of the grammar of values; ExactExtents: an extent is one of the grammar of extents
+--   TypesRise      the lists in the types of a valid table rise, which ExactValues asks for
+--   ExactEnums     a value of an enum is exactly the size of one of its enumerators, as the table lists them
+--   EqualSets      types agree exactly where their trees are equal: enums with equal sets, whatever the versions of the two tables
 --   ExactForms     an optional's form is the one that its type has, said apart from the equations
 --   Viewed         the member view: where it shows a part of the message, the fallback, nothing
 --   ReadBack       demand 2: what the writer makes is read as the members given; ReadBackReading of the reader's answer
 --   WriteAgain     demand 2: an accepted message with nothing skipped, written again in any format, is the encoding of its pieces in that format
 --   WriteSame      demand 2: in its own format, it is the same message
 --   OneMessage     demand 2: the members and their bytes, type and format fix the message
---   EarlyRefused   when the writer answers 31 to 38, 2, 23 or 3; the only other refusals are 20, 21 and 22
+--   EarlyRefused   when the writer answers 31 to 39, 2, 23 or 3; the only other refusals are 20, 21 and 22
 --   RightLists     when it answers 20, and where
 --   WrongBytes     when it answers 21, and where
 --   RightMakes     a right list makes exactly one message
@@ -51,9 +54,10 @@ use Rattle.encoding.specs.Number.{Bytes, val}
 use Rattle.encoding.specs.Types.{Ty, Form, formOf, Bits}
 use Rattle.encoding.specs.OptionalForm.{HasForm}
 use Rattle.encoding.specs.Value.{exact}
-use Rattle.encoding.specs.Grammar.{IsValue, IsExtent}
-use Rattle.encoding.specs.Table.{types, fine, faults, memberTy, trees, named, any, chain, range, kind, field, fault, members, Member, lookup}
+use Rattle.encoding.specs.Grammar.{IsSize, IsValue, ListsRise, IsExtent}
+use Rattle.encoding.specs.Table.{types, fine, faults, memberTy, trees, tyOf, named, any, chain, range, kind, field, fault, members, Member, lookup}
 use Rattle.encoding.specs.Valid.{Owner, Valid, FirstBroken}
+use Rattle.encoding.specs.Agree.{Enumerator, Agree}
 use Rattle.encoding.specs.Table
 use Rattle.encoding.specs.Optional.{Piece, required, optional, skipped, extent}
 use Rattle.encoding.specs.Slice.{Format, compact, sliced, formatNumber, Slice, known, passed, idOf}
@@ -85,7 +89,7 @@ TableFault = (T : List ℕ) (c p : ℕ) → (faults T ≡ fault c p → FirstBro
 abbrev pub readAs : Format → Pieces → Read
 readAs f p = record { format = f; pieces = p }
 
--- 31 to 38, 2 and 3 have nothing to refuse
+-- 31 to 39, 2 and 3 have nothing to refuse
 pub record Admissible (T : List ℕ) (top : ℕ) (m : List ℕ) : Type 0 where
   pub table : faults T ≡ fine
   pub top-there : noTop T top ≡ false
@@ -97,7 +101,7 @@ pub record Sized (T : List ℕ) (top : ℕ) (m : List ℕ) : Type 0 where
   pub least : 6 ≤ length m
   pub size : val (take 4 m) ≡ length m
 
--- a refusal by the rules, its number and its place: 31 to 38, 2 to 6 in their order, then what the encapsulation holds
+-- a refusal by the rules, its number and its place: 31 to 39, 2 to 6 in their order, then what the encapsulation holds
 pub data Refusal (T : List ℕ) (top : ℕ) (m : List ℕ) : ℕ → ℕ → Type 0 where
   broken-table : {c p : ℕ} → FirstBroken T c p → Refusal T top m c p
   no-top : faults T ≡ fine → noTop T top ≡ true → Refusal T top m 2 0
@@ -285,9 +289,24 @@ ExactCounts =
     (T : List ℕ) (top : ℕ) (m : List ℕ) (f : Format) (p : Pieces) (n : ℕ) → Bytes m → rules T top m ≡ ok (readAs f p) n
     → (length (rows T top f p) + optionalsSkipped p ≡ memberCount p) × (knownCount T top p + slicesSkipped p ≡ sliceCount p)
 
--- a value is what the grammar says, no more and no less
+-- a value is what the grammar says, no more and no less; a list of allowed enumerators that does not rise is none of a valid table
 abbrev pub ExactValues : Type 0
-ExactValues = (t : Ty) (b : List ℕ) → (exact t b ≡ true → IsValue t b) × (IsValue t b → exact t b ≡ true)
+ExactValues = (t : Ty) → ListsRise t → (b : List ℕ) → (exact t b ≡ true → IsValue t b) × (IsValue t b → exact t b ≡ true)
+
+abbrev pub TypesRise : Type 0
+TypesRise = (T : List ℕ) → Valid T → (t : ℕ) → ListsRise (tyOf T t)
+
+-- Rules out an enumerator between two entries of a list.
+abbrev pub ExactEnums : Type 0
+ExactEnums =
+    (T : List ℕ) → Valid T → (t : ℕ) → t < types T → kind T t ≡ 8 → (b : List ℕ)
+    → (exact (tyOf T t) b ≡ true → (n : ℕ) × Enumerator T t n × IsSize n b) × ((n : ℕ) → Enumerator T t n → IsSize n b → exact (tyOf T t) b ≡ true)
+
+-- Rules out a list of all up to its last that is another type than version 1 has for the same set.
+abbrev pub EqualSets : Type 0
+EqualSets =
+    (T U : List ℕ) → Valid T → Valid U → (t u : ℕ) → t < types T → u < types U → kind T t ≤ 12 → kind U u ≤ 12
+    → (Agree T U t u → tyOf T t ≡ tyOf U u) × (tyOf T t ≡ tyOf U u → Agree T U t u)
 
 -- so is what an optional declares, by the type in its header
 abbrev pub ExactExtents : Type 0
@@ -437,7 +456,7 @@ pub data Early (T : List ℕ) (type format : ℕ) (buffer : List ℕ) : (number 
   format-refused : faults T ≡ fine → noTop T type ≡ false → noFormat (kind T type) format ≡ true → Early T type format buffer 23 0
   buffer-refused : faults T ≡ fine → noTop T type ≡ false → noFormat (kind T type) format ≡ false → limit < length buffer → Early T type format buffer 3 0
 
--- 31 to 38, 2, 23 and 3 come exactly where the table, the type, the format or the buffer is refused, and no other number but 20, 21 and 22 comes
+-- 31 to 39, 2, 23 and 3 come exactly where the table, the type, the format or the buffer is refused, and no other number but 20, 21 and 22 comes
 abbrev pub EarlyRefused : Type 0
 EarlyRefused =
     (T : List ℕ) (type format count : ℕ) (rs buffer : List ℕ) (room n i : ℕ)

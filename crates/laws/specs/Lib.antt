@@ -1,6 +1,8 @@
 -- The laws of reading and writing: `Demands` states the promises, `Promises` has them with their proofs.
 pub mod Demands
 pub mod TableExact
+pub mod SetsExact
+pub mod TypesAgree
 pub mod RowsExact
 pub mod CountsExact
 pub mod RowsMost

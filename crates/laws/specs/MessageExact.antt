@@ -18,7 +18,7 @@ use Rattle.encoding.specs.Result.{ok, Parser, pick, shift, _>>=_, must, mapc}
 use Rattle.encoding.specs.ResultLaws.{either-false, pick-ok, pick-true, Bound, bind-ok, bind-step, bind-take, must-ok, must-step, mapc-ok, mapc-step, held-took}
 use Rattle.encoding.specs.Number.{Bytes, Short, byte, number, leBytes}
 use Rattle.encoding.specs.NumberLaws.{bytes-drop, byte-written, byte-canonical, number-canonical}
-use Rattle.encoding.specs.Table.{kind}
+use Rattle.encoding.specs.Table.{kind, fine, faults}
 use Rattle.encoding.specs.RuleLaws.{kind-known}
 use Rattle.encoding.specs.Slice.{Format, sliced, Chain, slices, first, slicesBytes}
 use Rattle.encoding.specs.Message.{Pieces, list, exception, class, Read, encode, encapsulate, parameters, markerForm, contents, outerForm, versionForm, ended, body, rules}
@@ -36,7 +36,7 @@ use Rattle.laws.specs.SliceExact.{slices-written, slices-canonical}
 abbrev Right : List ℕ → ℕ → List ℕ → Read → Type 0
 Right T top z r = Conform T top (r .format) (r .pieces) × (z ≡ encode (r .format) (r .pieces))
 
-module _ (T : List ℕ) (top : ℕ) where
+module _ (T : List ℕ) (right : faults T ≡ fine) (top : ℕ) where
   abbrev listP : Parser Read
   listP = mapc (λ ps _. readAs sliced (list ps)) (parameters T top)
 
@@ -59,7 +59,7 @@ module _ (T : List ℕ) (top : ℕ) where
           let C = byte-canonical xs (M .0) in
           let one : B .fst ≡ 1 = eqb-true (B .fst) 1 (pick-true (eqb (B .fst) 1) 12 (M .1)) in
           let N = mapc-ok (slices T top) (drop (B .n) xs) (λ (c : Chain) _. readAs (c .format) (class (c .list))) (B .next) in
-          let S = slices-canonical T top (drop (B .n) xs) (bytes-drop (B .n) xs y) (omega (arith, length-drop (B .n) xs)) (N .1) in
+          let S = slices-canonical T top right (drop (B .n) xs) (bytes-drop (B .n) xs y) (omega (arith, length-drop (B .n) xs)) (N .1) in
           subst (Right T top (take n xs)) (sym (N .2)) ((k, S .0), bind-take (must markerForm byte) next xs B ∙ ap₂ _++_ (C .0 ∙ ap (λ (b : ℕ). b ∷ []) one) (S .1))
 
   pub contents-canonical : (xs : List ℕ) → Bytes xs → Short (length xs) → 13 ≤ kind T top → kind T top ≤ 15 → {r : Read} {n : ℕ} → contents T top xs ≡ ok r n → Right T top (take n xs) r
@@ -69,26 +69,26 @@ module _ (T : List ℕ) (top : ℕ) where
       go : (a : Bool) → eqb (kind T top) 15 ≡ a → (b : Bool) → eqb (kind T top) 14 ≡ b → pick a listP (pick b classP exceptionP) xs ≡ ok r n → Right T top (take n xs) r
       go true e b f h =
           let M = mapc-ok (parameters T top) xs (λ ps _. readAs sliced (list ps)) h in
-          let P = parameters-canonical T top xs y sh (M .1) in
+          let P = parameters-canonical T right top xs y sh (M .1) in
           subst (Right T top (take n xs)) (sym (M .2)) ((eqb-true (kind T top) 15 e, refl, P .0), P .1)
       go false e true f h = class-canonical xs y sh (eqb-true (kind T top) 14 f) h
       go false e false f h =
           let M = mapc-ok (slices T top) xs (λ (c : Chain) _. readAs (c .format) (exception (c .list))) h in
-          let S = slices-canonical T top xs y sh (M .1) in
+          let S = slices-canonical T top right xs y sh (M .1) in
           let k : kind T top ≡ 13 = omega (arith, eqb-false (kind T top) 15 e, eqb-false (kind T top) 14 f) in
           subst (Right T top (take n xs)) (sym (M .2)) ((k, S .0), S .1)
 
   pub contents-written : (f : Format) (p : Pieces) → Conform T top f p → Short (length (encode f p)) → contents T top (encode f p) ≡ ok (readAs f p) (length (encode f p))
   unfolding contents encode markerForm
   contents-written f (list ps) C sh =
-      rw (C .0, C .1) (mapc-step (parameters T top) _ (λ ps _. readAs sliced (list ps)) (parameters-written T top ps (C .2)))
+      rw (C .0, C .1) (mapc-step (parameters T top) _ (λ ps _. readAs sliced (list ps)) (parameters-written T right top ps (C .2)))
   contents-written f (exception ss) C sh =
-      rw (C .0) (mapc-step (slices T top) _ (λ (c : Chain) _. readAs (c .format) (exception (c .list))) (rw append-nil at (slices-written T top f ss [] (C .1) sh)))
+      rw (C .0) (mapc-step (slices T top) _ (λ (c : Chain) _. readAs (c .format) (exception (c .list))) (rw append-nil at (slices-written T top right f ss [] (C .1) sh)))
   contents-written f (class ss) C sh =
       let w : List ℕ = slicesBytes f first ss in
       rw (C .0) (bind-step (must markerForm byte) (λ _. mapc (λ (c : Chain) _. readAs (c .format) (class (c .list))) (slices T top)) (1 ∷ w)
       (must-step byte (1 ∷ w) markerForm (byte-written 1 w) refl)
-      (mapc-step (slices T top) w (λ (c : Chain) _. readAs (c .format) (class (c .list))) (rw append-nil at (slices-written T top f ss [] (C .1) (omega arith))))
+      (mapc-step (slices T top) w (λ (c : Chain) _. readAs (c .format) (class (c .list))) (rw append-nil at (slices-written T top right f ss [] (C .1) (omega arith))))
       ∙ ap (ok (readAs f (class ss))) (omega arith))
 
   -- ---- the encapsulation
@@ -160,7 +160,7 @@ module _ (T : List ℕ) (top : ℕ) where
 pub rules-written : (T : List ℕ) (top : ℕ) (m : List ℕ) (f : Format) (p : Pieces) → Follows T top m f p → rules T top m ≡ ok (readAs f p) (length m)
 rules-written T top m f p F =
     let b : body T top m ≡ ok (readAs f p) (length m) =
-    subst (λ (z : List ℕ). Short (length z) → body T top z ≡ ok (readAs f p) (length z)) (sym (F .encoded)) (body-written T top f p (F .conforms)) (omega (arith, F .short)) in
+    subst (λ (z : List ℕ). Short (length z) → body T top z ≡ ok (readAs f p) (length z)) (sym (F .encoded)) (body-written T (sound T (F .table)) top f p (F .conforms)) (omega (arith, F .short)) in
     rules-step T top m (record { table = sound T (F .table); top-right = F .top-there; short = F .short; read = b })
 
 pub exact-message : Exact
@@ -170,7 +170,7 @@ exact-message T top m f p n y = (read, rules-written T top m f p)
     read h =
         let A = rules-ok T top m h in
         let t = top-there T top (A .top-right) in
-        let B = body-canonical T top m y (omega (arith, A .short)) (t .1) (kind-known T (A .table) top (t .0)) (A .read) in
+        let B = body-canonical T (A .table) top m y (omega (arith, A .short)) (t .1) (kind-known T (A .table) top (t .0)) (A .read) in
         (record { table = valid T (A .table); top-there = A .top-right; short = A .short; conforms = B .0; encoded = B .1 }, B .2)
 
 pub exact-rows : ExactRows

@@ -57,7 +57,7 @@ module _ (old new : List ℕ) (X : Extends old new) (top top′ : ℕ) where
     S .kinds ∙ C .0,
     slices-newer old new X top top′ (pair-of old new X top top′ l S) ss g first (C .1) (omega (arith, h)) (else-sliced (λ f. Foreign old f (class ss) 8) a-class g (fit 8)),
   )
-  conform-newer (as-lists l l′ k k′ M) g (list ps) C h fit = (k, C .1, owned-newer old new top top′ M ps (C .2))
+  conform-newer (as-lists l l′ k k′ M) g (list ps) C h fit = (k, C .1, owned-newer old new (X .new-right) top top′ M ps (C .2))
   conform-newer (as-lists l l′ k k′ M) g (exception ss) C h fit = absurd (omega (arith, k′, C .0))
   conform-newer (as-lists l l′ k k′ M) g (class ss) C h fit = absurd (omega (arith, k′, C .0))
 

@@ -30,7 +30,7 @@ use Rattle.encoding.specs.Types
 use Rattle.encoding.specs.TypesLaws.{bits-below, bits-back, bits-there}
 use Rattle.encoding.specs.Value.{value}
 use Rattle.encoding.specs.ValueLaws.{framed-value, exact-ok, exact-step, eats-value}
-use Rattle.encoding.specs.Table.{Member, lookup}
+use Rattle.encoding.specs.Table.{Member, lookup, fine, faults}
 use Rattle.encoding.specs.Table
 use Rattle.encoding.specs.Optional.{Piece, required, optional, skipped, Header, firstForm, headerTail, wrongType, headerForm, header, extent, part, content, nextOptional, optionals, requireds, headerBytes, lengthBytes, frontBytes, contentBytes, pieceBytes, isOptional}
 use Rattle.encoding.specs.OptionalLaws.{framed-extent, Sound, held-content, held-header, eats-optional, formOf-sound, part-canonical}
@@ -38,9 +38,10 @@ use Rattle.encoding.specs.Slice
 use Rattle.encoding.specs.Slice.{dataBytes, anyOptional, someForm, fields}
 use Rattle.encoding.specs.SliceLaws.{someForm-ok, someForm-step}
 use Rattle.encoding.specs.Message.{parameters}
-use Rattle.encoding.specs.Grammar.{IsValue, IsExtent}
+use Rattle.encoding.specs.Grammar.{IsValue, IsExtent, ListsRise}
 use Rattle.encoding.specs.OptionalFormLaws.{form-has, is-form}
 use Rattle.encoding.specs.Conform.{Known, Unknown, Level, Owned}
+use Rattle.encoding.specs.ListLaws.{MembersRise, found-rises, required-rise, optional-rise}
 use Rattle.encoding.specs.ExactLaws.{takes-value, exact-is, is-exact, takes-extent}
 
 -- ---- headers
@@ -221,17 +222,17 @@ fit-written sized b r h s =
     rw zero-add at w ∙ ap (ok b) (omega (arith, length-append (leBytes 4 (length b)) b, length-leBytes 4 (length b)))
 
 -- a value after its length, or bare, is its part
-pub part-written : (t : Ty) (b r : List ℕ) → IsValue t b → Short (length b) → part (formOf t) (lengthBytes (formOf t) b ++ b ++ r) ≡ ok b (length (lengthBytes (formOf t) b ++ b))
-part-written t b r w s = fit-written (formOf t) b r (value-fits t b (exact-ok t b (is-exact t b w))) s
+pub part-written : (t : Ty) → ListsRise t → (b r : List ℕ) → IsValue t b → Short (length b) → part (formOf t) (lengthBytes (formOf t) b ++ b ++ r) ≡ ok b (length (lengthBytes (formOf t) b ++ b))
+part-written t R b r w s = fit-written (formOf t) b r (value-fits t b (exact-ok t b (is-exact t R b w))) s
 
 -- the bytes of a value that was read are one
-value-taken : (t : Ty) (xs : List ℕ) {b : List ℕ} {n : ℕ} → bytes (value t) xs ≡ ok b n → (b ≡ take n xs) × IsValue t b
-value-taken t xs {b} {n} h =
+value-taken : (t : Ty) → ListsRise t → (xs : List ℕ) {b : List ℕ} {n : ℕ} → bytes (value t) xs ≡ ok b n → (b ≡ take n xs) × IsValue t b
+value-taken t R xs {b} {n} h =
     let W = bytes-ok (value t) xs h in
-    (W .2, subst (IsValue t) (sym (W .2)) (takes-value t .canonical xs tt n (W .1)))
+    (W .2, subst (IsValue t) (sym (W .2)) (takes-value t R .canonical xs tt n (W .1)))
 
-value-written : (t : Ty) (b r : List ℕ) → IsValue t b → bytes (value t) (b ++ r) ≡ ok b (length b)
-value-written t b r w = bytes-step (value t) (b ++ r) (takes-value t .written tt b w r) ∙ ap (λ (y : List ℕ). ok y (length b)) (take-at b r (length b) refl)
+value-written : (t : Ty) → ListsRise t → (b r : List ℕ) → IsValue t b → bytes (value t) (b ++ r) ≡ ok b (length b)
+value-written t R b r w = bytes-step (value t) (b ++ r) (takes-value t R .written tt b w r) ∙ ap (λ (y : List ℕ). ok y (length b)) (take-at b r (length b) refl)
 
 -- ---- an optional
 
@@ -274,13 +275,16 @@ extent-type class b w = absurd w
 abbrev continue : List Member → Header → Parser (Piece × ℕ)
 continue ms h = mapc (λ p _. (p, suc (h .tag))) (content (lookup (h .tag) ms) h)
 
-known-written : (ms : List Member) (least t : ℕ) (f : Form) (b r : List ℕ) → Known ms least t f b
+known-written : (ms : List Member) → MembersRise ms → (least t : ℕ) (f : Form) (b r : List ℕ) → Known ms least t f b
     → nextOptional ms least (pieceBytes (optional t f b) ++ r) ≡ ok (optional t f b, suc t) (length (pieceBytes (optional t f b)))
 unfolding nextOptional pieceBytes frontBytes contentBytes content headerOf wrongType
-known-written ms least t f b r K = rw (sym (is-form (K .form)), append-assoc hb (lengthBytes g b) b) (bind-written (header ms least) (continue ms) hb w r first next)
+known-written ms R least t f b r K = rw (sym (is-form (K .form)), append-assoc hb (lengthBytes g b) b) (bind-written (header ms least) (continue ms) hb w r first next)
   where
     g : Form
     g = formOf (K .member .ty)
+
+    rises : ListsRise (K .member .ty)
+    rises = found-rises t ms (K .member) R (K .found)
 
     hb : List ℕ
     hb = headerBytes t (bitsOf g)
@@ -295,13 +299,13 @@ known-written ms least t f b r K = rw (sym (is-form (K .form)), append-assoc hb 
     first = header-written ms least t (bitsOf g) (w ++ r) (K .tag-short) (K .rises) (form-type (K .member .ty)) typed
 
     one : bytes (value (K .member .ty)) b ≡ ok b (length b)
-    one = rw append-nil at (value-written (K .member .ty) b [] (K .one))
+    one = rw append-nil at (value-written (K .member .ty) rises b [] (K .one))
 
     next : continue ms (headerOf t (bitsOf g)) (w ++ r) ≡ ok (optional t g b, suc t) (length w)
     next =
         mapc-step _ (w ++ r) (λ p _. (p, suc t))
         (rw (K .found) (mapc-step _ (w ++ r) (λ b _. optional t g b)
-        (inside-step (part g) (bytes (value (K .member .ty))) (w ++ r) (part-written (K .member .ty) b r (K .one) (K .length-short)) one)))
+        (inside-step (part g) (bytes (value (K .member .ty))) (w ++ r) (part-written (K .member .ty) rises b r (K .one) (K .length-short)) one)))
 
 unknown-written : (ms : List Member) (least t : ℕ) (k : Bits) (b r : List ℕ) → Unknown ms least t k b
     → nextOptional ms least (pieceBytes (skipped t k b) ++ r) ≡ ok (skipped t k b, suc t) (length (pieceBytes (skipped t k b)))
@@ -320,21 +324,21 @@ unknown-written ms least t k b r K = bind-written (header ms least) (continue ms
         (rw (K .absent) (mapc-step _ (b ++ r) (λ b _. skipped t k b)
         (bytes-step (extent k) (b ++ r) (mapc-ok (extent k) (b ++ r) (λ _ _. tt) (takes-extent k .written tt b (K .whole) r) .1) ∙ ap (λ (y : List ℕ). ok y (length b)) (take-at b r (length b) refl))))
 
-pub optional-written : {ms : List Member} {least : ℕ} {p : Piece} {s : ℕ} → Told ms least p s → (r : List ℕ) → nextOptional ms least (pieceBytes p ++ r) ≡ ok (p, s) (length (pieceBytes p))
-optional-written {ms = ms} {least = least} (known {t = t} {f = f} {b = b} K) r = known-written ms least t f b r K
-optional-written {ms = ms} {least = least} (unknown {t = t} {k = k} {b = b} K) r = unknown-written ms least t k b r K
+pub optional-written : {ms : List Member} → MembersRise ms → {least : ℕ} {p : Piece} {s : ℕ} → Told ms least p s → (r : List ℕ) → nextOptional ms least (pieceBytes p ++ r) ≡ ok (p, s) (length (pieceBytes p))
+optional-written {ms = ms} R {least = least} (known {t = t} {f = f} {b = b} K) r = known-written ms R least t f b r K
+optional-written {ms = ms} R {least = least} (unknown {t = t} {k = k} {b = b} K) r = unknown-written ms least t k b r K
 
 -- a known value uses up its part
-known-content : (m : Member) (h : Header) (xs : List ℕ) → Bytes xs → {p : Piece} {n : ℕ} → content (some m) h xs ≡ ok p n
+known-content : (m : Member) → ListsRise (m .ty) → (h : Header) (xs : List ℕ) → Bytes xs → {p : Piece} {n : ℕ} → content (some m) h xs ≡ ok p n
     → (b : List ℕ) × (p ≡ optional (h .tag) (formOf (m .ty)) b) × IsValue (m .ty) b × (take n xs ≡ lengthBytes (formOf (m .ty)) b ++ b)
 unfolding content
-known-content m h xs y e =
+known-content m R h xs y e =
     let M = mapc-ok _ xs (λ b _. optional (h .tag) (formOf (m .ty)) b) e in
     let E = inside-ok (part (formOf (m .ty))) (bytes (value (m .ty))) xs (M .1) in
     let W = bytes-ok (value (m .ty)) (E .part) (E .inner) in (
       E .part,
       M .2 ∙ ap (optional (h .tag) (formOf (m .ty))) (W .2 ∙ take-length (E .part)),
-      exact-is (m .ty) (E .part) (exact-step (m .ty) (E .part) (W .1)),
+      exact-is (m .ty) R (E .part) (exact-step (m .ty) (E .part) (W .1)),
       part-canonical (formOf (m .ty)) (formOf-sound (m .ty)) xs y (E .outer),
     )
 
@@ -361,10 +365,10 @@ end-short xs l b n h s e = omega (arith, sym (ap length e) ∙ length-take-le n 
 abbrev Good : List Member → ℕ → List ℕ → Piece × ℕ → Type 0
 Good ms least z r = Told ms least (r .0) (r .1) × (z ≡ pieceBytes (r .0))
 
-pub optional-canonical : (ms : List Member) (least : ℕ) (xs : List ℕ) → Bytes xs → Short (length xs) → {p : Piece} {s n : ℕ}
+pub optional-canonical : (ms : List Member) → MembersRise ms → (least : ℕ) (xs : List ℕ) → Bytes xs → Short (length xs) → {p : Piece} {s n : ℕ}
     → nextOptional ms least xs ≡ ok (p, s) n → Told ms least p s × (take n xs ≡ pieceBytes p)
 unfolding nextOptional pieceBytes frontBytes contentBytes
-optional-canonical ms least xs y sh {p} {s} {n} e = top (bind-ok (header ms least) (continue ms) xs e)
+optional-canonical ms R least xs y sh {p} {s} {n} e = top (bind-ok (header ms least) (continue ms) xs e)
   where
     go : (h : Header) (k m : ℕ) (q : Piece) → Headed ms least xs h k → k ≤ length xs → (o : Option Member) → lookup (h .tag) ms ≡ o
         → content o h (drop k xs) ≡ ok q m → Good ms least (take k xs ++ take m (drop k xs)) (q, suc (h .tag))
@@ -375,7 +379,7 @@ optional-canonical ms least xs y sh {p} {s} {n} e = top (bind-ok (header ms leas
         (unknown (record { absent = eo; rises = H .rises; whole = C .1; tag-short = H .short }), ap (λ (z : List ℕ). z ++ take m ys) (H .spelt))
     go h k m q H l (some a) eo e =
         let ys : List ℕ = drop k xs in
-        let C = known-content a h ys (bytes-drop k xs y) e in
+        let C = known-content a (found-rises (h .tag) ms a R eo) h ys (bytes-drop k xs y) e in
         let b : List ℕ = C .0 in
         let f : Form = formOf (a .ty) in
         let ty : h .type ≡ bitsOf f = right-type (h .type) a (subst (λ (z : Option Member). wrongType (h .type) z ≡ false) eo (H .typed)) in
@@ -450,19 +454,19 @@ level-none os least (required i b ∷ ps) L e = absurd L
 level-none os least (optional t f b ∷ ps) L e = absurd (true≢false e)
 level-none os least (skipped t k b ∷ ps) L e = absurd (true≢false e)
 
-run-canonical : (stop : List ℕ → Option ℕ) (close : List ℕ) → Closes stop close → (ms : List Member) {f s : ℕ} {xs : List ℕ} {ps : List Piece} {n : ℕ}
+run-canonical : (stop : List ℕ → Option ℕ) (close : List ℕ) → Closes stop close → (ms : List Member) → MembersRise ms → {f s : ℕ} {xs : List ℕ} {ps : List Piece} {n : ℕ}
     → Run stop (nextOptional ms) f s xs ps n → Bytes xs → Short (length xs) → Level [] ms s ps × (take n xs ≡ concat pieceBytes ps ++ close)
 unfolding concat
-run-canonical stop close C ms (end {xs = xs} {k = k} e) y sh = (tt, C xs k e)
-run-canonical stop close C ms (step {s = s} {xs = xs} {a = a} {s′ = s′} {n = n} {l = l} {m = m} e h r) y sh =
-    let O = optional-canonical ms s xs y sh h in
-    let ih = run-canonical stop close C ms r (bytes-drop n xs y) (omega (arith, length-drop n xs)) in
+run-canonical stop close C ms R (end {xs = xs} {k = k} e) y sh = (tt, C xs k e)
+run-canonical stop close C ms R (step {s = s} {xs = xs} {a = a} {s′ = s′} {n = n} {l = l} {m = m} e h r) y sh =
+    let O = optional-canonical ms R s xs y sh h in
+    let ih = run-canonical stop close C ms R r (bytes-drop n xs y) (omega (arith, length-drop n xs)) in
     (told-level (O .0) l (ih .0), take-add n m xs ∙ ap₂ _++_ (O .1) (ih .1) ∙ sym (append-assoc (pieceBytes a) (concat pieceBytes l) close))
 
-pub optionals-canonical : (stop : List ℕ → Option ℕ) (close : List ℕ) → Closes stop close → (ms : List Member) (xs : List ℕ) → Bytes xs → Short (length xs) → {ps : List Piece} {n : ℕ}
+pub optionals-canonical : (stop : List ℕ → Option ℕ) (close : List ℕ) → Closes stop close → (ms : List Member) → MembersRise ms → (xs : List ℕ) → Bytes xs → Short (length xs) → {ps : List Piece} {n : ℕ}
     → optionals stop ms xs ≡ ok ps n → Level [] ms 0 ps × (take n xs ≡ concat pieceBytes ps ++ close)
 unfolding optionals
-optionals-canonical stop close C ms xs y sh h = run-canonical stop close C ms (run-of stop (nextOptional ms) (length xs) 0 xs h) y sh
+optionals-canonical stop close C ms R xs y sh h = run-canonical stop close C ms R (run-of stop (nextOptional ms) (length xs) 0 xs h) y sh
 
 -- a header is where no stop is
 abbrev pub Opens : (List ℕ → Option ℕ) → Type 0
@@ -491,29 +495,29 @@ told-opens stop O (known {t = t} {f = f} {b = b} K) r =
 told-opens stop O (unknown {t = t} {k = k} {b = b} K) r = ap stop (append-assoc (headerBytes t k) b r) ∙ O t k (b ++ r)
 
 -- one more optional before the others
-run-step : (stop : List ℕ → Option ℕ) → Opens stop → (ms : List Member) (r : List ℕ) (k least s : ℕ) (p : Piece) (ps : List Piece) → Told ms least p s
+run-step : (stop : List ℕ → Option ℕ) → Opens stop → (ms : List Member) → MembersRise ms → (r : List ℕ) (k least s : ℕ) (p : Piece) (ps : List Piece) → Told ms least p s
     → Run stop (nextOptional ms) (length ps) s (concat pieceBytes ps ++ r) ps (length (concat pieceBytes ps) + k)
     → Run stop (nextOptional ms) (length (p ∷ ps)) least (concat pieceBytes (p ∷ ps) ++ r) (p ∷ ps) (length (concat pieceBytes (p ∷ ps)) + k)
 unfolding concat
-run-step stop O ms r k least s p ps t ih =
+run-step stop O ms R r k least s p ps t ih =
     let w : List ℕ = concat pieceBytes ps in
     let l : length (pieceBytes p ++ w) + k ≡ length (pieceBytes p) + (length w + k) = omega (arith, length-append (pieceBytes p) w) in
     let tail : Run stop (nextOptional ms) (length ps) s (drop (length (pieceBytes p)) (pieceBytes p ++ (w ++ r))) ps (length w + k) = rw (drop-at (pieceBytes p) (w ++ r) (length (pieceBytes p)) refl) ih in
-    rw (append-assoc (pieceBytes p) w r, l) (step (told-opens stop O t (w ++ r)) (optional-written t (w ++ r)) tail)
+    rw (append-assoc (pieceBytes p) w r, l) (step (told-opens stop O t (w ++ r)) (optional-written R t (w ++ r)) tail)
 
-run-written : (stop : List ℕ → Option ℕ) → Opens stop → (ms : List Member) (r : List ℕ) (k : ℕ) → stop r ≡ some k → (ps : List Piece) (least : ℕ) → Level [] ms least ps
+run-written : (stop : List ℕ → Option ℕ) → Opens stop → (ms : List Member) → MembersRise ms → (r : List ℕ) (k : ℕ) → stop r ≡ some k → (ps : List Piece) (least : ℕ) → Level [] ms least ps
     → Run stop (nextOptional ms) (length ps) least (concat pieceBytes ps ++ r) ps (length (concat pieceBytes ps) + k)
 unfolding concat
-run-written stop O ms r k e [] least L = rw zero-add (end e)
-run-written stop O ms r k e (required i b ∷ ps) least L = absurd L
-run-written stop O ms r k e (optional t f b ∷ ps) least L = run-step stop O ms r k least (suc t) (optional t f b) ps (known (L .0)) (run-written stop O ms r k e ps (suc t) (L .1))
-run-written stop O ms r k e (skipped t i b ∷ ps) least L = run-step stop O ms r k least (suc t) (skipped t i b) ps (unknown (L .0)) (run-written stop O ms r k e ps (suc t) (L .1))
+run-written stop O ms R r k e [] least L = rw zero-add (end e)
+run-written stop O ms R r k e (required i b ∷ ps) least L = absurd L
+run-written stop O ms R r k e (optional t f b ∷ ps) least L = run-step stop O ms R r k least (suc t) (optional t f b) ps (known (L .0)) (run-written stop O ms R r k e ps (suc t) (L .1))
+run-written stop O ms R r k e (skipped t i b ∷ ps) least L = run-step stop O ms R r k least (suc t) (skipped t i b) ps (unknown (L .0)) (run-written stop O ms R r k e ps (suc t) (L .1))
 
-pub optionals-written : (stop : List ℕ → Option ℕ) → Opens stop → (ms : List Member) (ps : List Piece) (r : List ℕ) (k : ℕ) → stop r ≡ some k → k ≤ length r → Level [] ms 0 ps
+pub optionals-written : (stop : List ℕ → Option ℕ) → Opens stop → (ms : List Member) → MembersRise ms → (ps : List Piece) (r : List ℕ) (k : ℕ) → stop r ≡ some k → k ≤ length r → Level [] ms 0 ps
     → optionals stop ms (concat pieceBytes ps ++ r) ≡ ok ps (length (concat pieceBytes ps) + k)
 unfolding optionals
-optionals-written stop O ms ps r k e l L =
-    of-run stop (nextOptional ms) (run-fuel stop (nextOptional ms) (eats-optional ms) (run-written stop O ms r k e ps 0 L) (length (concat pieceBytes ps ++ r)) (omega (arith, length-append (concat pieceBytes ps) r)))
+optionals-written stop O ms R ps r k e l L =
+    of-run stop (nextOptional ms) (run-fuel stop (nextOptional ms) (eats-optional ms) (run-written stop O ms R r k e ps 0 L) (length (concat pieceBytes ps ++ r)) (omega (arith, length-append (concat pieceBytes ps) r)))
 
 -- ---- required members
 
@@ -528,12 +532,12 @@ pub record Front (ms : List Member) (a : List Piece) (z : List ℕ) : Type 0 whe
   pub none : anyOptional a ≡ false
   pub level : (os : List Member) (qs : List Piece) → Level [] os 0 qs → Level ms os 0 (a ++ qs)
 
-pub requireds-canonical : (ms : List Member) (xs : List ℕ) {a : List Piece} {n : ℕ} → requireds ms xs ≡ ok a n → Front ms a (take n xs)
+pub requireds-canonical : (ms : List Member) → MembersRise ms → (xs : List ℕ) {a : List Piece} {n : ℕ} → requireds ms xs ≡ ok a n → Front ms a (take n xs)
 unfolding requireds concat anyOptional isOptional pieceBytes frontBytes contentBytes
-requireds-canonical [] xs {a} {n} h =
+requireds-canonical [] R xs {a} {n} h =
     let P = pure-ok [] xs h in
     rw (P .0, P .1) (record { spelt = refl; none = refl; level = λ os qs L. L })
-requireds-canonical (m ∷ ms) xs {a} {n} h = go (bind-ok (bytes (value (m .ty))) next xs h) (λ ys b k e. requireds-canonical ms ys {a = b} {n = k} e)
+requireds-canonical (m ∷ ms) R xs {a} {n} h = go (bind-ok (bytes (value (m .ty))) next xs h) (λ ys b k e. requireds-canonical ms (R .1) ys {a = b} {n = k} e)
   where
     next : List ℕ → Parser (List Piece)
     next b = mapc (λ ps _. required (m .key) b ∷ ps) (requireds ms)
@@ -541,7 +545,7 @@ requireds-canonical (m ∷ ms) xs {a} {n} h = go (bind-ok (bytes (value (m .ty))
     go : Bound (bytes (value (m .ty))) next xs a n → ((ys : List ℕ) (b : List Piece) (k : ℕ) → requireds ms ys ≡ ok b k → Front ms b (take k ys)) → Front (m ∷ ms) a (take n xs)
     go B ih =
         let M = mapc-ok (requireds ms) (drop (B .n) xs) (λ ps _. required (m .key) (B .fst) ∷ ps) (B .next) in
-        let W = value-taken (m .ty) xs (B .first) in
+        let W = value-taken (m .ty) (R .0) xs (B .first) in
         let F = ih (drop (B .n) xs) (M .0) (B .m) (M .1) in
         subst (λ (a : List Piece). Front (m ∷ ms) a (take n xs)) (sym (M .2)) (record {
           spelt = bind-take (bytes (value (m .ty))) next xs B ∙ ap₂ _++_ (sym (W .0)) (F .spelt);
@@ -558,14 +562,14 @@ pub record Parts (ms os : List Member) (ps : List Piece) : Type 0 where
   pub rest : Level [] os 0 back
   pub read : (r : List ℕ) → requireds ms (concat pieceBytes front ++ r) ≡ ok front (length (concat pieceBytes front))
 
-pub level-parts : (ms os : List Member) (ps : List Piece) → Level ms os 0 ps → Parts ms os ps
+pub level-parts : (ms os : List Member) → MembersRise ms → (ps : List Piece) → Level ms os 0 ps → Parts ms os ps
 unfolding requireds concat anyOptional isOptional pieceBytes frontBytes contentBytes pure
-level-parts [] os ps L = record { front = []; back = ps; joined = refl; none = refl; rest = L; read = λ r. refl }
-level-parts (m ∷ ms) os [] L = absurd L
-level-parts (m ∷ ms) os (optional t f b ∷ ps) L = absurd L
-level-parts (m ∷ ms) os (skipped t k b ∷ ps) L = absurd L
-level-parts (m ∷ ms) os (required i b ∷ ps) L =
-    let P = level-parts ms os ps (L .2) in
+level-parts [] os R ps L = record { front = []; back = ps; joined = refl; none = refl; rest = L; read = λ r. refl }
+level-parts (m ∷ ms) os R [] L = absurd L
+level-parts (m ∷ ms) os R (optional t f b ∷ ps) L = absurd L
+level-parts (m ∷ ms) os R (skipped t k b ∷ ps) L = absurd L
+level-parts (m ∷ ms) os R (required i b ∷ ps) L =
+    let P = level-parts ms os (R .1) ps (L .2) in
     rw (L .0) (record {
       front = required (m .key) b ∷ P .front;
       back = P .back;
@@ -573,13 +577,13 @@ level-parts (m ∷ ms) os (required i b ∷ ps) L =
       none = P .none;
       rest = P .rest;
       read = λ r. bind-written (bytes (value (m .ty))) (λ b. mapc (λ ps _. required (m .key) b ∷ ps) (requireds ms)) b (concat pieceBytes (P .front)) r
-          (value-written (m .ty) b (concat pieceBytes (P .front) ++ r) (L .1))
+          (value-written (m .ty) (R .0) b (concat pieceBytes (P .front) ++ r) (L .1))
           (mapc-step (requireds ms) (concat pieceBytes (P .front) ++ r) (λ ps _. required (m .key) b ∷ ps) (P .read r));
     })
 
 -- ---- all members of one owner
 
-module _ (T : List ℕ) (t : ℕ) where
+module _ (T : List ℕ) (right : faults T ≡ fine) (t : ℕ) where
   pub parameters-canonical : (xs : List ℕ) → Bytes xs → Short (length xs) → {ps : List Piece} {n : ℕ} → parameters T t xs ≡ ok ps n → Owned T t ps × (take n xs ≡ concat pieceBytes ps)
   unfolding parameters
   parameters-canonical xs y sh {ps} {n} h = go (bind-ok (requireds (Table.requiredMembers T t)) next xs h)
@@ -589,21 +593,21 @@ module _ (T : List ℕ) (t : ℕ) where
 
       go : Bound (requireds (Table.requiredMembers T t)) next xs ps n → Owned T t ps × (take n xs ≡ concat pieceBytes ps)
       go B =
-          let F = requireds-canonical (Table.requiredMembers T t) xs (B .first) in
+          let F = requireds-canonical (Table.requiredMembers T t) (required-rise T right t) xs (B .first) in
           let M = mapc-ok (optionals atEnd (Table.optionalMembers T t)) (drop (B .n) xs) (λ ps _. B .fst ++ ps) (B .next) in
-          let O = optionals-canonical atEnd [] atEnd-closes (Table.optionalMembers T t) (drop (B .n) xs) (bytes-drop (B .n) xs y) (omega (arith, length-drop (B .n) xs)) (M .1) in
+          let O = optionals-canonical atEnd [] atEnd-closes (Table.optionalMembers T t) (optional-rise T right t) (drop (B .n) xs) (bytes-drop (B .n) xs y) (omega (arith, length-drop (B .n) xs)) (M .1) in
           subst (λ (z : List Piece). Owned T t z × (take n xs ≡ concat pieceBytes z)) (sym (M .2))
           (F .level (Table.optionalMembers T t) (M .0) (O .0), bind-take (requireds (Table.requiredMembers T t)) next xs B ∙ ap₂ _++_ (F .spelt) (O .1 ∙ append-nil _) ∙ sym (concat-append (B .fst) (M .0)))
 
   pub parameters-written : (ps : List Piece) → Owned T t ps → parameters T t (concat pieceBytes ps) ≡ ok ps (length (concat pieceBytes ps))
   unfolding parameters
-  parameters-written ps L = go (level-parts (Table.requiredMembers T t) (Table.optionalMembers T t) ps L)
+  parameters-written ps L = go (level-parts (Table.requiredMembers T t) (Table.optionalMembers T t) (required-rise T right t) ps L)
     where
       go : Parts (Table.requiredMembers T t) (Table.optionalMembers T t) ps → parameters T t (concat pieceBytes ps) ≡ ok ps (length (concat pieceBytes ps))
       go P =
           let w : List ℕ = concat pieceBytes (P .back) in
           let O : optionals atEnd (Table.optionalMembers T t) (w ++ []) ≡ ok (P .back) (length w) =
-          optionals-written atEnd atEnd-opens (Table.optionalMembers T t) (P .back) [] 0 end-there (omega arith) (P .rest) ∙ ap (ok (P .back)) (add-zero (length w)) in
+          optionals-written atEnd atEnd-opens (Table.optionalMembers T t) (optional-rise T right t) (P .back) [] 0 end-there (omega arith) (P .rest) ∙ ap (ok (P .back)) (add-zero (length w)) in
           let R = bind-written (requireds (Table.requiredMembers T t)) (λ a. mapc (λ ps _. a ++ ps) (optionals atEnd (Table.optionalMembers T t))) (concat pieceBytes (P .front)) w []
           (P .read (w ++ []))
           (mapc-step (optionals atEnd (Table.optionalMembers T t)) (w ++ []) (λ ps _. P .front ++ ps) O) in
@@ -620,10 +624,10 @@ module _ (T : List ℕ) (t : ℕ) where
 
       go : (q : Bool) → Bound (requireds (Table.requiredMembers T t)) (next q) xs ps n → Owned T t ps × (anyOptional ps ≡ q) × (take n xs ≡ concat pieceBytes ps ++ pick (anyOptional ps) (255 ∷ []) [])
       go true B =
-          let F = requireds-canonical (Table.requiredMembers T t) xs (B .first) in
+          let F = requireds-canonical (Table.requiredMembers T t) (required-rise T right t) xs (B .first) in
           let M = mapc-ok _ (drop (B .n) xs) (λ ps _. B .fst ++ ps) (B .next) in
           let S = must-ok (optionals atMark (Table.optionalMembers T t)) (drop (B .n) xs) someForm (M .1) in
-          let O = optionals-canonical atMark (255 ∷ []) atMark-closes (Table.optionalMembers T t) (drop (B .n) xs) (bytes-drop (B .n) xs y) (omega (arith, length-drop (B .n) xs)) (S .0) in
+          let O = optionals-canonical atMark (255 ∷ []) atMark-closes (Table.optionalMembers T t) (optional-rise T right t) (drop (B .n) xs) (bytes-drop (B .n) xs y) (omega (arith, length-drop (B .n) xs)) (S .0) in
           let some : anyOptional (B .fst ++ M .0) ≡ true =
           anyOptional-append (B .fst) (M .0) (F .none) ∙ level-some (Table.optionalMembers T t) 0 (M .0) (O .0) (someForm-ok (M .0) (S .1)) in
           subst (λ (z : List Piece). Owned T t z × (anyOptional z ≡ true) × (take n xs ≡ concat pieceBytes z ++ pick (anyOptional z) (255 ∷ []) [])) (sym (M .2)) (
@@ -633,7 +637,7 @@ module _ (T : List ℕ) (t : ℕ) where
                 ∙ ap₂ (λ (z : List ℕ) (q : Bool). z ++ pick q (255 ∷ []) []) (sym (concat-append (B .fst) (M .0))) (sym some),
           )
       go false B =
-          let F = requireds-canonical (Table.requiredMembers T t) xs (B .first) in
+          let F = requireds-canonical (Table.requiredMembers T t) (required-rise T right t) xs (B .first) in
           let P = pure-ok (B .fst) (drop (B .n) xs) (B .next) in
           let e : n ≡ B .n = omega (arith, B .sum, P .1) in
           subst (λ (z : List Piece). Owned T t z × (anyOptional z ≡ false) × (take n xs ≡ concat pieceBytes z ++ pick (anyOptional z) (255 ∷ []) [])) (sym (P .0)) (
@@ -644,7 +648,7 @@ module _ (T : List ℕ) (t : ℕ) where
 
   pub fields-written : (o : List ℕ) (ps : List Piece) → Owned T t ps → (r : List ℕ) → fields T t (anyOptional ps) (dataBytes (Slice.known o ps) ++ r) ≡ ok ps (length (dataBytes (Slice.known o ps)))
   unfolding fields dataBytes pure
-  fields-written o ps L r = top (level-parts (Table.requiredMembers T t) (Table.optionalMembers T t) ps L)
+  fields-written o ps L r = top (level-parts (Table.requiredMembers T t) (Table.optionalMembers T t) (required-rise T right t) ps L)
     where
       next : Bool → List Piece → Parser (List Piece)
       next q a = pick q (mapc (λ ps _. a ++ ps) (must someForm (optionals atMark (Table.optionalMembers T t)))) (pure a)
@@ -654,7 +658,7 @@ module _ (T : List ℕ) (t : ℕ) where
       go P b K true e =
           let w : List ℕ = concat pieceBytes b in
           let O : optionals atMark (Table.optionalMembers T t) (w ++ (255 ∷ []) ++ r) ≡ ok b (length (w ++ (255 ∷ []))) =
-          ap (optionals atMark (Table.optionalMembers T t)) (append-assoc w (255 ∷ []) r) ∙ optionals-written atMark atMark-opens (Table.optionalMembers T t) b (255 ∷ r) 1 (mark-there r) (omega arith) K
+          ap (optionals atMark (Table.optionalMembers T t)) (append-assoc w (255 ∷ []) r) ∙ optionals-written atMark atMark-opens (Table.optionalMembers T t) (optional-rise T right t) b (255 ∷ r) 1 (mark-there r) (omega arith) K
           ∙ ap (ok b) (sym (length-append w (255 ∷ []))) in
           let some : someForm b ≡ 0 = someForm-step b (some-there b e) in
           rw (concat-append (P .front) b, append-assoc (concat pieceBytes (P .front)) w (255 ∷ []))

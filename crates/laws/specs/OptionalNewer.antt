@@ -17,8 +17,8 @@ use Rattle.encoding.specs.Result.{pick}
 use Rattle.encoding.specs.ResultLaws.{some≢none}
 use Rattle.encoding.specs.Number.{Short}
 use Rattle.encoding.specs.Types.{Ty, Bits, Form, bitsOf, formOf}
-use Rattle.encoding.specs.Grammar.{IsValue, IsExtent}
-use Rattle.encoding.specs.Table.{Member, lookup, mark, requiredsIn}
+use Rattle.encoding.specs.Grammar.{IsValue, IsExtent, ListsRise}
+use Rattle.encoding.specs.Table.{Member, lookup, mark, requiredsIn, fine, faults}
 use Rattle.encoding.specs.Table
 use Rattle.encoding.specs.Optional.{Piece, required, optional, skipped, part, lengthBytes}
 use Rattle.encoding.specs.OptionalLaws.{part-extent}
@@ -26,6 +26,7 @@ use Rattle.encoding.specs.OptionalForm.{HasForm}
 use Rattle.encoding.specs.OptionalFormLaws.{is-form}
 use Rattle.encoding.specs.Conform.{Known, Unknown, Level, Owned}
 use Rattle.encoding.specs.Extends.{OptionalsMatch, OwnersMatch, typeOf}
+use Rattle.encoding.specs.ListLaws.{MembersRise, found-rises, optional-rise}
 use Rattle.encoding.specs.ExactLaws.{extent-is}
 use Rattle.laws.specs.Lose.{keepOr, losePiece}
 use Rattle.laws.specs.OptionalExact.{part-written}
@@ -86,12 +87,12 @@ lookup-same i k (m ∷ ms) (n ∷ ns) p q e =
 -- ---- what an old owner makes of an optional that it does not know
 
 -- a known value, length field and all, is what its type in the header declares
-known-extent : (t : Ty) (b : List ℕ) → IsValue t b → Short (length b) → IsExtent (bitsOf (formOf t)) (lengthBytes (formOf t) b ++ b)
-known-extent t b w s =
-    let E = part-extent (formOf t) (lengthBytes (formOf t) b ++ b) (ap (part (formOf t)) (sym (append-nil (lengthBytes (formOf t) b ++ b))) ∙ part-written t b [] w s) in
+known-extent : (t : Ty) → ListsRise t → (b : List ℕ) → IsValue t b → Short (length b) → IsExtent (bitsOf (formOf t)) (lengthBytes (formOf t) b ++ b)
+known-extent t R b w s =
+    let E = part-extent (formOf t) (lengthBytes (formOf t) b ++ b) (ap (part (formOf t)) (sym (append-nil (lengthBytes (formOf t) b ++ b))) ∙ part-written t R b [] w s) in
     extent-is (bitsOf (formOf t)) (lengthBytes (formOf t) b ++ b) (E .0) (E .1)
 
-module _ (ms ns : List Member) (match : OptionalsMatch ms ns) where
+module _ (ms ns : List Member) (match : OptionalsMatch ms ns) (rise : MembersRise ns) where
   -- what neither knows, and what only the new owner knows
   unknown-newer : (least k : ℕ) (f : Bits) (b : List ℕ) → Unknown ns least k f b → Unknown ms least k f b
   unfolding typeOf
@@ -106,7 +107,7 @@ module _ (ms ns : List Member) (match : OptionalsMatch ms ns) where
       record {
         absent = z;
         rises = K .rises;
-        whole = subst (λ (g : Form). IsExtent (bitsOf g) (lengthBytes g b ++ b)) (is-form (K .form)) (known-extent (K .member .ty) b (K .one) (K .length-short));
+        whole = subst (λ (g : Form). IsExtent (bitsOf g) (lengthBytes g b ++ b)) (is-form (K .form)) (known-extent (K .member .ty) (found-rises k ns (K .member) rise (K .found)) b (K .one) (K .length-short));
         tag-short = K .tag-short;
       }
 
@@ -147,8 +148,8 @@ abbrev pub loseAll : List ℕ → ℕ → List Piece → List Piece
 loseAll old t = map (losePiece (Table.optionalMembers old t))
 
 -- pieces of an owner are, to the owner that it matches, pieces too
-pub owned-newer : (old new : List ℕ) (t u : ℕ) → OwnersMatch old new t u → (ps : List Piece) → Owned new u ps → Owned old t (loseAll old t ps)
+pub owned-newer : (old new : List ℕ) → faults new ≡ fine → (t u : ℕ) → OwnersMatch old new t u → (ps : List Piece) → Owned new u ps → Owned old t (loseAll old t ps)
 unfolding Table.requiredMembers
-owned-newer old new t u M ps L =
-    level-newer (Table.optionalMembers old t) (Table.optionalMembers new u) (M .optional-ones) 0 (Table.requiredMembers old t) (Table.requiredMembers new u)
+owned-newer old new right t u M ps L =
+    level-newer (Table.optionalMembers old t) (Table.optionalMembers new u) (M .optional-ones) (optional-rise new right u) 0 (Table.requiredMembers old t) (Table.requiredMembers new u)
     (required-positions old (Table.trees old) 0 (Table.ownRows old t)) (required-positions new (Table.trees new) 0 (Table.ownRows new u)) (M .required-ones) 0 ps L

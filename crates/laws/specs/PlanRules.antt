@@ -26,6 +26,8 @@ use Rattle.encoding.specs.Number.{Short, negative}
 use Rattle.encoding.specs.Types.{Ty}
 use Rattle.encoding.specs.Table.{types, kind, field, mark, tag, isRecord, owns, range, fine, faults, great, memberRules, Member, memberTy, trees, ownRows, requiredsIn, optionalsIn, requiredMembers, optionalMembers, lookup, base, upward, chain, any}
 use Rattle.encoding.specs.RuleLaws.{member-test, kind-known, record-kind, base-right, chain-node, Own, own-later, rows-apart, rows-there, mark-known, tags-differ}
+use Rattle.encoding.specs.Grammar.{ListsRise}
+use Rattle.encoding.specs.ListLaws.{member-rises}
 use Rattle.encoding.specs.Message.{Row, noTop}
 use Rattle.encoding.specs.MessageLaws.{top-there}
 use Rattle.encoding.specs.Write.{Slot, rising, slot, slots, planOf, plan, Out, Given, above, begin, judgeAll}
@@ -127,6 +129,10 @@ pub record Fit (T : List ℕ) (s : Slot) : Type 0 where
   pub typed : s .member .ty ≡ memberTy T (trees T) (s .member .row)
   pub finds : lookup (s .member .key) (pick (s .due) (requiredMembers T (s .owner)) (optionalMembers T (s .owner))) ≡ some (s .member)
   pub short : s .due ≡ false → Short (s .member .key)
+
+-- the lists in its type rise
+pub fit-rises : (T : List ℕ) → faults T ≡ fine → (s : Slot) → Fit T s → ListsRise (s .member .ty)
+fit-rises T right s f = subst ListsRise (sym (f .typed)) (member-rises T right (s .member .row))
 
 module _ (T : List ℕ) (t : ℕ) where
   pub slots-owner : All (λ (s : Slot). s .owner ≡ t) (slots T t)

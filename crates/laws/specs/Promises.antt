@@ -3,9 +3,11 @@ use mathlib.Core.Path.{subst}
 use Rattle.encoding.specs.OptionalForm.{HasForm}
 use Rattle.encoding.specs.OptionalFormLaws.{form-has, is-form}
 use Rattle.encoding.specs.ExactLaws.{exact-is, is-exact, extent-is, is-extent}
-use Rattle.laws.specs.Demands.{ExactTable, OneOwner, TableFault, ReaderRefuses, NumbersTold, Exact, Reads, ExactRows, ListedRows, RowsApart, RowsRight, RowsOnce, Unambiguous, ExactCounts, ExactValues, ExactExtents, ExactForms, Viewed, ReadBack, ReadBackReading, WriteAgain, WriteSame, OneMessage, EarlyRefused, RightLists, WrongBytes, RightMakes, TooLong, RightWritten, WriterRefuses, WritingNumbersTold, ListFilled, OutputFilled, NewerRead, NewerRefused, NewerReading, NewerRefusedReading, OneCounterpart, NewerThere}
+use Rattle.laws.specs.Demands.{ExactTable, OneOwner, TableFault, ReaderRefuses, NumbersTold, Exact, Reads, ExactRows, ListedRows, RowsApart, RowsRight, RowsOnce, Unambiguous, ExactCounts, ExactValues, TypesRise, ExactEnums, EqualSets, ExactExtents, ExactForms, Viewed, ReadBack, ReadBackReading, WriteAgain, WriteSame, OneMessage, EarlyRefused, RightLists, WrongBytes, RightMakes, TooLong, RightWritten, WriterRefuses, WritingNumbersTold, ListFilled, OutputFilled, NewerRead, NewerRefused, NewerReading, NewerRefusedReading, OneCounterpart, NewerThere}
 use Rattle.laws.specs.TableExact.{exact-table, one-owner}
 use Rattle.laws.specs.TableFault.{table-fault}
+use Rattle.laws.specs.SetsExact.{types-rise, exact-enums}
+use Rattle.laws.specs.TypesAgree.{equal-sets}
 use Rattle.laws.specs.Refusals.{reader-refuses, numbers-told}
 use Rattle.laws.specs.MessageExact.{exact-message, exact-rows}
 use Rattle.laws.specs.RowsListed.{listed-rows}
@@ -39,6 +41,9 @@ pub record Promises : Type 0 where
   pub unambiguous : Unambiguous
   pub counts : ExactCounts
   pub values : ExactValues
+  pub lists : TypesRise
+  pub enums : ExactEnums
+  pub sets : EqualSets
   pub extents : ExactExtents
   pub forms : ExactForms
   pub view : Viewed
@@ -80,7 +85,10 @@ promises = record {
   once = rows-once;
   unambiguous = unambiguous;
   counts = exact-counts-from exact-message;
-  values = λ t b. (exact-is t b, is-exact t b);
+  values = λ t R b. (exact-is t R b, is-exact t R b);
+  lists = types-rise;
+  enums = exact-enums;
+  sets = equal-sets;
   extents = λ k b. (λ w. extent-is k b (w .0) (w .1), is-extent k b);
   forms = λ t f. (λ e. subst (HasForm t) e (form-has t), is-form);
   view = viewed;

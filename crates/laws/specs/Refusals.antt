@@ -21,7 +21,7 @@ use Rattle.encoding.specs.ResultLaws.{ofContents, ok≢bad, both-true, Lies}
 use Rattle.encoding.specs.Number.{val, number}
 use Rattle.encoding.specs.Table.{Fault, fine, fault, faults, ruleNumber}
 use Rattle.encoding.specs.RuleLaws.{fault-place}
-use Rattle.encoding.specs.Message.{Read, contents, ended, outerForm, versionForm, body, noTop, limit, afterRules, refusedFirst, rules, rows, greatest, Answer, numbers, refused, accepted, answer, room, within, reading, listed, readingOf, readingNumbers}
+use Rattle.encoding.specs.Message.{Read, contents, ended, outerForm, versionForm, body, noTop, limit, afterRules, refusedFirst, rules, rows, greatestRefusal, Answer, numbers, refused, accepted, answer, room, within, reading, listed, readingOf, readingNumbers}
 use Rattle.encoding.specs.MessageLaws.{held-rest}
 use Rattle.encoding.specs.RefusalLaws.{Told, refuses-rest}
 use Rattle.laws.specs.Demands.{Admissible, Sized, Refusal, broken-table, no-top, too-great, no-size, wrong-size, wrong-version, cut-off, misread, ReaderRefusal, by-rules, short-list, NothingElse, ReaderRefuses, NumbersTold}
@@ -106,10 +106,10 @@ module _ (T : List ℕ) (top : ℕ) (m : List ℕ) where
 -- what a call needs to know of a refusal to give it in 32 bits: its number is one of document 01's table, its place is within the limit
 pub record Numbered (n p : ℕ) : Type 0 where
   pub some-number : 1 ≤ n
-  pub known-number : n ≤ greatest
+  pub known-number : n ≤ greatestRefusal
   pub small-place : p ≤ limit
 
-numbered : {n p : ℕ} → 1 ≤ n → n ≤ greatest → p ≤ limit → Numbered n p
+numbered : {n p : ℕ} → 1 ≤ n → n ≤ greatestRefusal → p ≤ limit → Numbered n p
 numbered a b c = record { some-number = a; known-number = b; small-place = c }
 
 pub refusal-numbered : {T : List ℕ} {top : ℕ} {m : List ℕ} {n p : ℕ} → Refusal T top m n p → Numbered n p

@@ -25,7 +25,7 @@ use Rattle.encoding.specs.Result.{pick}
 use Rattle.encoding.specs.ResultLaws.{some≢none}
 use Rattle.encoding.specs.Types.{Ty}
 use Rattle.encoding.specs.Value.{exact}
-use Rattle.encoding.specs.Grammar.{IsValue}
+use Rattle.encoding.specs.Grammar.{IsValue, ListsRise}
 use Rattle.encoding.specs.Table.{fine, faults, memberTy, trees}
 use Rattle.encoding.specs.Message.{Row, noTop}
 use Rattle.encoding.specs.Write.{Right, Slot, plan, Chosen, chosen, left, RowsWithin, Out, out, stop, next, Given, partOf, prepend}
@@ -33,7 +33,7 @@ use Rattle.encoding.specs.Write
 use Rattle.encoding.specs.ExactLaws.{exact-is, is-exact}
 use Rattle.laws.specs.Demands.{All, end, more, BeginsRight, RowFits, NoneRight, at-row, at-count, TwentyOne}
 use Rattle.laws.specs.PlanLaws.{Pairs, before, Spot, find, find-left, find-down, find-member, anyDue, givenOf, judgeSlot, judgeSlots, SlotsDiffer, out≢stop, Fitting, judgeSlot-step, missed-all, Judged, over, taken, missed, judged-ok, judged-chosen, judged-within, first-among}
-use Rattle.laws.specs.PlanRules.{Fit, plan-fit, plan-differ, judging, judging-slots}
+use Rattle.laws.specs.PlanRules.{Fit, fit-rises, plan-fit, plan-differ, judging, judging-slots}
 
 pairs-tail : {A : Type 0} {R : A → A → Type 0} {a : A} {l : List A} → Pairs R (a ∷ l) → Pairs R l
 pairs-tail (before p P) = P
@@ -45,11 +45,11 @@ all-head : {A : Type 0} {P : A → Type 0} {a : A} {l : List A} → All P (a ∷
 all-head (more p L) = p
 
 -- what is no value is judged so
-not-exact : (t : Ty) (b : List ℕ) → (IsValue t b → ⊥) → exact t b ≡ false
-not-exact t b n = go (exact t b) refl
+not-exact : (t : Ty) → ListsRise t → (b : List ℕ) → (IsValue t b → ⊥) → exact t b ≡ false
+not-exact t R b n = go (exact t b) refl
   where
     go : (q : Bool) → exact t b ≡ q → exact t b ≡ false
-    go true e = absurd (n (exact-is t b e))
+    go true e = absurd (n (exact-is t R b e))
     go false e = e
 
 -- ---- lists that choose from slots
@@ -109,13 +109,14 @@ next-stop (out a) f h = absurd (out≢stop refl h)
 next-stop (stop n p) f h = cc
 
 module _ (T buffer : List ℕ) where
-  -- slots that differ, each with its member
+  -- slots that differ, each with its member, under a table that breaks no rule
   record Tidy (ss : List Slot) : Type 0 where
+    right : faults T ≡ fine
     differ : Pairs SlotsDiffer ss
     fit : All (Fit T) ss
 
   tidy-tail : (s : Slot) (ss : List Slot) → Tidy (s ∷ ss) → Tidy ss
-  tidy-tail s ss Y = record { differ = pairs-tail (Y .differ); fit = all-tail (Y .fit) }
+  tidy-tail s ss Y = record { right = Y .right; differ = pairs-tail (Y .differ); fit = all-tail (Y .fit) }
 
   tidy-found : (r : Row) (ss : List Slot) (z : Spot) → find (r .member) ss ≡ some z → Tidy ss → Tidy (z .slot ∷ z .rest)
   tidy-found r ss z e Y = find-down Tidy (r .member) tidy-tail ss z e Y
@@ -141,10 +142,13 @@ module _ (T buffer : List ℕ) where
   spot-type : (r : Row) (ss : List Slot) (z : Spot) → find (r .member) ss ≡ some z → Tidy ss → z .slot .member .ty ≡ memberTy T (trees T) (r .member)
   spot-type r ss z e Y = all-head (tidy-found r ss z e Y .fit) .typed ∙ ap (memberTy T (trees T)) (sym (find-member (r .member) ss e))
 
+  spot-rises : (r : Row) (ss : List Slot) (z : Spot) → find (r .member) ss ≡ some z → Tidy ss → ListsRise (z .slot .member .ty)
+  spot-rises r ss z e Y = fit-rises T (Y .right) (z .slot) (all-head (tidy-found r ss z e Y .fit))
+
   passes-fit : {ss ss′ : List Slot} {qs : List Row} → Tidy ss → Passes ss qs ss′ → All (RowFits T buffer) qs
   passes-fit Y here = end
   passes-fit Y (on {ss} {r = r} z F P) =
-      more {a = r} (subst (λ (t : Ty). IsValue t (partOf buffer r)) (spot-type r ss z (F .found) Y) (exact-is (z .slot .member .ty) (partOf buffer r) (F .one))) (passes-fit (tidy-tail (z .slot) (z .rest) (tidy-found r ss z (F .found) Y)) P)
+      more {a = r} (subst (λ (t : Ty). IsValue t (partOf buffer r)) (spot-type r ss z (F .found) Y) (exact-is (z .slot .member .ty) (spot-rises r ss z (F .found) Y) (partOf buffer r) (F .one))) (passes-fit (tidy-tail (z .slot) (z .rest) (tidy-found r ss z (F .found) Y)) P)
 
   -- the rows that a right list begins with pass where they have their types' bytes
   right-passes : {ss : List Slot} (qs rs : List Row) → Tidy ss → Rightly buffer ss (qs ++ rs) → All (RowFits T buffer) qs → (ss′ : List Slot) × Passes ss qs ss′
@@ -152,7 +156,7 @@ module _ (T buffer : List ℕ) where
   right-passes {ss} (r ∷ qs) rs Y R (more f A) =
       let L = chosen-leaves (Y .differ) (R .order) in
       let z : Spot = L .spot in
-      let F : Fitting buffer r (find (r .member) ss) z = record { found = L .found; inside = R .within .0; one = is-exact (z .slot .member .ty) (partOf buffer r) (subst (λ (t : Ty). IsValue t (partOf buffer r)) (sym (spot-type r ss z (L .found) Y)) f) } in
+      let F : Fitting buffer r (find (r .member) ss) z = record { found = L .found; inside = R .within .0; one = is-exact (z .slot .member .ty) (spot-rises r ss z (L .found) Y) (partOf buffer r) (subst (λ (t : Ty). IsValue t (partOf buffer r)) (sym (spot-type r ss z (L .found) Y)) f) } in
       let I = right-passes qs rs (tidy-tail (z .slot) (z .rest) (tidy-found r ss z (L .found) Y)) (rightly-less buffer r ss z (L .found) (R .within .0) (Y .differ) R) A in
       (I .0, on z F (I .1))
 
@@ -277,7 +281,7 @@ module _ (T buffer : List ℕ) where
           inside = omega (arith, length-append qs (r ∷ rs));
           begins = subst (BeginsRight T type buffer) (sym (take-passed qs r rs)) (begins-more qs r (S .rows) (passes-right P (rightly-more buffer r ss z e i (S .right))));
           before = subst (All (RowFits T buffer)) (sym t) (passes-fit Y P);
-          misfit = λ w. true≢false (sym (is-exact (z .slot .member .ty) (partOf buffer r)
+          misfit = λ w. true≢false (sym (is-exact (z .slot .member .ty) (spot-rises r ss z e (passes-tidy Y P)) (partOf buffer r)
               (subst (λ (t : Ty). IsValue t (partOf buffer r)) (sym (spot-type r ss z e (passes-tidy Y P))) (subst (RowFits T buffer) g w))) ∙ x);
         }
 
@@ -314,12 +318,12 @@ module _ (T buffer : List ℕ) where
         let Q = passes-rest Y (P .1) R in
         let L = chosen-leaves (passes-tidy Y (P .1) .differ) (Q .order) in
         stops-row false rs i (W .inside) (P .1)
-        (misfit (L .spot) (L .found) (Q .within .0) (not-exact (L .spot .slot .member .ty) (partOf buffer r)
+        (misfit (L .spot) (L .found) (Q .within .0) (not-exact (L .spot .slot .member .ty) (spot-rises r (P .0) (L .spot) (L .found) (passes-tidy Y (P .1))) (partOf buffer r)
         (λ w. W .misfit (subst (λ (t : Ty). IsValue t (partOf buffer r)) (spot-type r (P .0) (L .spot) (L .found) (passes-tidy Y (P .1))) w))))
 
 module _ (T : List ℕ) (type : ℕ) (buffer : List ℕ) (rs : List Row) (i : ℕ) (right : faults T ≡ fine) (there : noTop T type ≡ false) where
   tidy-plan : Tidy T buffer (plan T type)
-  tidy-plan = record { differ = plan-differ T right type there; fit = plan-fit T right type there }
+  tidy-plan = record { right = right; differ = plan-differ T right type there; fit = plan-fit T right type there }
 
   -- what holds where judging stops with a number
   stopped-as : (b : Bool) (Q : List Row → ℕ → Type 0)
@@ -396,5 +400,5 @@ module _ (T : List ℕ) (type : ℕ) (buffer : List ℕ) (rs : List Row) (right 
       judged-fit : {ss : List Slot} {rs : List Row} {gs : List Given} → All (Fit T) ss → Judged buffer ss rs gs → All (RowFits T buffer) rs
       judged-fit end over = end
       judged-fit (more {a = s} f F) (taken {r = r} e i x K) =
-          more {a = r} (subst (λ (t : Ty). IsValue t (partOf buffer r)) (f .typed ∙ ap (memberTy T (trees T)) (sym e)) (exact-is (s .member .ty) (partOf buffer r) x)) (judged-fit F K)
+          more {a = r} (subst (λ (t : Ty). IsValue t (partOf buffer r)) (f .typed ∙ ap (memberTy T (trees T)) (sym e)) (exact-is (s .member .ty) (fit-rises T right s f) (partOf buffer r) x)) (judged-fit F K)
       judged-fit (more f F) (missed d K) = judged-fit F K

@@ -23,7 +23,7 @@ use Rattle.encoding.specs.Result.{ok, Parser, pick, pure, fail, must, mapc, ins
 use Rattle.encoding.specs.ResultLaws.{ok≢bad, some≢none, both-true, both-false, either-false, sameBytes-ok, sameBytes-same, bind-step, bind-written, pure-ok, must-step, mapc-ok, mapc-step, inside-ok, inside-step, firstOf-ok}
 use Rattle.encoding.specs.Number.{Bytes, Short, byte, declared, leBytes, sizeBytes, Content, string, stringBytes}
 use Rattle.encoding.specs.NumberLaws.{bytes-end, bytes-take, bytes-drop, byte-written, byte-canonical, length-leBytes, declared-written, declared-canonical, string-written, string-canonical}
-use Rattle.encoding.specs.Table.{nameOf, named, base, upward, chain, any}
+use Rattle.encoding.specs.Table.{nameOf, named, base, upward, chain, any, fine, faults}
 use Rattle.encoding.specs.RuleLaws.{named-ok, chain-node}
 use Rattle.encoding.specs.Optional.{Piece}
 use Rattle.encoding.specs.Slice.{Format, compact, sliced, isSliced, Slice, known, passed, bit, formatOfFlags, Stand, first, later, mixed, due, flagForm, Head, head, fields, knownData, wrongLast, Stage, seek, follow, standOf, finished, Meaning, skip, row, wrong, knownMeaning, seekMeaning, meaning, isNone, idForm, meaningForm, enterSlice, slice, Chain, ahead, walk, slices, anyOptional, worth, hasOptionals, idOf, dataBytes, flagBits, sliceFront, isLast, slicesBytes}
@@ -202,24 +202,25 @@ module _ (T : List ℕ) (t : ℕ) where
   abbrev dataP : Format → Bool → Parser (List Piece)
   dataP g opt = pick (isSliced g) (inside (declared 4 4) (fields T t opt)) (fields T t opt)
 
-  pub data-canonical : (o : List ℕ) (g : Format) (opt : Bool) (xs : List ℕ) → Bytes xs → Short (length xs) → {ps : List Piece} {n : ℕ} → dataP g opt xs ≡ ok ps n
-      → Owned T t ps × (anyOptional ps ≡ opt) × (take n xs ≡ sized g (dataBytes (known o ps)))
-  data-canonical o compact opt xs y sh h = fields-canonical T t o opt xs y sh h
-  data-canonical o sliced opt xs y sh {ps} {n} h =
-      let E = inside-ok (declared 4 4) (fields T t opt) xs h in
-      let D = declared-canonical 4 4 xs y (omega arith) (E .outer) in
-      let F = fields-canonical T t o opt (E .part) (bytes-end (leBytes 4 (4 + length (E .part))) (E .part) (subst Bytes (D .0) (bytes-take n xs y))) (omega (arith, D .2)) (E .inner) in
-      (F .0, F .1, D .0 ∙ ap (sized sliced) (sym (take-length (E .part)) ∙ F .2))
+  module _ (right : faults T ≡ fine) where
+    pub data-canonical : (o : List ℕ) (g : Format) (opt : Bool) (xs : List ℕ) → Bytes xs → Short (length xs) → {ps : List Piece} {n : ℕ} → dataP g opt xs ≡ ok ps n
+        → Owned T t ps × (anyOptional ps ≡ opt) × (take n xs ≡ sized g (dataBytes (known o ps)))
+    data-canonical o compact opt xs y sh h = fields-canonical T right t o opt xs y sh h
+    data-canonical o sliced opt xs y sh {ps} {n} h =
+        let E = inside-ok (declared 4 4) (fields T t opt) xs h in
+        let D = declared-canonical 4 4 xs y (omega arith) (E .outer) in
+        let F = fields-canonical T right t o opt (E .part) (bytes-end (leBytes 4 (4 + length (E .part))) (E .part) (subst Bytes (D .0) (bytes-take n xs y))) (omega (arith, D .2)) (E .inner) in
+        (F .0, F .1, D .0 ∙ ap (sized sliced) (sym (take-length (E .part)) ∙ F .2))
 
-  pub data-written : (o : List ℕ) (g : Format) (ps : List Piece) (r : List ℕ) → Owned T t ps → Short (length (sized g (dataBytes (known o ps))))
-      → dataP g (anyOptional ps) (sized g (dataBytes (known o ps)) ++ r) ≡ ok ps (length (sized g (dataBytes (known o ps))))
-  data-written o compact ps r L sh = fields-written T t o ps L r
-  data-written o sliced ps r L sh =
-      let d : List ℕ = dataBytes (known o ps) in
-      let l : length (sized sliced d) ≡ 4 + length d = omega (arith, length-append (leBytes 4 (4 + length d)) d, length-leBytes 4 (4 + length d)) in
-      inside-step (declared 4 4) (fields T t (anyOptional ps)) (leBytes 4 (4 + length d) ++ d ++ r)
-      (declared-written 4 4 d r (omega arith) (omega arith) (omega arith) ∙ ap (ok d) (sym l))
-      (rw append-nil at (fields-written T t o ps L []))
+    pub data-written : (o : List ℕ) (g : Format) (ps : List Piece) (r : List ℕ) → Owned T t ps → Short (length (sized g (dataBytes (known o ps))))
+        → dataP g (anyOptional ps) (sized g (dataBytes (known o ps)) ++ r) ≡ ok ps (length (sized g (dataBytes (known o ps))))
+    data-written o compact ps r L sh = fields-written T right t o ps L r
+    data-written o sliced ps r L sh =
+        let d : List ℕ = dataBytes (known o ps) in
+        let l : length (sized sliced d) ≡ 4 + length d = omega (arith, length-append (leBytes 4 (4 + length d)) d, length-leBytes 4 (4 + length d)) in
+        inside-step (declared 4 4) (fields T t (anyOptional ps)) (leBytes 4 (4 + length d) ++ d ++ r)
+        (declared-written 4 4 d r (omega arith) (omega arith) (omega arith) ∙ ap (ok d) (sym l))
+        (rw append-nil at (fields-written T right t o ps L []))
 
 -- ---- what one turn of the walk takes
 
@@ -285,7 +286,7 @@ id-same : (q : Bool) (a b : List ℕ) → (q ≡ true → a ≡ b) → pick q (s
 id-same true a b h = ap stringBytes (h refl)
 id-same false a b h = refl
 
-module _ (T : List ℕ) (top : ℕ) (xs : List ℕ) (y : Bytes xs) (sh : Short (length xs)) where
+module _ (T : List ℕ) (right : faults T ≡ fine) (top : ℕ) (xs : List ℕ) (y : Bytes xs) (sh : Short (length xs)) where
   enter-wrong : (h : Head) (c : ℕ) (ys : List ℕ) {r : Slice × Stage} {m : ℕ} → enterSlice T h (wrong c) ys ≡ ok r m → ⊥
   unfolding enterSlice fail
   enter-wrong h c ys e = ok≢bad e refl
@@ -299,7 +300,7 @@ module _ (T : List ℕ) (top : ℕ) (xs : List ℕ) (y : Bytes xs) (sh : Short (
   row-canonical s form h k m t r F id last e =
       let M = mapc-ok (knownData T t h) (drop k xs) (λ s _. (s, follow (h .format) (base T t))) e in
       let N = mapc-ok (dataP T t (h .format) (h .optionals)) (drop k xs) (λ ps _. known (nameOf T t) ps) (M .1) in
-      let D = data-canonical T t (nameOf T t) (h .format) (h .optionals) (drop k xs) (bytes-drop k xs y) (omega (arith, length-drop k xs)) (N .1) in
+      let D = data-canonical T t right (nameOf T t) (h .format) (h .optionals) (drop k xs) (bytes-drop k xs y) (omega (arith, length-drop k xs)) (N .1) in
       let ps : List Piece = N .0 in
       let g : Format = h .format in (
         ps,
@@ -423,19 +424,19 @@ module _ (T : List ℕ) (top : ℕ) where
       ∙ ap (ok res) (sym (length-append u v))
 
   -- the data of a known row
-  row-written : (t : ℕ) (g : Format) (s : Stand) (o i : List ℕ) (ps : List Piece) (z r : List ℕ) (next : Stage) (K : Knows T t g s o ps z next) → Short (length (sized g (dataBytes (known o ps))))
+  row-written : faults T ≡ fine → (t : ℕ) (g : Format) (s : Stand) (o i : List ℕ) (ps : List Piece) (z r : List ℕ) (next : Stage) (K : Knows T t g s o ps z next) → Short (length (sized g (dataBytes (known o ps))))
       → enterSlice T (headOf g (anyOptional ps) (eqb (base T t) 0) i) (row t) (sized g (dataBytes (known o ps)) ++ r) ≡ ok (known o ps, next) (length (sized g (dataBytes (known o ps))))
   unfolding enterSlice knownData
-  row-written t g s o i ps z r next K sh =
+  row-written right t g s o i ps z r next K sh =
       let d : List ℕ = sized g (dataBytes (known o ps)) in
-      mapc-step _ (d ++ r) (λ s _. (s, follow g (base T t))) (mapc-step (dataP T t g (anyOptional ps)) (d ++ r) (λ ps _. known (nameOf T t) ps) (data-written T t o g ps r (K .owned) sh))
+      mapc-step _ (d ++ r) (λ s _. (s, follow g (base T t))) (mapc-step (dataP T t g (anyOptional ps)) (d ++ r) (λ ps _. known (nameOf T t) ps) (data-written T t right o g ps r (K .owned) sh))
       ∙ ap₂ (λ (o : List ℕ) (st : Stage). ok (known o ps, st) (length d)) (sym (K .owner)) (sym (K .behind))
 
-  knows-written : (st : Stage) (t : ℕ) (g : Format) (o : List ℕ) (ps : List Piece) (z r : List ℕ) (next : Stage) → Knows T t g (standOf st) o ps z next → Agrees (standOf st) g → Short (length z)
+  knows-written : faults T ≡ fine → (st : Stage) (t : ℕ) (g : Format) (o : List ℕ) (ps : List Piece) (z r : List ℕ) (next : Stage) → Knows T t g (standOf st) o ps z next → Agrees (standOf st) g → Short (length z)
       → idForm T st g o ≡ 0 → meaning T top st (headOf g (anyOptional ps) (eqb (base T t) 0) (pick (due (standOf st) g) o [])) ≡ row t
       → slice T top st (z ++ r) ≡ ok (known o ps, next) (length z)
   unfolding hasOptionals idOf meaningForm
-  knows-written st t g o ps z r next K A sh i e =
+  knows-written right st t g o ps z r next K A sh i e =
       let s : Stand = standOf st in
       let last : Bool = eqb (base T t) 0 in
       let v : List ℕ = sized g (dataBytes (known o ps)) in
@@ -443,7 +444,7 @@ module _ (T : List ℕ) (top : ℕ) where
       let es : z ≡ u ++ v = K .spelt ∙ slice-bytes g s last (known o ps) in
       let sh′ : Short (length (u ++ v)) = subst (λ (z : List ℕ). Short (length z)) es sh in
       let G = given-short (due s g) (idForm T st g) o v (flagBits g (due s g) (anyOptional ps) last) sh′ i in
-      let R = slice-front st g (anyOptional ps) last o v r (row t) A G e refl (row-written t g s o (pick (due s g) o []) ps z r next K (omega (arith, length-append u v))) in
+      let R = slice-front st g (anyOptional ps) last o v r (row t) A G e refl (row-written right t g s o (pick (due s g) o []) ps z r next K (omega (arith, length-append u v))) in
       subst (λ (z : List ℕ). slice T top st (z ++ r) ≡ ok (known o ps, next) (length z)) (sym es) R
 
   same-last : (q : Bool) → not (Bool·beq q q) ≡ false
@@ -507,16 +508,16 @@ module _ (T : List ℕ) (top : ℕ) where
           slice-front (seek s) sliced b false nm v r skip (K .agrees) (given-short (due s sliced) (idForm T (seek s) sliced) nm v (flagBits sliced (due s sliced) b false) sh′ refl)
           (skips-meaning s sliced nm b (due-sliced s) (K .unknown .unknown)) refl entered
 
-  pub slice-written : (st : Stage) (sl : Slice) (z r : List ℕ) (next : Stage) → Ready st → Taken T top z st sl next → Short (length z) → slice T top st (z ++ r) ≡ ok (sl, next) (length z)
+  pub slice-written : faults T ≡ fine → (st : Stage) (sl : Slice) (z r : List ℕ) (next : Stage) → Ready st → Taken T top z st sl next → Short (length z) → slice T top st (z ++ r) ≡ ok (sl, next) (length z)
   unfolding standOf idForm
-  slice-written (seek s) (known o ps) z r next R K sh =
-      knows-written (seek s) (K .row) (K .format) o ps z r next (K .knows) (K .agrees) sh (found-form s (K .format) o (K .row) (K .found))
+  slice-written right (seek s) (known o ps) z r next R K sh =
+      knows-written right (seek s) (K .row) (K .format) o ps z r next (K .knows) (K .agrees) sh (found-form s (K .format) o (K .row) (K .found))
       (finds-meaning s (K .format) (K .row) o (anyOptional ps) (ready-due s (K .format) R (K .agrees)) (K .found) (K .descends))
-  slice-written (seek s) (passed b nm d) z r next R K sh = skips-written s b nm d z r next K sh
-  slice-written (follow g zero) sl z r next R K sh = absurd K
-  slice-written (follow g (suc t)) (known o ps) z r next R K sh =
-      knows-written (follow g (suc t)) t g o ps z r next K refl sh refl (follow-meaning g t o (anyOptional ps) (K .owner))
-  slice-written (follow g (suc t)) (passed b nm d) z r next R K sh = absurd K
+  slice-written right (seek s) (passed b nm d) z r next R K sh = skips-written s b nm d z r next K sh
+  slice-written right (follow g zero) sl z r next R K sh = absurd K
+  slice-written right (follow g (suc t)) (known o ps) z r next R K sh =
+      knows-written right (follow g (suc t)) t g o ps z r next K refl sh refl (follow-meaning g t o (anyOptional ps) (K .owner))
+  slice-written right (follow g (suc t)) (passed b nm d) z r next R K sh = absurd K
 
 -- ---- the walk
 
@@ -583,23 +584,23 @@ module _ (T : List ℕ) (top : ℕ) where
   fits-done (follow h zero) g e = (cc, tt)
   fits-done (follow h (suc t)) g e = absurd (some≢none e refl)
 
-  walked : {f : ℕ} {st : Stage} {xs : List ℕ} {c : Chain} {n : ℕ} → Walk T top f st xs c n → Ready st → Bytes xs → Short (length xs)
+  walked : faults T ≡ fine → {f : ℕ} {st : Stage} {xs : List ℕ} {c : Chain} {n : ℕ} → Walk T top f st xs c n → Ready st → Bytes xs → Short (length xs)
       → Fits T top st (c .format) (c .list) × (take n xs ≡ slicesBytes (c .format) (standOf st) (c .list))
   unfolding slicesBytes ahead
-  walked (WalkLaws.done {st = st} {g = g} e) R y sh = (fits-done st g e, refl)
-  walked (WalkLaws.next {st = st} {xs = xs} {sl = sl} {st′ = st′} {k = k} {c = c} {m = m} d e w) R y sh =
-      let K = slice-canonical T top xs y sh st R e in
-      let I = walked w (taken-ready T top (take k xs) st sl st′ K) (bytes-drop k xs y) (omega (arith, length-drop k xs)) in
+  walked right (WalkLaws.done {st = st} {g = g} e) R y sh = (fits-done st g e, refl)
+  walked right (WalkLaws.next {st = st} {xs = xs} {sl = sl} {st′ = st′} {k = k} {c = c} {m = m} d e w) R y sh =
+      let K = slice-canonical T right top xs y sh st R e in
+      let I = walked right w (taken-ready T top (take k xs) st sl st′ K) (bytes-drop k xs y) (omega (arith, length-drop k xs)) in
       let A = fits-ahead st sl st′ (c .format) (c .list) (take k xs) (take m (drop k xs)) K (I .0) (I .1) in
       (A .0, take-add k m xs ∙ A .1)
 
-  pub walk-canonical : (f : ℕ) (st : Stage) → Ready st → (xs : List ℕ) → Bytes xs → Short (length xs) → {c : Chain} {n : ℕ} → walk T top f st xs ≡ ok c n
+  pub walk-canonical : faults T ≡ fine → (f : ℕ) (st : Stage) → Ready st → (xs : List ℕ) → Bytes xs → Short (length xs) → {c : Chain} {n : ℕ} → walk T top f st xs ≡ ok c n
       → Fits T top st (c .format) (c .list) × (take n xs ≡ slicesBytes (c .format) (standOf st) (c .list))
-  walk-canonical f st R xs y sh h = walked (walk-of T top f st xs h) R y sh
+  walk-canonical right f st R xs y sh h = walked right (walk-of T top f st xs h) R y sh
 
-  pub slices-canonical : (xs : List ℕ) → Bytes xs → Short (length xs) → {c : Chain} {n : ℕ} → slices T top xs ≡ ok c n → Slices T top (c .format) (c .list) × (take n xs ≡ slicesBytes (c .format) first (c .list))
+  pub slices-canonical : faults T ≡ fine → (xs : List ℕ) → Bytes xs → Short (length xs) → {c : Chain} {n : ℕ} → slices T top xs ≡ ok c n → Slices T top (c .format) (c .list) × (take n xs ≡ slicesBytes (c .format) first (c .list))
   unfolding slices standOf
-  slices-canonical xs y sh h = let W = walk-canonical (length xs) (seek first) tt xs y sh h in (W .0 .1, W .1)
+  slices-canonical right xs y sh h = let W = walk-canonical right (length xs) (seek first) tt xs y sh h in (W .0 .1, W .1)
 
   fits-end : (st : Stage) (g : Format) → Fits T top st g [] → finished st ≡ some g
   unfolding finished upward
@@ -665,12 +666,12 @@ module _ (T : List ℕ) (top : ℕ) where
       }
   fits-next (follow h (suc t)) g (passed b nm d) ss F = absurd (subst (λ (l : List ℕ). Follow T l (passed b nm d ∷ ss)) (chain-node T t) (F .1))
 
-  pub walk-written : (ss : List Slice) (f : ℕ) (st : Stage) (g : Format) (r : List ℕ) → Ready st → Fits T top st g ss → length ss ≤ f → Short (length (slicesBytes g (standOf st) ss))
+  pub walk-written : faults T ≡ fine → (ss : List Slice) (f : ℕ) (st : Stage) (g : Format) (r : List ℕ) → Ready st → Fits T top st g ss → length ss ≤ f → Short (length (slicesBytes g (standOf st) ss))
       → walk T top f st (slicesBytes g (standOf st) ss ++ r) ≡ ok (record { format = g; list = ss }) (length (slicesBytes g (standOf st) ss))
   unfolding slicesBytes ahead pure
-  walk-written [] f st g r R F l sh = ap (λ (p : Parser Chain). p r) (walk-ended T top f st (fits-end st g F))
-  walk-written (sl ∷ ss) zero st g r R F l sh = absurd (omega arith)
-  walk-written (sl ∷ ss) (suc f) st g r R F l sh = go (fits-next st g sl ss F) (λ (next : Stage) (R : Ready next) (F : Fits T top next g ss) (sh : Short (length (slicesBytes g (standOf next) ss))). walk-written ss f next g r R F (omega arith) sh)
+  walk-written right [] f st g r R F l sh = ap (λ (p : Parser Chain). p r) (walk-ended T top f st (fits-end st g F))
+  walk-written right (sl ∷ ss) zero st g r R F l sh = absurd (omega arith)
+  walk-written right (sl ∷ ss) (suc f) st g r R F l sh = go (fits-next st g sl ss F) (λ (next : Stage) (R : Ready next) (F : Fits T top next g ss) (sh : Short (length (slicesBytes g (standOf next) ss))). walk-written right ss f next g r R F (omega arith) sh)
     where
       z : List ℕ
       z = sliceFront g (standOf st) (isLast ss) sl ++ dataBytes sl
@@ -691,7 +692,7 @@ module _ (T : List ℕ) (top : ℕ) where
           (ih next (taken-ready T top z st sl next (N .taken)) (N .rest)) s₁ in
           ap (λ (p : Parser Chain). p (z ++ w ++ r)) (walk-on T top f st (N .turn))
           ∙ bind-written (slice T top st) (λ (r : Slice × Stage). mapc (λ c _. ahead (r .0) c) (walk T top f (r .1))) z w r
-          (slice-written T top st sl z (w ++ r) next R (N .taken) s₂)
+          (slice-written T top right st sl z (w ++ r) next R (N .taken) s₂)
           (mapc-step (walk T top f next) (w ++ r) (λ c _. ahead sl c) I)
 
   -- each slice has its flags
@@ -703,9 +704,9 @@ module _ (T : List ℕ) (top : ℕ) where
       let one : 1 ≤ length u = omega arith in
       omega (arith, slices-count g (later g) ss, length-append u (slicesBytes g (later g) ss))
 
-  pub slices-written : (g : Format) (ss : List Slice) (r : List ℕ) → Slices T top g ss → Short (length (slicesBytes g first ss))
+  pub slices-written : faults T ≡ fine → (g : Format) (ss : List Slice) (r : List ℕ) → Slices T top g ss → Short (length (slicesBytes g first ss))
       → slices T top (slicesBytes g first ss ++ r) ≡ ok (record { format = g; list = ss }) (length (slicesBytes g first ss))
   unfolding slices standOf
-  slices-written g ss r S sh =
+  slices-written right g ss r S sh =
       let w : List ℕ = slicesBytes g first ss in
-      walk-written ss (length (w ++ r)) (seek first) g r tt (tt, S) (omega (arith, slices-count g first ss, length-append w r)) sh
+      walk-written right ss (length (w ++ r)) (seek first) g r tt (tt, S) (omega (arith, slices-count g first ss, length-append w r)) sh

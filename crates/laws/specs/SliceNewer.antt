@@ -34,7 +34,7 @@ module _ (old new : List ℕ) (X : Extends old new) where
       let G = subst (λ (l : List ℕ). Follow new l (known o ps ∷ ss)) (chain-node new u) F in
       let e : named old o ≡ some t = ap (named old) (G .0) ∙ pair-named old new X t u P in
       subst₂ (λ (l : List ℕ) (sl : Slice). Follow old l (sl ∷ map (loseSlice old) ss)) (sym (chain-node old t)) (sym (ap (loseKnown old o ps) e))
-      (G .0 ∙ sym (P .same .names), owned-newer old new t u (P .owners) ps (G .1), follow-newer ss (bases-of old new X t u P) (G .2))
+      (G .0 ∙ sym (P .same .names), owned-newer old new (X .new-right) t u (P .owners) ps (G .1), follow-newer ss (bases-of old new X t u P) (G .2))
 
   module _ (top top′ : ℕ) (tops : Pair old new top top′) where
     rest-short : (g : Format) (s : Stand) (sl : Slice) (ss : List Slice) → Short (length (slicesBytes g s (sl ∷ ss))) → Short (length (dataBytes sl)) × Short (length (slicesBytes g (later g) ss))

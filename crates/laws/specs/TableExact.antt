@@ -2,34 +2,35 @@
 -- of the passes give what the properties are about.
 --
 --   record-, owner-, uses-, part-, base-, taken-   -ok what follows from a test or a look-up; -step the test or the look-up from what holds
---   header-, type-, member-                        the same of the header, of a type row, of a member row
+--   header-, type-, list-, member-                 the same of the header, of a type row, of its list, of a member row
 --   Tells                                          a test, of all rules of one class, is true exactly where a property fails
 --   type-broken, broken-type                       the class that the rules give a row, from what is wrong with it, and back; of a member row member-broken, broken-member
---   InTurn                                         each owner before a row begins at the number taken before it
---   turned, rules-turned                           valid rows are in turn, and so are rows that break no rule
+--   ends-ok, ends-step                             where rows that take something one after another end, and the number that they take
+--   InTurn, ListsInTurn                            each owner, each list before a row begins at the number taken before it
+--   turned, rules-turned                           valid rows are in turn, and so are rows that break no rule; lists-turned, list-rules-turned of lists
 --   owned, owned-taken                             a member row among those taken has an owner, and back
 --   pass-none                                      a pass over rows that break no rule is fine
 --   valid, sound                                   a table that breaks no rule is valid, and a valid one breaks none
 --   exact-table, one-owner                         both directions; each member row has exactly one owner
-use mathlib.Core.Path.{_≡_, refl, sym, ap, ap₂, _∙_, subst}
+use mathlib.Core.Path.{_≡_, refl, sym, ap, _∙_, subst}
 use mathlib.Core.Bool.{Bool, true, false, _&&_, _||_, not, true≢false}
 use mathlib.Core.Logic.{⊎-elim}
-use mathlib.Core.List.{List, [], _∷_, _++_}
+use mathlib.Core.List.{List, [], _∷_}
 use Prim.Native.Nat.{ℕ, zero, suc, _+_, _-_, _*_, _^_, _≤_, _<_}
 use native.Mathlib.Omega.{arith}
 use native.Mathlib.Nat.{add-zero}
 use native.Mathlib.Decide.{ℕ-discrete}
-use lib.ListN.{length, take, drop, getD, length-drop, replicate, getD-replicate, List·getD-append, List·getD-eq-default}
-use lib.Seq.{take-add, take-take, length-take-le}
+use lib.ListN.{length, take, getD, replicate, getD-replicate, List·getD-append, List·getD-eq-default}
 use lib.Dec.{eqb, leb, ltb}
 use borrow.Author.Tests.{eqb-true, eqb-false, leb-true, leb-false, ltb-true, ltb-false, lt-leb, le-ltb, eq-eqb, ne-eqb, not-false}
 use Rattle.encoding.specs.Result.{pick, firstOf, sameBytes}
-use Rattle.encoding.specs.ResultLaws.{both-false, either-false, sameBytes-ok, sameBytes-same}
-use Rattle.encoding.specs.Number.{val, negative}
-use Rattle.encoding.specs.Table.{at, types, members, names, typesAt, rowAt, memberAt, kind, spare, field, memberType, mark, memberSpare, tag, greatest, isRecord, owns, nameOf, range, fine, orElse, faultAt, any, headerTests, headerRules, used, taken, noPart, noBase, alike, typeRules, sumRules, ownerOf, tagAlike, memberRules, pass, passes, faults}
-use Rattle.encoding.specs.RuleLaws.{any-none, record-kind, owns-record, taken-rises, taken-next, turn-apart, turn-owner, header-test, row-test, row-begins, member-row-test, header-right, type-right, taken-whole, member-right}
+use Rattle.encoding.specs.ResultLaws.{both-true, both-false, either-false, sameBytes-ok, sameBytes-same}
+use Rattle.encoding.specs.Number.{negative}
+use Rattle.encoding.specs.Table.{at, version, withLists, types, members, names, entries, typesAt, rowAt, memberAt, entriesAt, kind, spare, field, memberType, mark, memberSpare, tag, greatest, isRecord, owns, nameOf, entriesOf, range, fine, orElse, faultAt, any, headerTests, headerRules, used, takenBy, taken, noPart, noBase, alike, typeRules, hasList, entriesTaken, allowedRules, entriesRules, sumRules, ownerOf, tagAlike, memberRules, pass, passes, faults}
+use Rattle.encoding.specs.RuleLaws.{any-none, record-kind, owns-record, takenBy-next, taken-rises, taken-next, turn-apart, turn-owner, header-test, list-test, row-begins, header-right, type-right, list-right, entries-whole, taken-whole, member-right}
+use Rattle.encoding.specs.ListLaws.{length-entries, entry-at, Reaches, rises-ok, rises-step}
 use Rattle.laws.specs.Demands.{ExactTable, OneOwner}
-use Rattle.encoding.specs.Valid.{RecordKind, is-exception, is-class, OwnerKind, is-struct, is-record, is-parameters, Uses, of-basic, of-enum, of-struct, of-sequence, of-dictionary, of-proxy, of-record, of-parameters, ValuePart, NoOwner, TakenBefore, none-before, last-before, Owner, ValidHeader, TypeZeros, TypeKnown, TypeReferences, TypeTurn, TypeFilled, TypeName, TypeNamed, TypeEnumerator, ValidType, BrokenType, wrong-zeros, unknown-kind, wrong-reference, out-of-turn, empty-struct, wrong-name, great-enumerator, MemberZeros, MemberReference, MemberMark, MemberTag, ValidMember, BrokenMember, wrong-spare, wrong-type, wrong-mark, wrong-tag, Valid}
+use Rattle.encoding.specs.Valid.{RecordKind, is-exception, is-class, OwnerKind, is-struct, is-record, is-parameters, Uses, of-basic, of-enum, of-listed, of-struct, of-sequence, of-dictionary, of-proxy, of-record, of-parameters, ValuePart, NoneFrom, EndsBefore, none-before, last-before, TakenBefore, HasList, EntriesBefore, Owner, ValidVersion, version-1, version-2, ValidHeader, TypeZeros, TypeKnown, TypeReferences, TypeTurn, TypeFilled, TypeName, TypeNamed, TypeEnumerator, ValidType, BrokenType, wrong-zeros, unknown-kind, wrong-reference, out-of-turn, empty-struct, wrong-name, great-enumerator, ValidList, TypeList, MemberZeros, MemberReference, MemberMark, MemberTag, ValidMember, BrokenMember, wrong-spare, wrong-type, wrong-mark, wrong-tag, Valid}
 
 -- ---- kinds
 
@@ -56,22 +57,16 @@ owner-step k (is-struct e) = rw e
 owner-step k (is-record r) = owns-record k (record-step k r)
 owner-step k (is-parameters e) = rw e
 
-no-owner : (k : ℕ) → (OwnerKind k → ⊥) → owns k ≡ false
-no-owner k h = go (owns k) refl
-  where
-    go : (b : Bool) → owns k ≡ b → b ≡ false
-    go true e = absurd (h (owner-ok k e))
-    go false e = refl
-
 -- the first eight kinds use none
 used-basic : (T : List ℕ) (k : ℕ) → k ≤ 7 → used T k ≡ 0
 unfolding used
-used-basic T k h = List·getD-append (replicate 8 0) (2 ∷ 2 ∷ 1 ∷ 2 ∷ 0 ∷ 5 ∷ 5 ∷ 2 ∷ []) 5 k (omega arith) ∙ getD-replicate 8 k 0 5 (omega arith)
+used-basic T k h = List·getD-append (replicate 8 0) (pick (withLists T) 4 2 ∷ 2 ∷ 1 ∷ 2 ∷ 0 ∷ 5 ∷ 5 ∷ 2 ∷ []) 5 k (omega arith) ∙ getD-replicate 8 k 0 5 (omega arith)
 
-uses-ok : (T : List ℕ) (k n : ℕ) → Uses k n → used T k ≡ n
-unfolding used
+uses-ok : (T : List ℕ) (k n : ℕ) → Uses T k n → used T k ≡ n
+unfolding used withLists
 uses-ok T k n (of-basic h) = used-basic T k h
-uses-ok T k n (of-enum e) = rw e
+uses-ok T k n (of-enum e v) = rw (e, ne-eqb (version T) 2 v)
+uses-ok T k n (of-listed e v) = rw (e, v)
 uses-ok T k n (of-struct e) = rw e
 uses-ok T k n (of-sequence e) = rw e
 uses-ok T k n (of-dictionary e) = rw e
@@ -81,12 +76,16 @@ uses-ok T k n (of-record (is-class e)) = rw e
 uses-ok T k n (of-parameters e) = rw e
 
 -- a kind that leaves a field unused is known
-uses-step : (T : List ℕ) (k : ℕ) → used T k < 5 → Uses k (used T k)
-unfolding used
+uses-step : (T : List ℕ) (k : ℕ) → used T k < 5 → Uses T k (used T k)
+unfolding used withLists
 uses-step T k h = go (leb k 7) refl
   where
-    above : (j : ℕ) → k ≡ 8 + j → Uses k (used T k)
-    above zero e = rw e (of-enum refl)
+    of-eight : k ≡ 8 → (b : Bool) → eqb (version T) 2 ≡ b → Uses T k (pick b 4 2)
+    of-eight e true v = of-listed e (eqb-true (version T) 2 v)
+    of-eight e false v = of-enum e (eqb-false (version T) 2 v)
+
+    above : (j : ℕ) → k ≡ 8 + j → Uses T k (used T k)
+    above zero e = rw e (subst (λ (i : ℕ). Uses T i (pick (eqb (version T) 2) 4 2)) e (of-eight e (eqb (version T) 2) refl))
     above (suc zero) e = rw e (of-struct refl)
     above (suc (suc zero)) e = rw e (of-sequence refl)
     above (suc (suc (suc zero))) e = rw e (of-dictionary refl)
@@ -95,11 +94,11 @@ uses-step T k h = go (leb k 7) refl
     above (suc (suc (suc (suc (suc (suc zero)))))) e = rw e (of-record (is-class refl))
     above (suc (suc (suc (suc (suc (suc (suc zero))))))) e = rw e (of-parameters refl)
     above (suc (suc (suc (suc (suc (suc (suc (suc j)))))))) e =
-        let all : used T k ≡ 5 = List·getD-eq-default (0 ∷ 0 ∷ 0 ∷ 0 ∷ 0 ∷ 0 ∷ 0 ∷ 0 ∷ 2 ∷ 2 ∷ 1 ∷ 2 ∷ 0 ∷ 5 ∷ 5 ∷ 2 ∷ []) 5 {n = k} (omega arith) in
+        let all : used T k ≡ 5 = List·getD-eq-default (0 ∷ 0 ∷ 0 ∷ 0 ∷ 0 ∷ 0 ∷ 0 ∷ 0 ∷ pick (withLists T) 4 2 ∷ 2 ∷ 1 ∷ 2 ∷ 0 ∷ 5 ∷ 5 ∷ 2 ∷ []) 5 {n = k} (omega arith) in
         absurd (omega arith)
 
-    go : (b : Bool) → leb k 7 ≡ b → Uses k (used T k)
-    go true e = let l : k ≤ 7 = leb-true k 7 e in subst (Uses k) (sym (used-basic T k l)) (of-basic l)
+    go : (b : Bool) → leb k 7 ≡ b → Uses T k (used T k)
+    go true e = let l : k ≤ 7 = leb-true k 7 e in subst (Uses T k) (sym (used-basic T k l)) (of-basic l)
     go false e = let l : 7 < k = leb-false k 7 e in above (k - 8) (omega arith)
 
 -- ---- references
@@ -127,44 +126,83 @@ unfolding noBase
 base-step T t zero h = refl
 base-step T t (suc c) h = let b = h c refl in rw (lt-leb t c (b .0), eq-eqb (kind T c) (kind T t) (b .1))
 
--- ---- member rows, in turn
+-- ---- what rows take, in turn
 
--- rows that are no owners take none
-taken-none : (T : List ℕ) (r t : ℕ) → r ≤ t → NoOwner T r t → taken T t ≡ taken T r
-unfolding taken
-taken-none T r zero l h = let e : 0 ≡ r = omega arith in ap (taken T) e
-taken-none T r (suc t) l h =
-    elim (ℕ-discrete r (suc t)) [
-      | yes e ↦ ap (taken T) (sym e)
-      | no e ↦ rw (no-owner (kind T t) (h t (omega (arith, e)) (omega arith))) (add-zero (taken T t) ∙ taken-none T r t (omega (arith, e)) (λ s a b. h s a (omega arith)))
-    ]
+-- the rows of property P are those that pass test f
+module _ (P : ℕ → Type 0) (f : ℕ → Bool) (is : (t : ℕ) → f t ≡ true → P t) (of : (t : ℕ) → P t → f t ≡ true) (first count : ℕ → ℕ) where
+  not-of : (t : ℕ) → (P t → ⊥) → f t ≡ false
+  not-of t h = go (f t) refl
+    where
+      go : (b : Bool) → f t ≡ b → b ≡ false
+      go true e = absurd (h (is t e))
+      go false e = refl
 
-none-later : (T : List ℕ) (r t : ℕ) → (OwnerKind (kind T t) → ⊥) → NoOwner T r t → NoOwner T r (suc t)
-none-later T r t here none s l m o =
-    elim (ℕ-discrete s t) [ yes e ↦ here (subst (λ (x : ℕ). OwnerKind (kind T x)) e o) | no e ↦ none s l (omega (arith, e)) o ]
+  -- the others take none
+  none-taken : (r t : ℕ) → r ≤ t → NoneFrom P r t → takenBy f count t ≡ takenBy f count r
+  unfolding takenBy
+  none-taken r zero l h = let e : 0 ≡ r = omega arith in ap (takenBy f count) e
+  none-taken r (suc t) l h =
+      elim (ℕ-discrete r (suc t)) [
+        | yes e ↦ ap (takenBy f count) (sym e)
+        | no e ↦ rw (not-of t (h t (omega (arith, e)) (omega arith))) (add-zero (takenBy f count t) ∙ none-taken r t (omega (arith, e)) (λ s a b. h s a (omega arith)))
+      ]
+
+  none-later : (r t : ℕ) → (P t → ⊥) → NoneFrom P r t → NoneFrom P r (suc t)
+  none-later r t here none s l m o = elim (ℕ-discrete s t) [ yes e ↦ here (subst P e o) | no e ↦ none s l (omega (arith, e)) o ]
+
+  -- where each such row before t begins at the number taken before it
+  ends-ok : (t n : ℕ) → ((r : ℕ) → r < t → P r → first r ≡ takenBy f count r) → EndsBefore P first count t n → n ≡ takenBy f count t
+  unfolding takenBy
+  ends-ok t n turn (none-before none e) = e ∙ sym (none-taken 0 t (omega arith) none)
+  ends-ok t n turn (last-before r l o none e) =
+      omega (arith, e, turn r l o, takenBy-next f count r (of r o), none-taken (suc r) t l none)
+
+  ends-step : (t n : ℕ) → ((r : ℕ) → r < t → P r → first r ≡ takenBy f count r) → n ≡ takenBy f count t → EndsBefore P first count t n
+  unfolding takenBy
+  ends-step zero n turn e = none-before (λ s l m. absurd (omega arith)) e
+  ends-step (suc t) n turn e = go (f t) refl e (ends-step t n (λ r l. turn r (omega arith)))
+    where
+      later : (P t → ⊥) → EndsBefore P first count t n → EndsBefore P first count (suc t) n
+      later here (none-before none e) = none-before (none-later 0 t here none) e
+      later here (last-before r l o none e) = last-before r (omega arith) o (none-later (suc r) t here none) e
+
+      go : (b : Bool) → f t ≡ b → n ≡ takenBy f count t + pick b (count t) 0 → (n ≡ takenBy f count t → EndsBefore P first count t n) → EndsBefore P first count (suc t) n
+      go true o e ih = last-before t (omega arith) (is t o) (λ s l m. absurd (omega arith)) (omega (arith, e, turn t (omega arith) (is t o)))
+      go false o e ih = later (λ k. true≢false (sym (of t k) ∙ o)) (ih (omega arith))
 
 -- each owner before row t begins at the number taken before it
 abbrev pub InTurn : List ℕ → ℕ → Type 0
 InTurn T t = (r : ℕ) → r < t → OwnerKind (kind T r) → field T r 0 ≡ taken T r
 
-pub taken-ok : (T : List ℕ) (t n : ℕ) → InTurn T t → TakenBefore T t n → n ≡ taken T t
-unfolding taken
-taken-ok T t n turn (none-before none e) = e ∙ sym (taken-none T 0 t (omega arith) none)
-taken-ok T t n turn (last-before r l o none e) =
-    omega (arith, e, turn r l o, taken-next T r (owner-step (kind T r) o), taken-none T (suc r) t l none)
+module _ (T : List ℕ) (t n : ℕ) (turn : InTurn T t) where
+  pub taken-ok : TakenBefore T t n → n ≡ taken T t
+  unfolding taken
+  taken-ok B = ends-ok _ _ (λ r. owner-ok (kind T r)) (λ r. owner-step (kind T r)) _ _ t n turn B
 
-pub taken-step : (T : List ℕ) (t n : ℕ) → InTurn T t → n ≡ taken T t → TakenBefore T t n
-unfolding taken
-taken-step T zero n turn e = none-before (λ s l m. absurd (omega arith)) e
-taken-step T (suc t) n turn e = go (owns (kind T t)) refl e (taken-step T t n (λ r l. turn r (omega arith)))
-  where
-    later : (OwnerKind (kind T t) → ⊥) → TakenBefore T t n → TakenBefore T (suc t) n
-    later here (none-before none e) = none-before (none-later T 0 t here none) e
-    later here (last-before r l o none e) = last-before r (omega arith) o (none-later T (suc r) t here none) e
+  pub taken-step : n ≡ taken T t → TakenBefore T t n
+  unfolding taken
+  taken-step e = ends-step _ _ (λ r. owner-ok (kind T r)) (λ r. owner-step (kind T r)) _ _ t n turn e
 
-    go : (b : Bool) → owns (kind T t) ≡ b → n ≡ taken T t + pick b (field T t 1) 0 → (n ≡ taken T t → TakenBefore T t n) → TakenBefore T (suc t) n
-    go true o e ih = let k = owner-ok (kind T t) o in last-before t (omega arith) k (λ s l m. absurd (omega arith)) (omega (arith, e, turn t (omega arith) k))
-    go false o e ih = later (λ k. true≢false (sym (owner-step (kind T t) k) ∙ o)) (ih (omega arith))
+has-ok : (T : List ℕ) (t : ℕ) → hasList T t ≡ true → HasList T t
+unfolding hasList withLists
+has-ok T t h = let b = both-true (eqb (version T) 2) (eqb (kind T t) 8) h in record { of-version = eqb-true (version T) 2 (b .0); an-enum = eqb-true (kind T t) 8 (b .1) }
+
+has-step : (T : List ℕ) (t : ℕ) → HasList T t → hasList T t ≡ true
+unfolding hasList withLists
+has-step T t H = rw (H .of-version, H .an-enum)
+
+-- each list before row t begins at the number of entries taken before it
+abbrev pub ListsInTurn : List ℕ → ℕ → Type 0
+ListsInTurn T t = (r : ℕ) → r < t → HasList T r → field T r 2 ≡ entriesTaken T r
+
+module _ (T : List ℕ) (t n : ℕ) (turn : ListsInTurn T t) where
+  pub entries-ok : EntriesBefore T t n → n ≡ entriesTaken T t
+  unfolding entriesTaken
+  entries-ok B = ends-ok _ _ (has-ok T) (has-step T) _ _ t n turn B
+
+  pub entries-step : n ≡ entriesTaken T t → EntriesBefore T t n
+  unfolding entriesTaken
+  entries-step e = ends-step _ _ (has-ok T) (has-step T) _ _ t n turn e
 
 -- ---- tests that are all false
 
@@ -222,52 +260,62 @@ bytes-differ xs ys h = go (sameBytes xs ys) refl
 
 -- ---- the header
 
-val-one : val (1 ∷ 0 ∷ []) ≡ 1
-unfolding val
-val-one = refl
+-- the tests of version, length and E
+record HeaderFits (T : List ℕ) : Type 0 where
+  pub version-known : eqb (version T) 1 || withLists T ≡ true
+  pub there : typesAt T ≤ length T
+  pub entries-most : entries T ≤ 1024
+  pub ended : length T ≡ entriesAt T + 4 * entries T
 
--- two bytes of the number 1
-one-bytes : (l : List ℕ) → length l ≡ 2 → val l ≡ 1 → l ≡ 1 ∷ 0 ∷ []
-unfolding val
-one-bytes [] n h = absurd (omega arith)
-one-bytes (a ∷ []) n h = absurd (omega arith)
-one-bytes (a ∷ b ∷ []) n h = let p : a ≡ 1 = omega arith in let q : b ≡ 0 = omega arith in rw (p, q)
-one-bytes (a ∷ b ∷ c ∷ l) n h = absurd (omega arith)
+version-ok : (T : List ℕ) → HeaderFits T → ValidVersion T
+unfolding version withLists entries typesAt
+version-ok T F = go (eqb (at T 2 3) 1) refl (eqb (at T 2 3) 2) refl (F .version-known) (F .entries-most) (F .ended)
+  where
+    go : (a : Bool) → eqb (at T 2 3) 1 ≡ a → (b : Bool) → eqb (at T 2 3) 2 ≡ b → a || b ≡ true → pick b (at T 2 12) 0 ≤ 1024
+        → length T ≡ pick b 14 12 + 12 * types T + 8 * members T + names T + 4 * pick b (at T 2 12) 0 → ValidVersion T
+    go a ea true eb h m l = version-2 (eqb-true (at T 2 3) 2 eb) m l
+    go true ea false eb h m l = version-1 (eqb-true (at T 2 3) 1 ea) (omega arith)
+    go false ea false eb h m l = absurd (true≢false (sym h))
+
+version-step : (T : List ℕ) → ValidVersion T → HeaderFits T
+unfolding version withLists entries typesAt
+version-step T (version-1 e l) = record { version-known = rw e; there = rw e (omega arith); entries-most = rw e (omega arith); ended = rw e (omega arith) }
+version-step T (version-2 e m l) = record { version-known = rw e; there = rw e (omega arith); entries-most = rw e m; ended = rw e l }
 
 module _ (T : List ℕ) where
   pub header-ok : headerRules T ≡ fine → ValidHeader T
-  unfolding headerTests at typesAt
+  unfolding headerTests
   header-ok right =
       let test = header-test T right in
-      let front : take 5 T ≡ 70 ∷ 71 ∷ 84 ∷ 1 ∷ 0 ∷ [] = sameBytes-ok (take 5 T) _ (not-false _ (test 0)) in
-      let three : take 3 T ≡ 70 ∷ 71 ∷ 84 ∷ [] = sym (take-take 3 5 T (omega arith)) ∙ ap (take 3) front in
-      let whole : (70 ∷ 71 ∷ 84 ∷ take 2 (drop 3 T)) ≡ 70 ∷ 71 ∷ 84 ∷ 1 ∷ 0 ∷ [] = ap (λ (l : List ℕ). l ++ take 2 (drop 3 T)) (sym three) ∙ sym (take-add 3 2 T) ∙ front in
-      let two : take 2 (drop 3 T) ≡ 1 ∷ 0 ∷ [] = cc in
-      let some = either-false (eqb (types T) 0) (ltb 256 (types T)) (test 2) in
+      let some = either-false (eqb (types T) 0) (ltb 256 (types T)) (test 3) in
       record {
-        there = ltb-false (length T) 12 (test 1);
-        opening = three;
-        version = ap val two ∙ val-one;
+        opening = sameBytes-ok (take 3 T) _ (not-false _ (test 0));
+        versioned = version-ok T (record {
+          version-known = not-false _ (test 1);
+          there = ltb-false (length T) (typesAt T) (test 2);
+          entries-most = ltb-false 1024 (entries T) (test 7);
+          ended = eqb-true (length T) _ (not-false _ (test 8));
+        });
         types-least = omega (arith, eqb-false (types T) 0 (some .0));
         types-most = ltb-false 256 (types T) (some .1);
-        members-most = ltb-false 1024 (members T) (test 3);
-        names-most = ltb-false 8192 (names T) (test 4);
-        zero-byte = eqb-true _ 0 (not-false _ (test 5));
-        ended = eqb-true (length T) _ (not-false _ (test 6));
+        members-most = ltb-false 1024 (members T) (test 4);
+        names-most = ltb-false 8192 (names T) (test 5);
+        zero-byte = eqb-true _ 0 (not-false _ (test 6));
       }
 
   pub header-step : ValidHeader T → headerRules T ≡ fine
-  unfolding headerRules headerTests faultAt at typesAt
+  unfolding headerRules headerTests faultAt
   header-step H =
-      let two = one-bytes (take 2 (drop 3 T)) (length-take-le 2 (drop 3 T) (omega (arith, length-drop 3 T, H .there))) (H .version) in
-      let front : take 5 T ≡ 70 ∷ 71 ∷ 84 ∷ 1 ∷ 0 ∷ [] = take-add 3 2 T ∙ ap₂ _++_ (H .opening) two in
-      ap (faultAt 0) (first-none (headerTests T) (ap not (sameBytes-same (take 5 T) _ front)
-      also le-ltb (length T) 12 (H .there)
+      let F = version-step T (H .versioned) in
+      ap (faultAt 0) (first-none (headerTests T) (ap not (sameBytes-same (take 3 T) _ (H .opening))
+      also ap not (F .version-known)
+      also le-ltb (length T) (typesAt T) (F .there)
       also (rw (ne-eqb (types T) 0 (λ e. omega (arith, H .types-least)), le-ltb 256 (types T) (H .types-most)))
       also le-ltb 1024 (members T) (H .members-most)
       also le-ltb 8192 (names T) (H .names-most)
       also ap not (eq-eqb _ 0 (H .zero-byte))
-      also ap not (eq-eqb (length T) _ (H .ended))
+      also le-ltb 1024 (entries T) (F .entries-most)
+      also ap not (eq-eqb (length T) _ (F .ended))
       also tt))
 
 -- ---- a type row, where the owners before it are in turn
@@ -464,6 +512,75 @@ module _ (T : List ℕ) (t : ℕ) (turn : InTurn T t) where
   broken-type c (wrong-name z k r i f n) = type-class ∙ rw (zeros .strict z, known .strict k, references .strict r, in-turn .strict i, filled .strict f, fails named n)
   broken-type c (great-enumerator z k r i f m n) = type-class ∙ rw (zeros .strict z, known .strict k, references .strict r, in-turn .strict i, filled .strict f, named .strict m, fails enumerator n)
 
+-- ---- a list, where the lists before it are in turn
+
+list-merged : (a b c : Bool) → firstOf ((39, a) ∷ (39, b) ∷ (39, c) ∷ []) ≡ pick (a || (b || c)) 39 0
+unfolding firstOf
+list-merged true b c = refl
+list-merged false true c = refl
+list-merged false false true = refl
+list-merged false false false = refl
+
+module _ (T : List ℕ) (t : ℕ) (turn : ListsInTurn T t) where
+  -- test i of the list
+  abbrev entry-test : ℕ → Bool
+  entry-test i = getD (allowedRules T t) i (0, false) .1
+
+  list-valid : Tells (entry-test 0 || (entry-test 1 || entry-test 2)) (TypeList T t)
+  unfolding allowedRules greatest
+  list-valid = record { fair = fair; strict = strict }
+    where
+      fair : entry-test 0 || (entry-test 1 || entry-test 2) ≡ false → TypeList T t
+      fair h H =
+          let a : (entry-test 0 ≡ false) × (entry-test 1 || entry-test 2 ≡ false) = either-false _ _ h in
+          let b : (entry-test 1 ≡ false) × (entry-test 2 ≡ false) = either-false _ _ (a .1) in
+          let k = has-step T t H in
+          let R = rises-ok (greatest T t) (entriesOf T t) (not-false _ (both-false (hasList T t) _ (b .1) k)) in
+          let n = length-entries T t in
+          record {
+            in-turn = entries-step T t (field T t 2) turn (eqb-true (field T t 2) (entriesTaken T t) (not-false _ (both-false (hasList T t) _ (a .0) k)));
+            some = omega (arith, R .some, n);
+            inside = ltb-false (entries T) (field T t 2 + field T t 3) (both-false (hasList T t) _ (b .0) k);
+            rises = λ i l. omega (arith, R .rises i (omega (arith, n)), entry-at T t i (omega arith), entry-at T t (suc i) l);
+            last = λ i e. sym (entry-at T t i (omega arith)) ∙ R .last i (e ∙ sym n);
+          }
+
+      reaches : ValidList T t → Reaches (greatest T t) (entriesOf T t)
+      reaches W =
+          let n = length-entries T t in
+          record {
+            some = omega (arith, W .some, n);
+            rises = λ i l. omega (arith, W .rises i (omega (arith, n)), entry-at T t i (omega (arith, n)), entry-at T t (suc i) (omega (arith, n)));
+            last = λ i e. entry-at T t i (omega (arith, n)) ∙ W .last i (e ∙ n);
+          }
+
+      strict : TypeList T t → entry-test 0 || (entry-test 1 || entry-test 2) ≡ false
+      strict P =
+          let list : hasList T t ≡ true → ValidList T t = λ e. P (has-ok T t e) in
+          neither _ _ (where-true (hasList T t) _ (λ e. ap not (eq-eqb (field T t 2) (entriesTaken T t) (entries-ok T t (field T t 2) turn (list e .in-turn)))))
+          (neither _ _ (where-true (hasList T t) _ (λ e. le-ltb (entries T) (field T t 2 + field T t 3) (list e .inside)))
+          (where-true (hasList T t) _ (λ e. ap not (rises-step (greatest T t) (entriesOf T t) (reaches (list e))))))
+
+  list-class : firstOf (allowedRules T t) ≡ pick (entry-test 0 || (entry-test 1 || entry-test 2)) 39 0
+  unfolding allowedRules
+  list-class = list-merged _ _ _
+
+  pub list-ok : firstOf (allowedRules T t) ≡ 0 → TypeList T t
+  list-ok h = list-valid .fair (go (entry-test 0 || (entry-test 1 || entry-test 2)) (sym list-class ∙ h))
+    where
+      go : (b : Bool) → _≡_ {A = ℕ} (pick b 39 0) 0 → b ≡ false
+      go true e = absurd (omega arith)
+      go false e = refl
+
+  pub list-step : TypeList T t → firstOf (allowedRules T t) ≡ 0
+  list-step L = list-class ∙ rw (list-valid .strict L)
+
+  pub list-broken : 0 < firstOf (allowedRules T t) → TypeList T t → ⊥
+  list-broken l L = omega (arith, list-step L)
+
+  pub broken-list : (TypeList T t → ⊥) → firstOf (allowedRules T t) ≡ 39
+  broken-list n = list-class ∙ rw (fails list-valid n)
+
 -- ---- a member row, where the owners are in turn
 
 member-merged : (a b c d e f g : Bool)
@@ -480,7 +597,7 @@ member-merged false false false false false false g = refl
 module _ (T : List ℕ) (turn : InTurn T (types T)) where
   -- a member row among those taken has an owner
   pub owned : (n m : ℕ) → n ≤ types T → m < taken T n → (o : ℕ) × Owner T o m
-  unfolding taken
+  unfolding taken takenBy
   owned zero m h l = absurd (omega arith)
   owned (suc n) m h l = go (owns (kind T n)) refl (ltb m (taken T n)) refl l (λ k. owned n m (omega arith) k)
     where
@@ -620,12 +737,24 @@ turned T (suc n) R t l o = taken-ok T t (field T t 0) (λ r m. turned T n (λ s 
 pub rules-turned : (T : List ℕ) (n : ℕ) → ((t : ℕ) → t < n → firstOf (typeRules T t) ≡ 0) → InTurn T n
 rules-turned T n R t l o = row-begins T t (R t l) (owner-step (kind T t) o)
 
+-- so are valid lists, and lists that break no rule
+pub lists-turned : (T : List ℕ) (n : ℕ) → ((t : ℕ) → t < n → TypeList T t) → ListsInTurn T n
+lists-turned T zero L t l h = absurd (omega arith)
+lists-turned T (suc n) L t l h = entries-ok T t (field T t 2) (λ r m. lists-turned T n (λ s k. L s (omega arith)) r (omega arith)) (L t l h .in-turn)
+
+pub list-rules-turned : (T : List ℕ) (n : ℕ) → ((t : ℕ) → t < n → firstOf (allowedRules T t) ≡ 0) → ListsInTurn T n
+unfolding allowedRules
+list-rules-turned T n L t l h = eqb-true (field T t 2) (entriesTaken T t) (not-false _ (both-false (hasList T t) _ (list-test T t (L t l) 0) (has-step T t h)))
+
 pub valid : (T : List ℕ) → faults T ≡ fine → Valid T
 valid T right =
     let turn = rules-turned T (types T) (type-right T right) in
+    let in-lists = list-rules-turned T (types T) (list-right T right) in
     record {
       header = header-ok T (header-right T right);
       type = λ t l. type-ok T t (λ r m. turn r (omega arith)) (type-right T right t l);
+      list = λ t l. list-ok T t (λ r m. in-lists r (omega arith)) (list-right T right t l);
+      all-listed = entries-step T (types T) (entries T) in-lists (sym (entries-whole T right));
       all-taken = taken-step T (types T) (members T) turn (sym (taken-whole T right));
       member = λ o m own. member-ok T turn o m own (member-right T right m (omega (arith, owned-taken T turn o m own, taken-whole T right)));
     }
@@ -636,13 +765,16 @@ pass-none place rules i zero h = refl
 pass-none place rules i (suc k) h = rw (h i (omega arith) (omega arith)) (pass-none place rules (suc i) k (λ r l m. h r (omega arith) (omega arith)))
 
 pub sound : (T : List ℕ) → Valid T → faults T ≡ fine
-unfolding faults passes sumRules orElse faultAt
+unfolding faults passes entriesRules sumRules orElse faultAt
 sound T S =
     let turn = turned T (types T) (S .type) in
+    let in-lists = lists-turned T (types T) (S .list) in
     let sum = taken-ok T (types T) (members T) turn (S .all-taken) in
     rw (
       header-step T (S .header),
       pass-none (rowAt T) (typeRules T) 0 (types T) (λ t a b. type-step T t (λ r m. turn r (omega arith)) (S .type t (omega arith))),
+      pass-none (rowAt T) (allowedRules T) 0 (types T) (λ t a b. list-step T t (λ r m. in-lists r (omega arith)) (S .list t (omega arith))),
+      eq-eqb (entriesTaken T (types T)) (entries T) (sym (entries-ok T (types T) (entries T) in-lists (S .all-listed))),
       eq-eqb (taken T (types T)) (members T) (sym sum),
       pass-none (memberAt T) (memberRules T) 0 (members T) (λ m a b. let w = owned T turn (types T) m (omega arith) (omega (arith, sum)) in member-step T turn (w .0) m (w .1) (S .member (w .0) m (w .1))),
     )

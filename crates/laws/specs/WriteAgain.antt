@@ -16,7 +16,7 @@ use lib.Dec.{leb}
 use borrow.Author.Tests.{leb-true, leb-false, ne-eqb}
 use Rattle.encoding.specs.Result.{pick, concat}
 use Rattle.encoding.specs.Types.{Form}
-use Rattle.encoding.specs.Grammar.{IsValue}
+use Rattle.encoding.specs.Grammar.{IsValue, ListsRise}
 use Rattle.encoding.specs.Table.{kind, fine, faults, chain, Member, lookup}
 use Rattle.encoding.specs.Table
 use Rattle.encoding.specs.RuleLaws.{named-ok}
@@ -27,6 +27,7 @@ use Rattle.encoding.specs.MessageLaws.{length-rows}
 use Rattle.encoding.specs.Write.{Slot, rising, slot, slots, planOf, plan, out, Given, partOf, piecesOf, slicesOf, gathered, noFormat, formatOfNumber}
 use Rattle.encoding.specs.OptionalFormLaws.{is-form}
 use Rattle.encoding.specs.Conform.{Level, Owned, Follow, Slices, Conform}
+use Rattle.encoding.specs.ListLaws.{found-rises, required-rise, optional-rise}
 use Rattle.encoding.specs.ExactLaws.{is-exact}
 use Rattle.laws.specs.Demands.{Follows, All, more, SameMembers, same-member, Complete, WriteAgain, WriteSame, OneMessage}
 use Rattle.laws.specs.OptionalNewer.{lookup-key}
@@ -88,14 +89,14 @@ pieces-given t (p ∷ ps) = ap (λ (l : List Piece). p ∷ l) (pieces-given t ps
 
 module _ (T m : List ℕ) (t : ℕ) where
   -- a row of content that is in the message chooses its slot
-  row-taken : (s : Slot) (g : Given) (at : ℕ) (b : List ℕ) {ss : List Slot} {rs : List Row} {gs : List Given} → givenOf s b ≡ g → IsValue (s .member .ty) b → Stands m at b
+  row-taken : (s : Slot) (g : Given) (at : ℕ) (b : List ℕ) {ss : List Slot} {rs : List Row} {gs : List Given} → givenOf s b ≡ g → ListsRise (s .member .ty) → IsValue (s .member .ty) b → Stands m at b
       → Judged m ss rs gs → Judged m (s ∷ ss) (record { member = s .member .row; place = at; len = length b } ∷ rs) (g ∷ gs)
   unfolding partOf
-  row-taken s g at b {ss} {rs} {gs} e w S K =
+  row-taken s g at b {ss} {rs} {gs} e R w S K =
       let r : Row = record { member = s .member .row; place = at; len = length b } in
       let p : partOf m r ≡ b = stands-there b S in
       subst (λ (h : Given). Judged m (s ∷ ss) (r ∷ rs) (h ∷ gs)) (ap (givenOf s) p ∙ e)
-      (taken {r = r} refl (stands-inside b S) (is-exact (s .member .ty) (partOf m r) (subst (IsValue (s .member .ty)) (sym p) w)) K)
+      (taken {r = r} refl (stands-inside b S) (is-exact (s .member .ty) R (partOf m r) (subst (IsValue (s .member .ty)) (sym p) w)) K)
 
   missed-optionals : (os : List Member) → Judged m (map (slot t false) os) [] []
   unfolding slot
@@ -125,41 +126,41 @@ module _ (T m : List ℕ) (t : ℕ) where
       go false e true f K ih = absurd (omega (arith, leb-false least (d .key) e, leb-true n (d .key) f))
       go false e false f K ih = ih K
 
-  level-judged : Ordered T t → (ms : List Member) → All (Found (Table.requiredMembers T t)) ms → (least : ℕ) (ps : List Piece) → Level ms (Table.optionalMembers T t) least ps
+  level-judged : faults T ≡ fine → Ordered T t → (ms : List Member) → All (Found (Table.requiredMembers T t)) ms → (least : ℕ) (ps : List Piece) → Level ms (Table.optionalMembers T t) least ps
       → (at : ℕ) → Stands m at (concat pieceBytes ps)
       → Judged m (map (slot t true) ms ++ map (slot t false) (from least (rising (Table.optionalMembers T t)))) (pieceRows T t at ps) (map (givenTo t) (keptPieces ps))
   unfolding pieceRows pieceMember listRow contentBytes keptPieces givenOf slot
-  level-judged O [] F least [] L at S = missed-optionals (from least (rising (Table.optionalMembers T t)))
-  level-judged O [] F least (required i b ∷ ps) L at S = absurd L
-  level-judged O [] F least (optional k f b ∷ ps) (K, L) at S =
+  level-judged right O [] F least [] L at S = missed-optionals (from least (rising (Table.optionalMembers T t)))
+  level-judged right O [] F least (required i b ∷ ps) L at S = absurd L
+  level-judged right O [] F least (optional k f b ∷ ps) (K, L) at S =
       let d : Member = K .member in
       let key : k ≡ d .key = lookup-key k (Table.optionalMembers T t) d (K .found) in
       let p : Piece = optional k f b in
-      let ih = level-judged O [] F (suc k) ps L (at + length (pieceBytes p)) (others-stand T m p ps at S) in
+      let ih = level-judged right O [] F (suc k) ps L (at + length (pieceBytes p)) (others-stand T m p ps at S) in
       subst (λ (o : Option Member). Judged m (map (slot t false) (from least (rising (Table.optionalMembers T t)))) (listRow o (at + length (frontBytes p)) b (pieceRows T t (at + length (pieceBytes p)) ps)) (map (givenTo t) (p ∷ keptPieces ps)))
       (sym (K .found))
       (find-judged (map (slot t false) (from least (rising (Table.optionalMembers T t)))) _ (optional-spot t k least (O .rows) (O .keys) (K .found) (K .rises))
-      (row-taken (slot t false d) (givenTo t p) (at + length (frontBytes p)) b (ap₂ (λ (n : ℕ) (x : Form). givenTo t (optional n x b)) (sym key) (is-form (K .form))) (K .one) (content-stands T m p ps at S)
+      (row-taken (slot t false d) (givenTo t p) (at + length (frontBytes p)) b (ap₂ (λ (n : ℕ) (x : Form). givenTo t (optional n x b)) (sym key) (is-form (K .form))) (found-rises k (Table.optionalMembers T t) d (optional-rise T right t) (K .found)) (K .one) (content-stands T m p ps at S)
       (subst (λ (n : ℕ). Judged m (map (slot t false) (from (suc n) (rising (Table.optionalMembers T t)))) (pieceRows T t (at + length (pieceBytes p)) ps) (map (givenTo t) (keptPieces ps))) key ih)))
-  level-judged O [] F least (skipped k f b ∷ ps) (U, L) at S =
+  level-judged right O [] F least (skipped k f b ∷ ps) (U, L) at S =
       judged-earlier least (suc k) (omega (arith, U .rises)) (rising (Table.optionalMembers T t))
-      (level-judged O [] F (suc k) ps L (at + length (pieceBytes (skipped k f b))) (others-stand T m (skipped k f b) ps at S))
-  level-judged O (d ∷ ds) F least [] L at S = absurd L
-  level-judged O (d ∷ ds) (more q F) least (required i b ∷ ps) (e, x, L) at S =
+      (level-judged right O [] F (suc k) ps L (at + length (pieceBytes (skipped k f b))) (others-stand T m (skipped k f b) ps at S))
+  level-judged right O (d ∷ ds) F least [] L at S = absurd L
+  level-judged right O (d ∷ ds) (more q F) least (required i b ∷ ps) (e, x, L) at S =
       let p : Piece = required i b in
       let found : lookup i (Table.requiredMembers T t) ≡ some d = rw e q in
       subst (λ (o : Option Member). Judged m (map (slot t true) (d ∷ ds) ++ map (slot t false) (from least (rising (Table.optionalMembers T t)))) (listRow o (at + length (frontBytes p)) b (pieceRows T t (at + length (pieceBytes p)) ps)) (map (givenTo t) (p ∷ keptPieces ps)))
       (sym found)
-      (row-taken (slot t true d) (givenTo t p) (at + length (frontBytes p)) b (ap (λ (n : ℕ). givenTo t (required n b)) (sym e)) x (content-stands T m p ps at S)
-      (level-judged O ds F least ps L (at + length (pieceBytes p)) (others-stand T m p ps at S)))
-  level-judged O (d ∷ ds) F least (optional k f b ∷ ps) L at S = absurd L
-  level-judged O (d ∷ ds) F least (skipped k f b ∷ ps) L at S = absurd L
+      (row-taken (slot t true d) (givenTo t p) (at + length (frontBytes p)) b (ap (λ (n : ℕ). givenTo t (required n b)) (sym e)) (found-rises i (Table.requiredMembers T t) d (required-rise T right t) found) x (content-stands T m p ps at S)
+      (level-judged right O ds F least ps L (at + length (pieceBytes p)) (others-stand T m p ps at S)))
+  level-judged right O (d ∷ ds) F least (optional k f b ∷ ps) L at S = absurd L
+  level-judged right O (d ∷ ds) F least (skipped k f b ∷ ps) L at S = absurd L
 
-  owned-judged : Ordered T t → (ps : List Piece) → Owned T t ps → (at : ℕ) → Stands m at (concat pieceBytes ps) → Judged m (slots T t) (pieceRows T t at ps) (map (givenTo t) (keptPieces ps))
+  owned-judged : faults T ≡ fine → Ordered T t → (ps : List Piece) → Owned T t ps → (at : ℕ) → Stands m at (concat pieceBytes ps) → Judged m (slots T t) (pieceRows T t at ps) (map (givenTo t) (keptPieces ps))
   unfolding slots
-  owned-judged O ps L at S =
+  owned-judged right O ps L at S =
       subst (λ (l : List Member). Judged m (map (slot t true) (Table.requiredMembers T t) ++ map (slot t false) l) (pieceRows T t at ps) (map (givenTo t) (keptPieces ps))) (from-zero (rising (Table.optionalMembers T t)))
-      (level-judged O (Table.requiredMembers T t) (required-found T t) 0 ps L at S)
+      (level-judged right O (Table.requiredMembers T t) (required-found T t) 0 ps L at S)
 
 -- ---- the rows of a chain
 
@@ -179,7 +180,7 @@ module _ (T m : List ℕ) (right : faults T ≡ fine) where
   follow-judged g (t ∷ ts) (known o ps ∷ ss) (more x O) (before p P) (e, L, F) s at S =
       let d : ℕ = at + length (sliceFront g s (isLast ss) (known o ps)) in
       let K : Judged m (slots T t) (pieceRows T t d ps) (map (givenTo t) (keptPieces ps)) =
-      owned-judged T m t (owner-ordered T t right x) ps L d (stands-first (concat pieceBytes ps) _ (data-stand T m g s (known o ps) ss at S)) in
+      owned-judged T m t right (owner-ordered T t right x) ps L d (stands-first (concat pieceBytes ps) _ (data-stand T m g s (known o ps) ss at S)) in
       let R = follow-judged g ts ss O P F (later g) _ (slices-stand T m g s (known o ps) ss at S) in
       record {
         gives = map (givenTo t) (keptPieces ps) ++ R .gives;
@@ -245,7 +246,7 @@ module _ (T : List ℕ) (right : faults T ≡ fine) (top : ℕ) where
     list-again f ps (k, g, L) =
         let m : List ℕ = encapsulate (concat pieceBytes ps) in
         let K : Judged m (slots T top) (pieceRows T top 6 ps) (map (givenTo top) (keptPieces ps)) =
-        owned-judged T m top (owner-ordered T top right (top-owner T right top there)) ps L 6 (stands-encapsulated (concat pieceBytes ps)) in
+        owned-judged T m top right (owner-ordered T top right (top-owner T right top there)) ps L 6 (stands-encapsulated (concat pieceBytes ps)) in
         let own : piecesOf top (map (givenTo top) (keptPieces ps)) ≡ keptPieces ps = owns-all (judged-owner (λ (o : ℕ). o ≡ top) (slots-owner T top) K) ∙ pieces-given top (keptPieces ps) in
         record {
           there = there;

@@ -26,6 +26,7 @@ use Rattle.encoding.specs.Write
 use Rattle.encoding.specs.Write.{Slot, rising, slot, slots, planOf, plan, Given, partOf, piecesOf, slicesOf, gathered, noFormat, formatOfNumber}
 use Rattle.encoding.specs.OptionalFormLaws.{form-has}
 use Rattle.encoding.specs.Conform.{Level, Owned, Follow, Slices, Conform}
+use Rattle.encoding.specs.ListLaws.{MembersRise, required-rise}
 use Rattle.encoding.specs.ExactLaws.{exact-is}
 use Rattle.laws.specs.Demands.{readAs, All, end, more, SameMembers, no-members, same-member, UnderTop, rowList, Complete, ReadBack}
 use Rattle.laws.specs.RowsExact.{Stands, stands-first, stands-next, stands-there, stands-encapsulated, content-stands, others-stand, data-stand, slices-stand}
@@ -33,32 +34,32 @@ use Rattle.laws.specs.RecordNewer.{Line, here, above, descends-ok}
 use Rattle.laws.specs.TableExact.{valid}
 use Rattle.laws.specs.MessageExact.{rules-written}
 use Rattle.laws.specs.PlanLaws.{Pairs, before, KeysRise, all-rising, givenOf, Judged, over, taken, missed, judged-ok}
-use Rattle.laws.specs.PlanRules.{all-any, all-with, Owner, Fit, slots-owner, owner-ordered, optional-fit, slots-fit, Falls, plan-owner, chain-falls, chain-owners, chain-above, chain-top, list-chain, top-step, top-owner, base-record, judging-slots}
+use Rattle.laws.specs.PlanRules.{all-any, all-with, Owner, Fit, slots-owner, owner-ordered, optional-fit, slots-fit, fit-rises, Falls, plan-owner, chain-falls, chain-owners, chain-above, chain-top, list-chain, top-step, top-owner, base-record, judging-slots}
 use Rattle.laws.specs.GatherLaws.{piecesIn, judged-split, judged-owner, slices-own, owns-all, part-length, piece-content, piece-given, piece-member}
 use Rattle.laws.specs.MessageWritten.{writing-ok}
 
 -- ---- the pieces of one owner
 
 module _ (T : List ℕ) (t : ℕ) (buffer : List ℕ) where
-  judged-level : length buffer ≤ limit → (ms os : List Member) (least : ℕ) → Pairs KeysRise os → All (λ (d : Member). least ≤ d .key) os → All (λ (d : Member). Fit T (slot t false d)) os
+  judged-level : faults T ≡ fine → length buffer ≤ limit → (ms os : List Member) → MembersRise ms → (least : ℕ) → Pairs KeysRise os → All (λ (d : Member). least ≤ d .key) os → All (λ (d : Member). Fit T (slot t false d)) os
       → {rs : List Row} {gs : List Given} → Judged buffer (map (slot t true) ms ++ map (slot t false) os) rs gs → Level ms (Table.optionalMembers T t) least (piecesIn gs)
   unfolding slot givenOf
-  judged-level h [] [] least P L F over = tt
-  judged-level h [] (d ∷ os) least (before p P) (more l L) (more f F) (taken {r = r} e i x K) = (
+  judged-level right h [] [] R least P L F over = tt
+  judged-level right h [] (d ∷ os) R least (before p P) (more l L) (more f F) (taken {r = r} e i x K) = (
     record {
       member = d;
       found = f .finds;
       rises = l;
       form = form-has (d .ty);
-      one = exact-is (d .ty) (partOf buffer r) x;
+      one = exact-is (d .ty) (fit-rises T right (slot t false d) f) (partOf buffer r) x;
       tag-short = f .short refl;
       length-short = omega (arith, part-length buffer r i);
     },
-    judged-level h [] os (suc (d .key)) P p F K,
+    judged-level right h [] os R (suc (d .key)) P p F K,
   )
-  judged-level h [] (d ∷ os) least (before p P) (more l L) (more f F) (missed q K) = judged-level h [] os least P L F K
-  judged-level h (m ∷ ms) os least P L F (taken {r = r} e i x K) = (refl, exact-is (m .ty) (partOf buffer r) x, judged-level h ms os least P L F K)
-  judged-level h (m ∷ ms) os least P L F (missed q K) = absurd (true≢false q)
+  judged-level right h [] (d ∷ os) R least (before p P) (more l L) (more f F) (missed q K) = judged-level right h [] os R least P L F K
+  judged-level right h (m ∷ ms) os R least P L F (taken {r = r} e i x K) = (refl, exact-is (m .ty) (R .0) (partOf buffer r) x, judged-level right h ms os (R .1) least P L F K)
+  judged-level right h (m ∷ ms) os R least P L F (missed q K) = absurd (true≢false q)
 
   judged-rows : (m : List ℕ) {ss : List Slot} {rs : List Row} {gs : List Given} → All (λ (s : Slot). Fit T s × (s .owner ≡ t)) ss → Judged buffer ss rs gs
       → (at : ℕ) → Stands m at (concat pieceBytes (piecesIn gs)) → SameMembers buffer m rs (pieceRows T t at (piecesIn gs))
@@ -96,7 +97,7 @@ pub record Carries (T buffer ts : List ℕ) (rs : List Row) (ss : List Slice) : 
 module _ (T buffer : List ℕ) (right : faults T ≡ fine) (short : length buffer ≤ limit) where
   judged-owned : (t : ℕ) → Owner T t → {rs : List Row} {gs : List Given} → Judged buffer (slots T t) rs gs → Owned T t (piecesIn gs)
   unfolding slots
-  judged-owned t O K = judged-level T t buffer short (Table.requiredMembers T t) (rising (Table.optionalMembers T t)) 0 (owner-ordered T t right O .keys) (all-any (λ d. omega arith) _) (all-rising (optional-fit T t right O)) K
+  judged-owned t O K = judged-level T t buffer right short (Table.requiredMembers T t) (rising (Table.optionalMembers T t)) (required-rise T right t) 0 (owner-ordered T t right O .keys) (all-any (λ d. omega arith) _) (all-rising (optional-fit T t right O)) K
 
   listed-owned : (m : List ℕ) (t : ℕ) → Owner T t → {rs : List Row} {gs : List Given} → Judged buffer (slots T t) rs gs
       → (at : ℕ) → Stands m at (concat pieceBytes (piecesIn gs)) → SameMembers buffer m rs (pieceRows T t at (piecesIn gs))

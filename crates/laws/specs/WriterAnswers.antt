@@ -1,7 +1,7 @@
 -- Which answer the writer gives, for every input: its judgements one after another, each with what the laws of the rows say of it.
 --
 --   Ends, message-ends, ends-message   where no message is made: before the rows, for too few row bytes, or at a row
---   early-refused                      31 to 38, 2, 23 and 3
+--   early-refused                      31 to 39, 2, 23 and 3
 --   right-lists, wrong-bytes           20 and 21
 --   message-one                        rows have one message
 --   right-makes                        a right list has a message: what `message` makes

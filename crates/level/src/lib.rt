@@ -6,7 +6,7 @@ ghost use mathlib.Core.List.{List};
 ghost use Prim.Native.Nat.{ℕ, _+_, _*_, _^_, _<_};
 ghost use lib.ListN.{length};
 ghost use Rattle.encoding.specs.Result.{ok};
-ghost use Rattle.encoding.specs.Table.{tyOf, requiredMembers};
+ghost use Rattle.encoding.specs.Table.{typesAt, tyOf, requiredMembers};
 ghost use Rattle.encoding.specs.Value.{value};
 ghost use Rattle.encoding.specs.Optional.{Piece, requireds};
 ghost use Rattle.encoding.specs.Message.{rowBytes, pieceRows};
@@ -58,9 +58,10 @@ fn put_member(
     }
 }
 
-// Reads the required members of owner t, as declared, and puts a row for each, from row `count` on; `at` is the place of the first. Gives the first optional row too.
+// Reads the required members of owner t, as declared, and puts a row for each, from row `count` on; `at` is the place of the first. Gives the first optional row too. `begin` is where the type rows begin.
 pub fn required(
     table: &[u8],
+    begin: usize,
     shapes: &[u8; 256],
     t: usize,
     s: &[u8],
@@ -68,6 +69,7 @@ pub fn required(
     count: usize,
     out: &mut [u8],
 ) -> Members
+    requires { ⌜ begin ≡ typesAt (now table) ⌝ }
     requires { ⌜ now shapes ≡ shapesOf (now table) ⌝ }
     requires { ⌜ (at + length (now s) < 2 ^ 63) × (count < 2 ^ 63) ⌝ }
     ensures { λ r. ⌜ r ≡ membersOf count (optionalStart (now (table .entry)) t) (requireds (requiredMembers (now (table .entry)) t) (now (s .entry))) ⌝ }
@@ -75,8 +77,8 @@ pub fn required(
     ensures { λ _. ⌜ ((ps : List Piece) (n : ℕ) → requireds (requiredMembers (now (table .entry)) t) (now (s .entry)) ≡ ok ps n → now (out .exit) ≡ fill count (pieceRows (now (table .entry)) t at ps) (now (out .entry))) ⌝ }
 {
     let all = table::members(table);
-    let first = table::members_at(table);
-    let owner = table::type_row(table, t);
+    let first = table::members_at(table, begin);
+    let owner = table::type_row(table, begin, t);
     let mut m = owner.a;
     let mut left = owner.b;
     let mut pos = 0;

@@ -1,9 +1,9 @@
 // The next optional of an owner.
 ghost use mathlib.Core.Path.{_≡_};
-ghost use Prim.Native.Nat.{_≤_};
+ghost use Prim.Native.Nat.{_≤_, _<_};
 ghost use Rattle.encoding.specs.Result.{bytes, inside};
 ghost use Rattle.encoding.specs.Value.{value};
-ghost use Rattle.encoding.specs.Table.{tyOf};
+ghost use Rattle.encoding.specs.Table.{membersAt, tyOf};
 ghost use Rattle.encoding.specs.Optional.{part, nextOptional};
 ghost use Rattle.shapes.specs.Shapes.{shapesOf};
 ghost use Rattle.table.specs.Tags.{optionalFrom};
@@ -52,20 +52,22 @@ fn used_up(table: &[u8], shapes: &[u8; 256], t: usize, s: &[u8], f: usize) -> Si
     }
 }
 
-// The next optional: a known value in its declared bytes, or a skipped one. Its tag is at least `least`, and is looked up among the member rows from `from` up to `end`.
+// The next optional: a known value in its declared bytes, or a skipped one. Its tag is at least `least`, and is looked up among the member rows from `from` up to `end`; `first` is where the member rows begin.
 pub fn optional(
     table: &[u8],
+    first: usize,
     shapes: &[u8; 256],
     end: usize,
     from: usize,
     least: usize,
     s: &[u8],
 ) -> Optional
+    requires { ⌜ (first ≡ membersAt (now table)) × (first < 1048576) ⌝ }
     requires { ⌜ now shapes ≡ shapesOf (now table) ⌝ }
     requires { ⌜ end ≤ 131072 ⌝ }
     ensures { λ r. ⌜ r ≡ optionalAnswer (optionalFrom (now (table .entry)) end from) (nextOptional (optionalFrom (now (table .entry)) end from) least (now (s .entry))) ⌝ }
 {
-    let h = optional::headers::header(table, shapes, end, from, least, s);
+    let h = optional::headers::header(table, first, shapes, end, from, least, s);
     match h {
         Head::Known(m, ty, tag, n, f) => {
             let p = used_up(table, shapes, ty, &s[n..], f);

@@ -1,8 +1,9 @@
 // An optional's header: its first byte and, if the tag is long, a size; then the judgements.
 ghost use mathlib.Core.Path.{_≡_};
-ghost use Prim.Native.Nat.{_≤_};
+ghost use Prim.Native.Nat.{_≤_, _<_};
 ghost use mathlib.Core.Bool.{_&&_};
 ghost use lib.Dec.{ltb};
+ghost use Rattle.encoding.specs.Table.{membersAt};
 ghost use Rattle.encoding.specs.Optional.{header};
 ghost use Rattle.shapes.specs.Shapes.{shapesOf};
 ghost use Rattle.table.specs.Tags.{optionalFrom};
@@ -58,15 +59,17 @@ fn early(least: usize, long: bool, tag: usize, k: usize) -> usize
     0
 }
 
-// A header, judged: first as above, then 12 for a known tag with other type bits. The tag is looked up among the member rows from `from` up to `end`.
+// A header, judged: first as above, then 12 for a known tag with other type bits. The tag is looked up among the member rows from `from` up to `end`; `first` is where the member rows begin.
 pub fn header(
     table: &[u8],
+    first: usize,
     shapes: &[u8; 256],
     end: usize,
     from: usize,
     least: usize,
     s: &[u8],
 ) -> Head
+    requires { ⌜ (first ≡ membersAt (now table)) × (first < 1048576) ⌝ }
     requires { ⌜ now shapes ≡ shapesOf (now table) ⌝ }
     requires { ⌜ end ≤ 131072 ⌝ }
     ensures { λ r. ⌜ r ≡ headOf (now (table .entry)) (optionalFrom (now (table .entry)) end from) (header (optionalFrom (now (table .entry)) end from) least (now (s .entry))) ⌝ }
@@ -78,7 +81,7 @@ pub fn header(
             if c != 0 {
                 return Head::Wrong(c, 0);
             }
-            let found = table::chain::tag_member(table, end, from, tag);
+            let found = table::chain::tag_member(table, first, end, from, tag);
             match found {
                 FoundMember::At(m, of) => {
                     let ty = crate::type_of(table::members(table), m, of);

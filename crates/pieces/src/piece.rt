@@ -9,7 +9,7 @@ ghost use mathlib.Core.Path.{_≡_};
 ghost use Prim.Native.Nat.{_+_, _≤_, _<_};
 ghost use lib.ListN.{length};
 ghost use Rattle.encoding.specs.Result.{pick};
-ghost use Rattle.encoding.specs.Table.{tyOf};
+ghost use Rattle.encoding.specs.Table.{typesAt, tyOf};
 ghost use Rattle.encoding.specs.Write.{partOf};
 ghost use Rattle.shapes.specs.Shapes.{shapesOf};
 ghost use Rattle.wire.specs.Row.{asRow};
@@ -104,6 +104,7 @@ fn put_optional(
 // Checks row i, 20 then 21, and puts it if it is a member of the cursor's owner. With `judged` its part is not checked again.
 pub fn put_row(
     table: &[u8],
+    begin: usize,
     shapes: &[u8; 256],
     out: &mut [u8],
     at: usize,
@@ -113,15 +114,16 @@ pub fn put_row(
     i: usize,
     buffer: &[u8],
 ) -> Placed
+    requires { ⌜ begin ≡ typesAt (now table) ⌝ }
     requires { ⌜ now shapes ≡ shapesOf (now table) ⌝ }
     requires { ⌜ (at ≤ 1152921504606846976) × (i < 4294967296) × (from .passed ≤ 65536) × (length (now buffer) ≤ 65536) ⌝ }
     ensures { λ r. ⌜ RowPut (now (table .entry)) (now (rows .entry)) (now (buffer .entry)) judged from i at (now (out .entry)) (now (out .exit)) r ⌝ }
 {
     let row = wire::rows::row_at(rows, i);
-    let r = state::reach_in(table, from, row.member);
+    let r = state::reach_in(table, begin, from, row.member);
     match r {
         Reach::Due(c) => {
-            let t = table::type_of_member(table, row.member);
+            let t = table::type_of_member(table, begin, row.member);
             let fault = part_form(table, shapes, t, judged, row, buffer);
             if fault != 0 {
                 return Placed::Wrong(fault);
@@ -130,7 +132,7 @@ pub fn put_row(
             Placed::Row(c, end, false)
         }
         Reach::May(c) => {
-            let t = table::type_of_member(table, row.member);
+            let t = table::type_of_member(table, begin, row.member);
             let fault = part_form(table, shapes, t, judged, row, buffer);
             if fault != 0 {
                 return Placed::Wrong(fault);

@@ -3,17 +3,20 @@ use crate::Cursor;
 use crate::Reach;
 ghost use mathlib.Core.Path.{_≡_};
 ghost use Prim.Native.Nat.{_≤_, _<_};
+ghost use Rattle.encoding.specs.Table.{typesAt};
 ghost use Rattle.encoding.specs.Write.{anyOf};
 ghost use Rattle.pieces.specs.Cursors.{dueFrom, Settled, ReachedIn};
 
 // How many of the b member rows from a on come before the next required one; all of them if none is due.
-fn next_due(table: &[u8], a: usize, b: usize, passed: usize) -> usize
+fn next_due(table: &[u8], begin: usize, a: usize, b: usize, passed: usize) -> usize
+    requires { ⌜ begin ≡ typesAt (now table) ⌝ }
     requires { ⌜ (a < 65536) × (b < 65536) × (passed ≤ 65536) ⌝ }
     ensures { λ r. ⌜ Settled (now (table .entry)) a b passed r ⌝ }
 {
+    let first = table::members_at(table, begin);
     let mut k = passed;
     while k < b {
-        if table::member_row(table, a + k).mark == 0 {
+        if table::member_row(table, first, a + k).mark == 0 {
             return k;
         }
         k += 1;
@@ -22,12 +25,13 @@ fn next_due(table: &[u8], a: usize, b: usize, passed: usize) -> usize
 }
 
 // What row m is to the cursor's owner: its next member, or not.
-pub fn reach_in(table: &[u8], at: Cursor, m: usize) -> Reach
+pub fn reach_in(table: &[u8], begin: usize, at: Cursor, m: usize) -> Reach
+    requires { ⌜ begin ≡ typesAt (now table) ⌝ }
     requires { ⌜ at .passed ≤ 65536 ⌝ }
     ensures { λ r. ⌜ ReachedIn (now (table .entry)) at m r ⌝ }
 {
-    let owner = table::type_row(table, at.owner);
-    let k = next_due(table, owner.a, owner.b, at.passed);
+    let owner = table::type_row(table, begin, at.owner);
+    let k = next_due(table, begin, owner.a, owner.b, at.passed);
     if k < owner.b {
         if m == owner.a + k {
             return Reach::Due(Cursor {
@@ -44,7 +48,7 @@ pub fn reach_in(table: &[u8], at: Cursor, m: usize) -> Reach
     if owner.a + owner.b <= m {
         return Reach::Above;
     }
-    let member = table::member_row(table, m);
+    let member = table::member_row(table, table::members_at(table, begin), m);
     if member.mark == 0 {
         return Reach::Above;
     }
@@ -59,10 +63,11 @@ pub fn reach_in(table: &[u8], at: Cursor, m: usize) -> Reach
 }
 
 // A required member of the cursor's owner is still due.
-pub fn is_due(table: &[u8], at: Cursor) -> bool
+pub fn is_due(table: &[u8], begin: usize, at: Cursor) -> bool
+    requires { ⌜ begin ≡ typesAt (now table) ⌝ }
     requires { ⌜ at .passed ≤ 65536 ⌝ }
     ensures { λ r. ⌜ r ≡ anyOf (dueFrom (now (table .entry)) (at .owner) (at .passed)) ⌝ }
 {
-    let owner = table::type_row(table, at.owner);
-    next_due(table, owner.a, owner.b, at.passed) < owner.b
+    let owner = table::type_row(table, begin, at.owner);
+    next_due(table, begin, owner.a, owner.b, at.passed) < owner.b
 }

@@ -2,6 +2,7 @@
 ghost use mathlib.Core.Path.{_≡_};
 ghost use lib.ListN.{length};
 ghost use Rattle.encoding.specs.Number.{Bytes};
+ghost use Rattle.encoding.specs.Table.{typesAt, kind};
 ghost use Rattle.encoding.specs.Message.{noTop};
 ghost use Rattle.encoding.specs.Write.{noFormat};
 ghost use Rattle.prepare.specs.Preparing.{before, checks};
@@ -23,14 +24,15 @@ pub fn byte_count(s: &[u8]) -> usize
     s.len()
 }
 
-// Type row `top` is not in the table or is below kind 13.
-fn no_top(table: &[u8], top: usize) -> bool
+// Type row `top`, of kind k, is not in the table or is below kind 13.
+fn no_top(table: &[u8], top: usize, k: usize) -> bool
+    requires { ⌜ k ≡ kind (now table) top ⌝ }
     ensures { λ r. ⌜ r ≡ noTop (now (table .entry)) top ⌝ }
 {
     if table::types(table) <= top {
         return true;
     }
-    table::kind(table, top) < 13
+    k < 13
 }
 
 // The format is not 0 or 1, or is 0 for a parameter list.
@@ -47,13 +49,15 @@ fn no_format(kind: usize, format: usize) -> bool
 }
 
 // The first of 2, 23 and 3 that applies to a message or buffer of `len` bytes; 0 if none does.
-fn early(table: &[u8], top: usize, format: usize, len: usize) -> usize
+fn early(table: &[u8], begin: usize, top: usize, format: usize, len: usize) -> usize
+    requires { ⌜ begin ≡ typesAt (now table) ⌝ }
     ensures { λ r. ⌜ r ≡ before (now (table .entry)) top format len ⌝ }
 {
-    if no_top(table, top) {
+    let k = table::kind(table, begin, top);
+    if no_top(table, top, k) {
         return 2;
     }
-    if no_format(table::kind(table, top), format) {
+    if no_format(k, format) {
         return 23;
     }
     if 65536 < len {
@@ -71,7 +75,8 @@ pub fn prepare(table: &[u8], top: usize, format: usize, len: usize) -> Prepared
     match v {
         Finding::Broken(c, p) => Prepared::Refused(c, p),
         Finding::Fine => {
-            let n = early(table, top, format, len);
+            let begin = table::types_at(table);
+            let n = early(table, begin, top, format, len);
             if n != 0 {
                 return Prepared::Refused(n, 0);
             }

@@ -84,14 +84,15 @@ pub fn body(table: &[u8], shapes: &[u8; 256], top: usize, m: &[u8], out: &mut [u
     let step = capsule(m);
     match step {
         Step::Took(n) => {
-            let k = table::kind(table, top);
+            let begin = table::types_at(table);
+            let k = table::kind(table, begin, top);
             if k == 15 {
-                return ended(lists::list(table, shapes, top, m, 6, out), m.len());
+                return ended(lists::list(table, begin, shapes, top, m, 6, out), m.len());
             }
             let mark = marker_of(k, &m[6..]);
             match mark {
                 Step::Took(l) => ended(
-                    slices::walks::slices(table, shapes, top, m, 6 + l, out),
+                    slices::walks::slices(table, begin, shapes, top, m, 6 + l, out),
                     m.len(),
                 ),
                 Step::Fault(c, p) => Walk::Stop(c, 6 + p),

@@ -4,6 +4,7 @@ ghost use mathlib.Core.List.{List};
 ghost use Prim.Native.Nat.{ℕ, _≤_};
 ghost use lib.ListN.{length, drop};
 ghost use Rattle.encoding.specs.Result.{ok};
+ghost use Rattle.encoding.specs.Table.{typesAt};
 ghost use Rattle.encoding.specs.Optional.{Piece};
 ghost use Rattle.encoding.specs.Message.{parameters, pieceRows};
 ghost use Rattle.shapes.specs.Shapes.{shapesOf};
@@ -13,39 +14,50 @@ use level::Members;
 use level::Optional;
 use slices::Walk;
 
-// A parameter list from a place on: required members as declared, then optionals to the end, with a row for each known member.
+// A parameter list from a place on: required members as declared, then optionals to the end, with a row for each known member. `begin` is where the table's type rows begin.
 pub fn list(
     table: &[u8],
+    begin: usize,
     shapes: &[u8; 256],
     top: usize,
     m: &[u8],
     start: usize,
     out: &mut [u8],
 ) -> Walk
+    requires { ⌜ begin ≡ typesAt (now table) ⌝ }
     requires { ⌜ start ≤ length (now m) ⌝ }
     requires { ⌜ now shapes ≡ shapesOf (now table) ⌝ }
     ensures { λ r. ⌜ r ≡ listWalk (now (table .entry)) top start (parameters (now (table .entry)) top (drop start (now (m .entry)))) ⌝ }
     ensures { λ _. ⌜ length (now (out .exit)) ≡ length (now (out .entry)) ⌝ }
     ensures { λ _. ⌜ ((ps : List Piece) (n : ℕ) → parameters (now (table .entry)) top (drop start (now (m .entry))) ≡ ok ps n → now (out .exit) ≡ fill 0 (pieceRows (now (table .entry)) top start ps) (now (out .entry))) ⌝ }
 {
-    let members = level::required(table, shapes, top, &m[start..], start, 0, out);
+    let members = level::required(table, begin, shapes, top, &m[start..], start, 0, out);
     match members {
-        Members::Read(n, k, begin) => {
-            let stop = table::chain::member_end(table, top);
+        Members::Read(n, k, opt) => {
+            let stop = table::chain::member_end(table, begin, top);
+            let first = table::members_at(table, begin);
             let mut at = start + n;
             let mut count = k;
             let mut optionals = 0;
             let mut least = 0;
-            let mut row = begin;
+            let mut row = opt;
             while at < m.len() {
-                let o = level::optionals::optional(table, shapes, stop, row, least, &m[at..]);
+                let o = level::optionals::optional(
+                    table,
+                    first,
+                    shapes,
+                    stop,
+                    row,
+                    least,
+                    &m[at..],
+                );
                 match o {
                     Optional::Known(member, tag, b, l) => {
                         wire::rows::put_row(out, count, member, at + b, l - b);
                         count += 1;
                         at += l;
                         least = tag + 1;
-                        row = table::chain::behind(table, row, member, tag);
+                        row = table::chain::behind(table, first, row, member, tag);
                     }
                     Optional::Skipped(tag, l) => {
                         optionals += 1;

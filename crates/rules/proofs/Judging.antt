@@ -2,45 +2,46 @@
 --
 --   whole-..                   a row read whole is the table's
 --   at-below                   a number of k bytes is below 256 ^ k
---   marked-..                  the first five bytes, read as an int and a byte
+--   marked-..                  the first five bytes, read as an int and a byte; mark-number the mark as one number
 --   header-..                  the header's rules in the code's order
 --   set-.., clear-..           fields that are not 0, from one on
---   unused-..                  those that a kind does not use
+--   unused-..                  those that a kind does not use; enum-listed, enum-plain those of an enum
 --   part-.., base-..           references to rows below
 --   Before, before-.., alike-is   the loop over the names of rows before, and that it finds what is alike
 --   past-.., Plain, plain-..   how far no row is a record; alike-from: names are alike from there on or nowhere
 --   enum-.. list-..            the rules of each kind; kind-.. those of a row by its kind; row-.. all of a type row
 --   share-.., Sum, sum-..      the member rows that rows take
 --   basic-..                   a basic row breaks no rule and takes no member rows
---   Types, types-..            the pass over the type rows and the member sum
+--   Types, types-..            the pass over the type rows, then the lists, then the member sum
+--   Rise, rise-..              the loop over the entries of a list; allowed-.. the rules of a list, count-.. how many entries it has
+--   Lists, lists-..            the pass over the lists and the entries left over
 --   Tags, tags-..              the loop over the tags before; alike-above, alike-below only of a tag below a bound
 --   required-.., optional-.., member-..   the rules of a member row
 --   Fields, fields, tag-of     the eight bytes of a member row as one number, by its fields
 --   usual-..                   the tests of a usual row, and that it breaks no rule but perhaps that of its type
 --   Owner, owner-..            the member rows of one owner, each of its class (class-..), read whole or usual; Owners, owners-.. of all owners
 --   check-..                   the passes one after another; check-rows, check-all-rows the type rows lie inside, all rows do
-use Prim.Native.Nat.{ℕ, zero, suc, _+_, _-_, _*_, _/_, _%_, _^_, _≤_, _<_, max}
+use Prim.Native.Nat.{ℕ, zero, suc, _+_, _-_, _*_, _/_, _%_, _^_, _≤_, _<_, min, max}
 use mathlib.Core.Path.{_≡_, refl, sym, ap, ap₂, _∙_}
-use mathlib.Core.Bool.{Bool, true, false, _&&_, _||_, not}
-use mathlib.Core.List.{List, [], _∷_, _++_}
-use mathlib.Core.Logic.{⊎-elim}
+use mathlib.Core.Bool.{Bool, true, false, _&&_, _||_, not, true≢false}
+use mathlib.Core.List.{List, [], _∷_, map}
+use mathlib.Core.Logic.{_⊎_, inl, inr, ⊎-elim}
 use native.Mathlib.Nat.{add-zero, eq-or-lt-of-le}
 use native.Mathlib.Numerals.{add-one, sub-one}
 use native.Mathlib.Omega.{arith}
 use lib.ListN.{length, take, drop, getD, List·getD-eq-default}
-use lib.Seq.{take-take}
 use lib.Dec.{eqb, leb, ltb}
 use borrow.Author.Tests.{eqb-true, eqb-false, leb-true, ltb-true, ltb-false, not-true, not-false, lt-ltb, le-ltb, le-leb, lt-leb, eq-eqb, ne-eqb}
 use Rattle.encoding.specs.Result.{pick, firstOf, sameBytes}
-use Rattle.encoding.specs.ResultLaws.{both-true, either-false, sameBytes-ok}
-use Rattle.encoding.specs.Number.{val, leBytes, negative}
-use Rattle.encoding.specs.NumberLaws.{leBytes-val}
-use Rattle.encoding.specs.Table.{at, types, members, names, typesAt, rowAt, memberAt, namesAt, fieldAt, kind, spare, field, memberType, mark, memberSpare, tag, isRecord, owns, nameOf, range, any, used, taken, noPart, alike, typeRules, headerTests, headerRules, sumRules, faultAt, Fault, fine, fault, orElse, pass, passes, faults}
+use Rattle.encoding.specs.ResultLaws.{both-true, either-false}
+use Rattle.encoding.specs.Number.{val, negative}
+use Rattle.encoding.specs.Table.{at, version, withLists, types, members, names, entries, typesAt, rowAt, memberAt, namesAt, entriesAt, fieldAt, listEntry, kind, spare, field, memberType, mark, memberSpare, tag, isRecord, owns, nameOf, range, any, used, takenBy, taken, noPart, alike, typeRules, risesTo, hasList, entriesTaken, allowedRules, entriesRules, headerTests, headerRules, sumRules, faultAt, Fault, fine, fault, orElse, pass, passes, faults}
+use Rattle.encoding.specs.TableLaws.{header-least}
 use Rattle.wire.specs.At.{at-more, at-split}
-use Rattle.table.specs.Names.{nameStart, isNamed}
+use Rattle.table.specs.Names.{isNamed}
 use Rattle.table.specs.NamesLaws.{name-part}
-use Rattle.rules.specs.Checks.{findingOf, isSetFrom, noBaseOf, alikeFrom, enumRules, structRules, seqRules, dictRules, recordRules, listRules, kindRules, rowRules, share, isBasic, past, typePass, memberPass, isOptionalOf, isTagBefore, isTagAlike, requiredRules, optionalRules, memberRulesBy, memberRulesOf, isUsual, ownerPass, ownersPass, MembersThere, OwnersThere}
-use Rattle.rules.specs.ChecksLaws.{row-rules, or-assoc, table-length, owners-pass, owners-there}
+use Rattle.rules.specs.Checks.{findingOf, isMarked, isSetFrom, noBaseOf, alikeFrom, enumRules, structRules, seqRules, dictRules, recordRules, listRules, kindRules, rowRules, share, isBasic, past, allowedRulesBy, entryCount, typePass, allowedPass, rowsPass, memberPass, isOptionalOf, isTagBefore, isTagAlike, requiredRules, optionalRules, memberRulesBy, memberRulesOf, isUsual, ownerPass, ownersPass, MembersThere, OwnersThere}
+use Rattle.rules.specs.ChecksLaws.{row-rules, allowed-rules, or-assoc, table-length, owners-pass, owners-there}
 use Rattle.table.specs.Rows.{typeRowOf, memberRowOf, IsTypeRow, IsMemberRow, greatestOf}
 use Rattle.table.specs.declared.TypeRow.{TypeRow}
 use Rattle.table.specs.declared.MemberRow.{MemberRow}
@@ -49,7 +50,7 @@ use Rattle.rules.specs.declared.Finding.the-variants.{Fine, Broken}
 use Rattle.table.proofs.Places.{row-shows}
 use Rattle.table.proofs.Ranges.{range-more, range-none, range-left, range-empty, any-here, any-next, any-none, any-never, any-past}
 use Rattle.table.proofs.ByKind.{by-kind}
-use Rattle.table.proofs.Labels.{record-named, record-short, record-none}
+use Rattle.table.proofs.Labels.{name-least, name-long, record-named, record-short, record-none}
 
 -- ---- rows read whole
 
@@ -77,84 +78,148 @@ at-below T small (suc k) p = omega (arith, at-more T k p, small p, at-below T sm
 
 -- ---- header
 
-module _ (n : ℕ) where
-  pub marked-other : (T : List ℕ) → n ≡ at T 4 0 → (n ≡ 22300486 → ⊥) → false ≡ sameBytes (take 5 T) (70 ∷ 71 ∷ 84 ∷ 1 ∷ 0 ∷ [])
-  unfolding at val
-  marked-other T en h = go (sameBytes (take 5 T) (70 ∷ 71 ∷ 84 ∷ 1 ∷ 0 ∷ [])) refl
-    where
-      go : (s : Bool) → sameBytes (take 5 T) (70 ∷ 71 ∷ 84 ∷ 1 ∷ 0 ∷ []) ≡ s → false ≡ s
-      go true e = absurd (h (en ∙ ap val (sym (take-take 4 5 T (omega arith))) ∙ ap (λ (l : List ℕ). val (take 4 l)) (sameBytes-ok (take 5 T) (70 ∷ 71 ∷ 84 ∷ 1 ∷ 0 ∷ []) e)))
-      go false e = refl
+-- the mark as one number
+mark-number : (T : List ℕ) → 3 ≤ length T → ((i : ℕ) → getD T i 0 < 256) → sameBytes (take 3 T) (70 ∷ 71 ∷ 84 ∷ []) ≡ eqb (at T 3 0) 5523270
+unfolding sameBytes at val
+mark-number (a ∷ b ∷ c ∷ r) long small = go (eqb a 70) (eqb b 71) (eqb c 84) refl refl refl (eqb n 5523270) refl
+  where
+    n : ℕ
+    n = val (a ∷ b ∷ c ∷ [])
 
-  pub marked-last : (T : List ℕ) → 5 ≤ length T → ((i : ℕ) → getD T i 0 < 256) → n ≡ at T 4 0 → n ≡ 22300486 → (v : ℕ) → v ≡ at T 1 4 → eqb v 0 ≡ sameBytes (take 5 T) (70 ∷ 71 ∷ 84 ∷ 1 ∷ 0 ∷ [])
-  unfolding at val leBytes sameBytes
-  marked-last (a ∷ b ∷ c ∷ d ∷ e ∷ r) long small en eh v ev =
-      let front : 70 ∷ 71 ∷ 84 ∷ 1 ∷ [] ≡ a ∷ b ∷ c ∷ d ∷ [] = ap (leBytes 4) (sym eh ∙ en) ∙ leBytes-val (a ∷ b ∷ c ∷ d ∷ []) (small 0, (small 1, (small 2, (small 3, tt)))) in
-      let ee : v ≡ e = omega arith in
-      rw ee (go (eqb e 0)) ∙ ap (λ (l : List ℕ). sameBytes (l ++ (e ∷ [])) (70 ∷ 71 ∷ 84 ∷ 1 ∷ 0 ∷ [])) front
+    go : (x y z : Bool) → eqb a 70 ≡ x → eqb b 71 ≡ y → eqb c 84 ≡ z → (s : Bool) → eqb n 5523270 ≡ s → x && (y && (z && true)) ≡ s
+    go true true true ea eb ec true e = refl
+    go true true true ea eb ec false e = absurd (eqb-false n 5523270 e (omega (arith, eqb-true a 70 ea, eqb-true b 71 eb, eqb-true c 84 ec)))
+    go true true false ea eb ec true e = absurd (eqb-false c 84 ec (omega (arith, eqb-true n 5523270 e, small 0, small 1)))
+    go true false z ea eb ec true e = absurd (eqb-false b 71 eb (omega (arith, eqb-true n 5523270 e, small 0, small 1)))
+    go false y z ea eb ec true e = absurd (eqb-false a 70 ea (omega (arith, eqb-true n 5523270 e, small 0)))
+    go true true false ea eb ec false e = refl
+    go true false z ea eb ec false e = refl
+    go false y z ea eb ec false e = refl
+mark-number [] long small = absurd (omega arith)
+mark-number (a ∷ []) long small = absurd (omega arith)
+mark-number (a ∷ b ∷ []) long small = absurd (omega arith)
+
+-- the first four bytes as an int: the mark, and the version's first byte
+module _ (T : List ℕ) (long : 5 ≤ length T) (small : (i : ℕ) → getD T i 0 < 256) (n : ℕ) (en : n ≡ at T 4 0) where
+  four : n ≡ at T 3 0 + 16777216 * at T 1 3
+  four = en ∙ at-split T 3 1 0
+
+  two : version T ≡ at T 1 3 + 256 * at T 1 4
+  unfolding version
+  two = at-split T 1 1 3
+
+  pub marked-other : (n ≡ 22300486 → ⊥) → (n ≡ 39077702 → ⊥) → false ≡ isMarked T
+  unfolding isMarked withLists
+  marked-other h k = rw (mark-number T (omega arith) small) (go (eqb (at T 3 0) 5523270) refl (eqb (version T) 1) refl (eqb (version T) 2) refl)
     where
-      go : (q : Bool) → q ≡ q && true
-      go true = refl
-      go false = refl
-  marked-last [] long small en eh v ev = absurd (omega arith)
-  marked-last (a ∷ []) long small en eh v ev = absurd (omega arith)
-  marked-last (a ∷ b ∷ []) long small en eh v ev = absurd (omega arith)
-  marked-last (a ∷ b ∷ c ∷ []) long small en eh v ev = absurd (omega arith)
-  marked-last (a ∷ b ∷ c ∷ d ∷ []) long small en eh v ev = absurd (omega arith)
+      go : (a : Bool) → eqb (at T 3 0) 5523270 ≡ a → (b : Bool) → eqb (version T) 1 ≡ b → (c : Bool) → eqb (version T) 2 ≡ c → false ≡ a && (b || c)
+      go false ea b eb c ec = refl
+      go true ea true eb c ec = absurd (h (omega (arith, four, two, eqb-true (at T 3 0) 5523270 ea, eqb-true (version T) 1 eb, at-below T small 1 3)))
+      go true ea false eb true ec = absurd (k (omega (arith, four, two, eqb-true (at T 3 0) 5523270 ea, eqb-true (version T) 2 ec, at-below T small 1 3)))
+      go true ea false eb false ec = refl
+
+  marked-by : (w : ℕ) → n ≡ 5523270 + 16777216 * w → (w ≡ 1) ⊎ (w ≡ 2) → (v : ℕ) → v ≡ at T 1 4 → eqb v 0 ≡ isMarked T
+  unfolding isMarked withLists
+  marked-by w e which v ev =
+      let m : at T 3 0 ≡ 5523270 = omega (arith, four, at-below T small 3 0) in
+      rw (mark-number T (omega arith) small, m) (go (eqb v 0) refl (eqb (version T) 1) refl (eqb (version T) 2) refl)
+    where
+      first : at T 1 3 ≡ w
+      first = omega (arith, four, at-below T small 3 0)
+
+      go : (a : Bool) → eqb v 0 ≡ a → (b : Bool) → eqb (version T) 1 ≡ b → (c : Bool) → eqb (version T) 2 ≡ c → a ≡ b || c
+      go true ea true eb c ec = refl
+      go true ea false eb true ec = refl
+      go true ea false eb false ec =
+          ⊎-elim
+          (λ q. absurd (eqb-false (version T) 1 eb (omega (arith, two, first, eqb-true v 0 ea))))
+          (λ q. absurd (eqb-false (version T) 2 ec (omega (arith, two, first, eqb-true v 0 ea))))
+          which
+      go false ea true eb c ec = absurd (eqb-false v 0 ea (omega (arith, two, first, eqb-true (version T) 1 eb)))
+      go false ea false eb true ec = absurd (eqb-false v 0 ea (omega (arith, two, first, eqb-true (version T) 2 ec)))
+      go false ea false eb false ec = refl
+
+  module _ (v : ℕ) (ev : v ≡ at T 1 4) where
+    pub marked-first : n ≡ 22300486 → eqb v 0 ≡ isMarked T
+    marked-first e = marked-by 1 e (inl refl) v ev
+
+    pub marked-second : n ≡ 39077702 → eqb v 0 ≡ isMarked T
+    marked-second e = marked-by 2 e (inr refl) v ev
 
 module _ (T : List ℕ) (f : ℕ) (ef : f ≡ typesAt T) where
+  pub five-there : f ≤ length T → 5 ≤ length T
+  five-there h = omega (arith, header-least T)
+
   pub header-short : length T < f → faultAt 0 31 ≡ headerRules T
   unfolding headerRules headerTests firstOf
-  header-short h = rw (lt-ltb (length T) (typesAt T) (omega arith)) (go (not (sameBytes (take 5 T) (70 ∷ 71 ∷ 84 ∷ 1 ∷ 0 ∷ []))))
+  header-short h = rw (lt-ltb (length T) (typesAt T) (omega arith)) (go (not (sameBytes (take 3 T) (70 ∷ 71 ∷ 84 ∷ []))) (not (eqb (version T) 1 || withLists T)))
     where
-      go : (b : Bool) → faultAt 0 31 ≡ faultAt 0 (pick b 31 31)
-      go true = refl
-      go false = refl
+      go : (a b : Bool) → faultAt 0 31 ≡ faultAt 0 (pick a 31 (pick b 31 31))
+      go true b = refl
+      go false true = refl
+      go false false = refl
 
-  module _ (long : f ≤ length T) (s : Bool) (es : s ≡ sameBytes (take 5 T) (70 ∷ 71 ∷ 84 ∷ 1 ∷ 0 ∷ [])) where
+  module _ (long : f ≤ length T) (s : Bool) (es : s ≡ isMarked T) where
     all-there : ltb (length T) (typesAt T) ≡ false
     all-there = le-ltb (length T) (typesAt T) (omega arith)
 
     pub header-mark : not s ≡ true → faultAt 0 31 ≡ headerRules T
-    unfolding headerRules headerTests firstOf
-    header-mark q = rw (← es, q)
+    unfolding headerRules headerTests firstOf isMarked
+    header-mark q = go (sameBytes (take 3 T) (70 ∷ 71 ∷ 84 ∷ [])) (eqb (version T) 1 || withLists T) _ (sym es ∙ not-true s q)
+      where
+        go : (a b : Bool) (r : ℕ) → a && b ≡ false → faultAt 0 31 ≡ faultAt 0 (pick (not a) 31 (pick (not b) 31 r))
+        go true true r e = absurd (true≢false e)
+        go true false r e = refl
+        go false b r e = refl
 
     module _ (marked : not s ≡ false) (t : ℕ) (et : t ≡ types T) where
+      mark-is : sameBytes (take 3 T) (70 ∷ 71 ∷ 84 ∷ []) ≡ true
+      unfolding isMarked
+      mark-is = both-true _ (eqb (version T) 1 || withLists T) (sym es ∙ not-false s marked) .0
+
+      version-is : eqb (version T) 1 || withLists T ≡ true
+      unfolding isMarked
+      version-is = both-true (sameBytes (take 3 T) (70 ∷ 71 ∷ 84 ∷ [])) _ (sym es ∙ not-false s marked) .1
+
       pub header-none : t ≡ 0 → faultAt 0 31 ≡ headerRules T
       unfolding headerRules headerTests firstOf
-      header-none z = rw (← es, marked, all-there, ← et, eq-eqb t 0 z)
+      header-none z = rw (mark-is, version-is, all-there, ← et, eq-eqb t 0 z)
 
       module _ (some : t ≡ 0 → ⊥) where
         pub header-types : 256 < t → faultAt 0 31 ≡ headerRules T
         unfolding headerRules headerTests firstOf
-        header-types h = rw (← es, marked, all-there, ← et, ne-eqb t 0 some, lt-ltb _ _ h)
+        header-types h = rw (mark-is, version-is, all-there, ← et, ne-eqb t 0 some, lt-ltb _ _ h)
 
         module _ (few : t ≤ 256) (m : ℕ) (em : m ≡ members T) where
           pub header-members : 1024 < m → faultAt 0 31 ≡ headerRules T
           unfolding headerRules headerTests firstOf
-          header-members h = rw (← es, marked, all-there, ← et, ne-eqb t 0 some, le-ltb _ _ few, ← em, lt-ltb _ _ h)
+          header-members h = rw (mark-is, version-is, all-there, ← et, ne-eqb t 0 some, le-ltb _ _ few, ← em, lt-ltb _ _ h)
 
           module _ (small : m ≤ 1024) (n : ℕ) (en : n ≡ names T) where
             pub header-names : 8192 < n → faultAt 0 31 ≡ headerRules T
             unfolding headerRules headerTests firstOf
-            header-names h = rw (← es, marked, all-there, ← et, ne-eqb t 0 some, le-ltb _ _ few, ← em, le-ltb _ _ small, ← en, lt-ltb _ _ h)
+            header-names h = rw (mark-is, version-is, all-there, ← et, ne-eqb t 0 some, le-ltb _ _ few, ← em, le-ltb _ _ small, ← en, lt-ltb _ _ h)
 
             module _ (short : n ≤ 8192) (b : ℕ) (eb : b ≡ at T 1 11) where
               pub header-spare : (b ≡ 0 → ⊥) → faultAt 0 31 ≡ headerRules T
               unfolding headerRules headerTests firstOf
-              header-spare h = rw (← es, marked, all-there, ← et, ne-eqb t 0 some, le-ltb _ _ few, ← em, le-ltb _ _ small, ← en, le-ltb _ _ short, ← eb, ne-eqb b 0 h)
+              header-spare h = rw (mark-is, version-is, all-there, ← et, ne-eqb t 0 some, le-ltb _ _ few, ← em, le-ltb _ _ small, ← en, le-ltb _ _ short, ← eb, ne-eqb b 0 h)
 
-              module _ (spare : b ≡ 0) (p : ℕ) (ep : p ≡ memberAt T m) where
-                all-but-length : headerRules T ≡ faultAt 0 (pick (not (eqb (length T) (namesAt T + names T))) 31 0)
+              module _ (spare : b ≡ 0) (k : ℕ) (ek : k ≡ entries T) where
+                all-but-entries : headerRules T ≡ faultAt 0 (pick (ltb 1024 k) 31 (pick (not (eqb (length T) (entriesAt T + 4 * entries T))) 31 0))
                 unfolding headerRules headerTests firstOf
-                all-but-length =
-                    rw (← es, marked, all-there, ne-eqb (types T) 0 (λ z. some (et ∙ z)), le-ltb 256 (types T) (omega arith), le-ltb 1024 (members T) (omega arith), le-ltb 8192 (names T) (omega arith), ← eb, eq-eqb b 0 spare)
+                all-but-entries =
+                    rw (mark-is, version-is, all-there, ne-eqb (types T) 0 (λ z. some (et ∙ z)), le-ltb 256 (types T) (omega arith), le-ltb 1024 (members T) (omega arith), le-ltb 8192 (names T) (omega arith), ← eb, eq-eqb b 0 spare, ek)
 
-                pub header-length : (length T ≡ p + n → ⊥) → faultAt 0 31 ≡ headerRules T
-                header-length h = sym (all-but-length ∙ rw (ne-eqb (length T) (namesAt T + names T) (λ q. h (omega arith))))
+                pub header-entries : 1024 < k → faultAt 0 31 ≡ headerRules T
+                header-entries h = sym (all-but-entries ∙ rw (lt-ltb 1024 k h))
 
-                pub header-fine : length T ≡ p + n → faultAt 0 0 ≡ headerRules T
-                header-fine h = sym (all-but-length ∙ rw (eq-eqb (length T) (namesAt T + names T) (omega arith)))
+                module _ (little : k ≤ 1024) (p : ℕ) (ep : p ≡ memberAt T m) where
+                  pub header-length : (length T ≡ p + n + 4 * k → ⊥) → faultAt 0 31 ≡ headerRules T
+                  header-length h = sym (all-but-entries ∙ rw (le-ltb 1024 k little, ne-eqb (length T) (entriesAt T + 4 * entries T) (λ q. h (omega arith))))
+
+                  pub header-fine : length T ≡ p + n + 4 * k → faultAt 0 0 ≡ headerRules T
+                  header-fine h = sym (all-but-entries ∙ rw (le-ltb 1024 k little, eq-eqb (length T) (entriesAt T + 4 * entries T) (omega arith)))
 
 -- ---- fields that a kind does not use
 
@@ -200,17 +265,17 @@ used-low T = by-kind (λ n. n < 8 → 0 ≡ used T n)
     (λ h. absurd (omega arith)) (λ h. absurd (omega arith)) (λ h. absurd (omega arith)) (λ h. absurd (omega arith)) (λ h. absurd (omega arith))
     (λ n l h. absurd (omega arith))
 
-used-two : (T : List ℕ) (k : ℕ) → 8 ≤ k → (k ≡ 10 → ⊥) → (k ≡ 12 → ⊥) → (k ≡ 13 → ⊥) → (k ≡ 14 → ⊥) → k < 16 → 2 ≡ used T k
+used-two : (T : List ℕ) (k : ℕ) → 8 < k → (k ≡ 10 → ⊥) → (k ≡ 12 → ⊥) → (k ≡ 13 → ⊥) → (k ≡ 14 → ⊥) → k < 16 → 2 ≡ used T k
 unfolding used
-used-two T = by-kind (λ n. 8 ≤ n → (n ≡ 10 → ⊥) → (n ≡ 12 → ⊥) → (n ≡ 13 → ⊥) → (n ≡ 14 → ⊥) → n < 16 → 2 ≡ used T n)
+used-two T = by-kind (λ n. 8 < n → (n ≡ 10 → ⊥) → (n ≡ 12 → ⊥) → (n ≡ 13 → ⊥) → (n ≡ 14 → ⊥) → n < 16 → 2 ≡ used T n)
     (λ h a b c d l. absurd (omega arith)) (λ h a b c d l. absurd (omega arith)) (λ h a b c d l. absurd (omega arith)) (λ h a b c d l. absurd (omega arith))
     (λ h a b c d l. absurd (omega arith)) (λ h a b c d l. absurd (omega arith)) (λ h a b c d l. absurd (omega arith)) (λ h a b c d l. absurd (omega arith))
-    (λ h a b c d l. refl) (λ h a b c d l. refl) (λ h a b c d l. absurd (a refl)) (λ h a b c d l. refl) (λ h a b c d l. absurd (b refl))
+    (λ h a b c d l. absurd (omega arith)) (λ h a b c d l. refl) (λ h a b c d l. absurd (a refl)) (λ h a b c d l. refl) (λ h a b c d l. absurd (b refl))
     (λ n g h a b c d l. let z : n ≡ 15 = omega arith in rw z)
 
 used-unknown : (T : List ℕ) (k : ℕ) → 16 ≤ k → 5 ≡ used T k
 unfolding used
-used-unknown T k h = sym (List·getD-eq-default {A = ℕ} (0 ∷ 0 ∷ 0 ∷ 0 ∷ 0 ∷ 0 ∷ 0 ∷ 0 ∷ 2 ∷ 2 ∷ 1 ∷ 2 ∷ 0 ∷ 5 ∷ 5 ∷ 2 ∷ []) 5 {n = k} h)
+used-unknown T k h = sym (List·getD-eq-default {A = ℕ} (0 ∷ 0 ∷ 0 ∷ 0 ∷ 0 ∷ 0 ∷ 0 ∷ 0 ∷ pick (withLists T) 4 2 ∷ 2 ∷ 1 ∷ 2 ∷ 0 ∷ 5 ∷ 5 ∷ 2 ∷ []) 5 {n = k} h)
 
 module _ (T : List ℕ) (r : TypeRow) (k : ℕ) (b : Bool) where
   pub unused-low : k < 8 → b ≡ isSetFrom r 0 → b ≡ isSetFrom r (used T k)
@@ -224,8 +289,25 @@ module _ (T : List ℕ) (r : TypeRow) (k : ℕ) (b : Bool) where
   unfolding used
   unused-proxy h e = rw h e
 
-  pub unused-two : 8 ≤ k → (k ≡ 10 → ⊥) → (k ≡ 12 → ⊥) → (k ≡ 13 → ⊥) → (k ≡ 14 → ⊥) → k < 16 → b ≡ isSetFrom r 2 → b ≡ isSetFrom r (used T k)
-  unused-two h x y z w l e = e ∙ ap (isSetFrom r) (used-two T k h x y z w l)
+  pub unused-enum : k ≡ 8 → b ≡ isSetFrom r (used T 8) → b ≡ isSetFrom r (used T k)
+  unused-enum h e = e ∙ ap (λ (n : ℕ). isSetFrom r (used T n)) (sym h)
+
+  pub unused-two : 8 ≤ k → (k ≡ 8 → ⊥) → (k ≡ 10 → ⊥) → (k ≡ 12 → ⊥) → (k ≡ 13 → ⊥) → (k ≡ 14 → ⊥) → k < 16 → b ≡ isSetFrom r 2 → b ≡ isSetFrom r (used T k)
+  unused-two h u x y z w l e = e ∙ ap (isSetFrom r) (used-two T k (omega (arith, u)) x y z w l)
+
+-- of an enum, with and without lists
+module _ (T : List ℕ) (r : TypeRow) (b : Bool) (eb : b ≡ withLists T) where
+  pub enum-listed : b ≡ true → not (eqb (r .e) 0) ≡ isSetFrom r (used T 8)
+  unfolding used isSetFrom any
+  enum-listed q = rw (← eb, q) (go (not (eqb (r .e) 0)))
+    where
+      go : (s : Bool) → s ≡ s || false
+      go true = refl
+      go false = refl
+
+  pub enum-plain : b ≡ false → (s : Bool) → s ≡ isSetFrom r 2 → s ≡ isSetFrom r (used T 8)
+  unfolding used
+  enum-plain q s e = rw (← eb, q) e
 
 module _ (T : List ℕ) (r : TypeRow) (k : ℕ) where
   none-set : false ≡ isSetFrom r 5
@@ -325,12 +407,13 @@ unfolding any
 any-same f g h [] = refl
 any-same f g h (i ∷ l) = rw (h i, any-same f g h l)
 
-pub alike-is : (T : List ℕ) (from t a n : ℕ) (r : Bool) → a ≡ nameStart T t → n ≡ length (nameOf T t)
-    → r ≡ any (isNamed T (take (a + n - a) (drop a T))) (range from (t - from)) → r ≡ alikeFrom T from t
+pub alike-is : (T : List ℕ) (from t p a l : ℕ) (row : TypeRow) (r : Bool) → IsTypeRow T t row → p ≡ namesAt T → a ≡ min (p + row .d) (length T) → l ≡ min (row .e) (length T - a)
+    → r ≡ any (isNamed T (take (a + l - a) (drop a T))) (range from (t - from)) → r ≡ alikeFrom T from t
 unfolding alikeFrom
-alike-is T from t a n r s e h =
-    let z : a + n - a ≡ length (nameOf T t) = omega arith in
-    h ∙ rw (z, s, name-part T t)
+alike-is T from t p a l row r i ep ea el h =
+    let n = name-long T t p (row .d) ep (i .d-is) a (row .e) l ea (i .e-is) el in
+    let z : a + l - a ≡ length (nameOf T t) = omega (arith, n) in
+    h ∙ rw (z, name-least T t p (row .d) ep (i .d-is) a ea, name-part T t)
 
 -- how far no row is a record
 module _ (from t : ℕ) (b : Bool) where
@@ -534,11 +617,11 @@ pub record Sum (T : List ℕ) (t sum : ℕ) : Type 0 where
   pub bound : sum ≤ 65535 * t
 
 pub sum-begin : (T : List ℕ) → Sum T 0 0
-unfolding taken
+unfolding taken takenBy
 sum-begin T = record { so-far = refl; bound = omega arith }
 
 pub sum-next : (T : List ℕ) (t sum s : ℕ) → Sum T t sum → s ≡ share (typeRowOf T t) → s < 65536 → Sum T (t + 1) (sum + s)
-unfolding taken share
+unfolding taken takenBy share
 sum-next T t sum s inv e h = record { so-far = rw (add-one, inv .so-far, e); bound = omega (arith, inv .bound) }
 
 -- ---- basic rows
@@ -649,21 +732,28 @@ unfolding typePass types
 types-begin T small n e = let z : n - 0 ≡ types T = omega arith in record { within = omega arith; few = omega (arith, at-below T small 2 5); sum = sum-begin T; plain = plain-begin T; rest = rw z }
 
 module _ (T : List ℕ) (n t prior from : ℕ) (inv : Types T n t prior from) where
-  module _ (e : n ≡ types T) (h : n ≤ t) (m : ℕ) (em : m ≡ members T) where
-    rows-fine : findingOf (orElse (typePass T) (sumRules T)) ≡ findingOf (sumRules T)
-    unfolding findingOf pass
-    rows-fine = or-finding (typePass T) (sumRules T) (inv .rest ∙ rw (range-none t n h))
+  module _ (e : n ≡ types T) (h : n ≤ t) (v : Finding) (ev : v ≡ findingOf (allowedPass T)) where
+    past-rows : findingOf (rowsPass T) ≡ findingOf (orElse (allowedPass T) (sumRules T))
+    unfolding rowsPass findingOf pass
+    past-rows = or-finding (typePass T) _ (inv .rest ∙ rw (range-none t n h))
 
-    sum-is : prior ≡ taken T (types T)
-    sum-is = let z : t ≡ types T = omega (arith, inv .within) in inv .sum .so-far ∙ ap (taken T) z
+    pub types-lists : (c p : ℕ) → v ≡ Broken c p → Broken c p ≡ findingOf (rowsPass T)
+    types-lists c p q = sym (past-rows ∙ or-broken (allowedPass T) (sumRules T) c p (sym ev ∙ q))
 
-    pub types-sum : (prior ≡ m → ⊥) → Broken 35 0 ≡ findingOf (orElse (typePass T) (sumRules T))
-    unfolding sumRules faultAt findingOf
-    types-sum z = sym (rows-fine ∙ rw (← sum-is, ← em, ne-eqb prior m z))
+    module _ (q : v ≡ Fine) (m : ℕ) (em : m ≡ members T) where
+      past-lists : findingOf (rowsPass T) ≡ findingOf (sumRules T)
+      past-lists = past-rows ∙ or-finding (allowedPass T) (sumRules T) (sym ev ∙ q)
 
-    pub types-end : prior ≡ m → Fine ≡ findingOf (orElse (typePass T) (sumRules T))
-    unfolding sumRules faultAt findingOf
-    types-end z = sym (rows-fine ∙ rw (← sum-is, ← em, eq-eqb prior m z))
+      sum-is : prior ≡ taken T (types T)
+      sum-is = let z : t ≡ types T = omega (arith, inv .within) in inv .sum .so-far ∙ ap (taken T) z
+
+      pub types-sum : (prior ≡ m → ⊥) → Broken 35 0 ≡ findingOf (rowsPass T)
+      unfolding sumRules faultAt findingOf
+      types-sum z = sym (past-lists ∙ rw (← sum-is, ← em, ne-eqb prior m z))
+
+      pub types-end : prior ≡ m → Fine ≡ findingOf (rowsPass T)
+      unfolding sumRules faultAt findingOf
+      types-end z = sym (past-lists ∙ rw (← sum-is, ← em, eq-eqb prior m z))
 
   pub types-basic : t < n → (b : Bool) → b ≡ isBasic T t → b ≡ true → (f : ℕ) → f ≡ past from t true → Types T n (t + 1) prior f
   types-basic h b e q f ef =
@@ -682,8 +772,9 @@ module _ (T : List ℕ) (n t prior from : ℕ) (inv : Types T n t prior from) wh
         e ∙ ap₂ (λ (z : TypeRow) (y : ℕ). firstOf (rowRules T t z y (alikeFrom T from t))) (whole-type T t r er) (inv .sum .so-far)
         ∙ ap (λ (b : Bool). firstOf (rowRules T t (typeRowOf T t) (taken T t) b)) (alike-from T t from (inv .plain)) ∙ row-rules T t
 
-    pub types-fault : (c ≡ 0 → ⊥) → (p : ℕ) → p ≡ rowAt T t → Broken c p ≡ findingOf (orElse (typePass T) (sumRules T))
-    types-fault z p ep = ap (Broken c) ep ∙ sym (or-broken (typePass T) (sumRules T) c (rowAt T t) (inv .rest ∙ rw (range-more t n h) (pass-fault (rowAt T) (typeRules T) t c (range (t + 1) (n - (t + 1))) types-row z)))
+    pub types-fault : (c ≡ 0 → ⊥) → (p : ℕ) → p ≡ rowAt T t → Broken c p ≡ findingOf (rowsPass T)
+    unfolding rowsPass
+    types-fault z p ep = ap (Broken c) ep ∙ sym (or-broken (typePass T) _ c (rowAt T t) (inv .rest ∙ rw (range-more t n h) (pass-fault (rowAt T) (typeRules T) t c (range (t + 1) (n - (t + 1))) types-row z)))
 
     pub types-next : c ≡ 0 → (s : ℕ) → s ≡ share r → s ≤ r .b → (b : Bool) → b ≡ isRecord (r .kind) → (f : ℕ) → f ≡ past from t (not b) → Types T n (t + 1) (prior + s) f
     types-next z s es hs b eb f ef = record {
@@ -693,6 +784,144 @@ module _ (T : List ℕ) (n t prior from : ℕ) (inv : Types T n t prior from) wh
       plain = rw ef (plain-next T t from (inv .plain) (not b) (λ q. sym (eb ∙ ap isRecord (er .kind-is)) ∙ not-true b q));
       rest = inv .rest ∙ rw (range-more t n h) (ap findingOf (pass-next (rowAt T) (typeRules T) t c (range (t + 1) (n - (t + 1))) types-row z));
     }
+
+-- ---- lists
+
+-- the loop over the entries of a list: what is left rises from the last entry
+pub record Rise (T : List ℕ) (c d g last i : ℕ) : Type 0 where
+  pub within : i ≤ d
+  pub rest : risesTo g (map (listEntry T) (range c d)) ≡ risesTo g (last ∷ map (listEntry T) (range (c + i) (d - i)))
+
+module _ (T : List ℕ) (c d g : ℕ) where
+  pub rise-none : d ≡ 0 → false ≡ risesTo g (map (listEntry T) (range c d))
+  unfolding risesTo range
+  rise-none z = rw z
+
+  pub rise-begin : (d ≡ 0 → ⊥) → (x : ℕ) → x ≡ listEntry T c → Rise T c d g x 1
+  rise-begin some x ex = record { within = omega (arith, some); rest = rw (range-left c d (omega (arith, some)), ex) }
+
+  module _ (last i : ℕ) (inv : Rise T c d g last i) where
+    pub rise-end : d ≤ i → eqb last g ≡ risesTo g (map (listEntry T) (range c d))
+    unfolding risesTo
+    rise-end h = sym (inv .rest ∙ rw (range-empty (c + i) (d - i) (omega arith)))
+
+    module _ (h : i < d) (x : ℕ) (ex : x ≡ listEntry T (c + i)) where
+      turn : range (c + i) (d - i) ≡ (c + i) ∷ range (c + (i + 1)) (d - (i + 1))
+      turn =
+          let y : c + i + 1 ≡ c + (i + 1) = omega arith in
+          let z : d - i - 1 ≡ d - (i + 1) = omega arith in
+          range-left (c + i) (d - i) (omega arith) ∙ rw (y, z)
+
+      pub rise-stop : x ≤ last → false ≡ risesTo g (map (listEntry T) (range c d))
+      unfolding risesTo
+      rise-stop l = sym (inv .rest ∙ rw (turn, ← ex, le-ltb last x l))
+
+      pub rise-next : last < x → Rise T c d g x (i + 1)
+      unfolding risesTo
+      rise-next l = record { within = omega arith; rest = inv .rest ∙ rw (turn, ← ex, lt-ltb last x l) }
+
+-- the rules of a list
+module _ (T : List ℕ) (all : ℕ) (r : TypeRow) (n : ℕ) where
+  pub allowed-other : (r .kind ≡ 8 → ⊥) → 0 ≡ firstOf (allowedRulesBy T all r n)
+  unfolding firstOf allowedRulesBy
+  allowed-other h = rw (ne-eqb (r .kind) 8 h)
+
+  module _ (e8 : r .kind ≡ 8) where
+    pub allowed-first : (r .c ≡ n → ⊥) → 39 ≡ firstOf (allowedRulesBy T all r n)
+    unfolding firstOf allowedRulesBy
+    allowed-first h = rw (eq-eqb (r .kind) 8 e8, ne-eqb (r .c) n h)
+
+    module _ (first : r .c ≡ n) where
+      pub allowed-outside : all < r .c + r .d → 39 ≡ firstOf (allowedRulesBy T all r n)
+      unfolding firstOf allowedRulesBy
+      allowed-outside h = rw (eq-eqb (r .kind) 8 e8, eq-eqb (r .c) n first, lt-ltb _ _ h)
+
+      module _ (inside : r .c + r .d ≤ all) (g : ℕ) (eg : g ≡ greatestOf r) (b : Bool) (eb : b ≡ risesTo g (map (listEntry T) (range (r .c) (r .d)))) where
+        pub allowed-falls : not b ≡ true → 39 ≡ firstOf (allowedRulesBy T all r n)
+        unfolding firstOf allowedRulesBy
+        allowed-falls q = rw (eq-eqb (r .kind) 8 e8, eq-eqb (r .c) n first, le-ltb _ _ inside, ← eg, ← eb, q)
+
+        pub allowed-fine : not b ≡ false → 0 ≡ firstOf (allowedRulesBy T all r n)
+        unfolding firstOf allowedRulesBy
+        allowed-fine q = rw (eq-eqb (r .kind) 8 e8, eq-eqb (r .c) n first, le-ltb _ _ inside, ← eg, ← eb, q)
+
+module _ (r : TypeRow) where
+  pub count-enum : r .kind ≡ 8 → r .d ≡ entryCount r
+  unfolding entryCount
+  count-enum e = rw (eq-eqb (r .kind) 8 e)
+
+  pub count-other : (r .kind ≡ 8 → ⊥) → 0 ≡ entryCount r
+  unfolding entryCount
+  count-other h = rw (ne-eqb (r .kind) 8 h)
+
+-- over the rows, and the entries left over
+pub record Lists (T : List ℕ) (n t prior : ℕ) : Type 0 where
+  pub within : t ≤ n
+  pub few : n < 65536
+  pub so-far : prior ≡ entriesTaken T t
+  pub bound : prior ≤ 65535 * t
+  pub rest : findingOf (pass (rowAt T) (allowedRules T) (range 0 (types T))) ≡ findingOf (pass (rowAt T) (allowedRules T) (range t (n - t)))
+
+pub lists-begin : (T : List ℕ) → ((i : ℕ) → getD T i 0 < 256) → (n : ℕ) → n ≡ types T → Lists T n 0 0
+unfolding types entriesTaken takenBy
+lists-begin T small n e = let z : n - 0 ≡ types T = omega arith in record { within = omega arith; few = omega (arith, at-below T small 2 5); so-far = refl; bound = omega arith; rest = rw z }
+
+module _ (T : List ℕ) (n t prior : ℕ) (inv : Lists T n t prior) where
+  module _ (e : n ≡ types T) (h : n ≤ t) (all : ℕ) (ea : all ≡ entries T) where
+    past-all : findingOf (allowedPass T) ≡ findingOf (entriesRules T)
+    unfolding allowedPass findingOf pass
+    past-all = or-finding _ (entriesRules T) (inv .rest ∙ rw (range-none t n h))
+
+    taken-is : prior ≡ entriesTaken T (types T)
+    taken-is = let z : t ≡ types T = omega (arith, inv .within) in inv .so-far ∙ ap (entriesTaken T) z
+
+    pub lists-left : (prior ≡ all → ⊥) → Broken 39 0 ≡ findingOf (allowedPass T)
+    unfolding entriesRules faultAt findingOf
+    lists-left z = sym (past-all ∙ rw (← taken-is, ← ea, ne-eqb prior all z))
+
+    pub lists-end : prior ≡ all → Fine ≡ findingOf (allowedPass T)
+    unfolding entriesRules faultAt findingOf
+    lists-end z = sym (past-all ∙ rw (← taken-is, ← ea, eq-eqb prior all z))
+
+  module _ (lists : withLists T ≡ true) (h : t < n) (r : TypeRow) (er : IsTypeRow T t r) (all : ℕ) (ea : all ≡ entries T) (c : ℕ) (e : c ≡ firstOf (allowedRulesBy T all r prior)) where
+    list-row : c ≡ firstOf (allowedRules T t)
+    list-row =
+        e ∙ ap (λ (z : TypeRow). firstOf (allowedRulesBy T all z prior)) (whole-type T t r er)
+        ∙ ap₂ (λ (y z : ℕ). firstOf (allowedRulesBy T y (typeRowOf T t) z)) ea (inv .so-far) ∙ allowed-rules T lists t
+
+    pub lists-fault : (c ≡ 0 → ⊥) → (p : ℕ) → p ≡ rowAt T t → Broken c p ≡ findingOf (allowedPass T)
+    unfolding allowedPass
+    lists-fault z p ep = ap (Broken c) ep ∙ sym (or-broken _ (entriesRules T) c (rowAt T t) (inv .rest ∙ rw (range-more t n h) (pass-fault (rowAt T) (allowedRules T) t c (range (t + 1) (n - (t + 1))) list-row z)))
+
+    pub lists-next : c ≡ 0 → (s : ℕ) → s ≡ entryCount r → s ≤ r .d → Lists T n (t + 1) (prior + s)
+    unfolding entriesTaken takenBy hasList entryCount
+    lists-next z s es hs = record {
+      within = omega arith;
+      few = inv .few;
+      so-far = rw (add-one, inv .so-far, lists, es ∙ ap entryCount (whole-type T t r er));
+      bound = omega (arith, inv .bound, er .d-small);
+      rest = inv .rest ∙ rw (range-more t n h) (ap findingOf (pass-next (rowAt T) (allowedRules T) t c (range (t + 1) (n - (t + 1))) list-row z));
+    }
+
+-- a table without lists has none of these faults
+module _ (T : List ℕ) (none : withLists T ≡ false) where
+  no-list : (t : ℕ) → 0 ≡ firstOf (allowedRules T t)
+  unfolding firstOf allowedRules hasList
+  no-list t = rw none
+
+  no-lists : (k i : ℕ) → findingOf (pass (rowAt T) (allowedRules T) (range i k)) ≡ Fine
+  unfolding findingOf pass range
+  no-lists zero i = refl
+  no-lists (suc k) i = ap findingOf (pass-next (rowAt T) (allowedRules T) i 0 (range (suc i) k) (no-list i) refl) ∙ no-lists k (suc i)
+
+  none-taken : (n : ℕ) → entriesTaken T n ≡ 0
+  unfolding entriesTaken takenBy hasList
+  none-taken zero = refl
+  none-taken (suc n) = rw (none, none-taken n)
+
+pub lists-without : (T : List ℕ) (b : Bool) → b ≡ withLists T → b ≡ false → Fine ≡ findingOf (allowedPass T)
+unfolding allowedPass entriesRules entries faultAt findingOf
+lists-without T b eb q = let none = sym eb ∙ q in sym (or-finding _ (entriesRules T) (no-lists T none (types T) 0) ∙ rw (none-taken T none (types T), none))
 
 -- ---- member rows
 
@@ -1000,9 +1229,9 @@ module _ (T : List ℕ) (n o : ℕ) (inv : Owners T n o) where
 -- ---- header, type rows and member sum, member rows
 
 module _ (T : List ℕ) (h : ℕ) (eh : faultAt 0 h ≡ headerRules T) where
-  all : faults T ≡ orElse (faultAt 0 h) (orElse (orElse (typePass T) (sumRules T)) (orElse (memberPass T) fine))
-  unfolding faults passes typePass memberPass
-  all = rw (eh, or-assoc)
+  all : faults T ≡ orElse (faultAt 0 h) (orElse (rowsPass T) (orElse (memberPass T) fine))
+  unfolding faults passes typePass allowedPass rowsPass memberPass
+  all = rw (eh, or-assoc, or-assoc, or-assoc)
 
   pub check-header : (h ≡ 0 → ⊥) → Broken h 0 ≡ findingOf (faults T)
   unfolding findingOf faultAt
@@ -1020,19 +1249,19 @@ module _ (T : List ℕ) (h : ℕ) (eh : faultAt 0 h ≡ headerRules T) where
     pub check-rows : (n : ℕ) → n ≡ types T → rowAt T n ≤ length T
     check-rows n en = omega (arith, check-all-rows (members T) refl)
 
-  module _ (head : h ≡ 0) (v : Finding) (ev : v ≡ findingOf (orElse (typePass T) (sumRules T))) where
-    past-header : findingOf (faults T) ≡ findingOf (orElse (orElse (typePass T) (sumRules T)) (orElse (memberPass T) fine))
+  module _ (head : h ≡ 0) (v : Finding) (ev : v ≡ findingOf (rowsPass T)) where
+    past-header : findingOf (faults T) ≡ findingOf (orElse (rowsPass T) (orElse (memberPass T) fine))
     unfolding faultAt findingOf
     past-header = ap findingOf all ∙ rw head (or-finding fine _ refl)
 
     pub check-types : (c p : ℕ) → v ≡ Broken c p → Broken c p ≡ findingOf (faults T)
-    check-types c p q = sym (past-header ∙ or-broken (orElse (typePass T) (sumRules T)) _ c p (sym ev ∙ q))
+    check-types c p q = sym (past-header ∙ or-broken (rowsPass T) _ c p (sym ev ∙ q))
 
     pub check-members : v ≡ Fine → (w : Finding) → (OwnersThere T → w ≡ findingOf (ownersPass T (range 0 (types T)))) → w ≡ findingOf (faults T)
     unfolding orElse findingOf
     check-members q w e =
-        let f = is-fine (orElse (typePass T) (sumRules T)) (sym ev ∙ q) in
-        e (owners-there T f) ∙ ap findingOf (owners-pass T f) ∙ sym (past-header ∙ or-finding (orElse (typePass T) (sumRules T)) _ (sym ev ∙ q) ∙ last (memberPass T))
+        let f = is-fine (rowsPass T) (sym ev ∙ q) in
+        e (owners-there T f) ∙ ap findingOf (owners-pass T f) ∙ sym (past-header ∙ or-finding (rowsPass T) _ (sym ev ∙ q) ∙ last (memberPass T))
       where
         last : (f : Fault) → findingOf (orElse f fine) ≡ findingOf f
         last fine = refl

@@ -1,6 +1,7 @@
 -- The rules of a table as the code takes them: the type rules by kind, the member rules by owner.
 --
 --   findingOf                 fine, or the class and the place of the first rule that is broken
+--   isMarked                  the mark FGT, and version 1 or 2
 --   isSetFrom                 a field of a row, from field i on, is not 0
 --   noBaseOf                  row b - 1 is no base of row t of kind k
 --   alikeFrom                 a record among rows `from` to t - 1 has the name of row t
@@ -9,7 +10,10 @@
 --   share                     how many member rows a row takes
 --   isBasic                   a type row's kind is below 8 and every other byte is 0
 --   past                      the first row that may be a record, advanced past row t if it is t and t is no record
---   typePass, memberPass      the passes over type rows and over member rows
+--   allowedRulesBy            the rules of a row's list, if it is an enum, by the row's fields r; the lists before it take n of `all` entries
+--   entryCount                how many entries the list of a row has
+--   typePass, allowedPass, memberPass   the passes over type rows; over lists, then what is left over of the entries; over member rows
+--   rowsPass                  type rows, lists, member sum
 --   isOptionalOf              a member row is optional and has a tag
 --   isTagBefore               one of the member rows `first` to m - 1 is optional and has a tag
 --   isTagAlike                the same, but false for a tag that is not below `above`
@@ -20,11 +24,11 @@
 --   MembersThere, OwnersThere      the member rows that a row takes are all there; those of each row are
 use Prim.Native.Nat.{ℕ, zero, suc, _+_, _-_, _/_, _%_, _≤_, _<_}
 use mathlib.Core.Bool.{Bool, false, _&&_, _||_, not}
-use mathlib.Core.List.{List, [], _∷_}
-use lib.ListN.{drop}
+use mathlib.Core.List.{List, [], _∷_, map}
+use lib.ListN.{take, drop}
 use lib.Dec.{eqb, leb, ltb}
-use Rattle.encoding.specs.Result.{pick}
-use Rattle.encoding.specs.Table.{at, types, members, names, rowAt, memberAt, kind, field, mark, tag, isRecord, owns, nameOf, range, any, great, used, noPart, typeRules, memberRules, Fault, fine, fault, orElse, pass}
+use Rattle.encoding.specs.Result.{pick, sameBytes}
+use Rattle.encoding.specs.Table.{at, version, withLists, types, members, names, rowAt, memberAt, listEntry, kind, field, mark, tag, isRecord, owns, nameOf, range, any, great, used, noPart, typeRules, risesTo, allowedRules, entriesRules, sumRules, memberRules, Fault, fine, fault, orElse, pass}
 use Rattle.table.specs.Names.{isNamed}
 use Rattle.table.specs.Rows.{typeRowOf, memberRowOf, greatestOf}
 use Rattle.table.specs.declared.TypeRow.{TypeRow}
@@ -35,6 +39,9 @@ use Rattle.rules.specs.declared.Finding.the-variants.{Fine, Broken}
 unfoldable pub findingOf : Fault → Finding
 findingOf fine = Fine
 findingOf (fault c p) = Broken c p
+
+unfoldable pub isMarked : List ℕ → Bool
+isMarked T = sameBytes (take 3 T) (70 ∷ 71 ∷ 84 ∷ []) && (eqb (version T) 1 || withLists T)
 
 -- ---- type rows
 
@@ -99,6 +106,24 @@ past from t plain = pick (eqb from t && plain) (t + 1) from
 
 unfoldable pub typePass : List ℕ → Fault
 typePass T = pass (rowAt T) (typeRules T) (range 0 (types T))
+
+unfoldable pub allowedRulesBy : List ℕ → ℕ → TypeRow → ℕ → List (ℕ × Bool)
+allowedRulesBy T all r n =
+    pick (eqb (r .kind) 8)
+    ((39, not (eqb (r .c) n))
+    ∷ (39, ltb all (r .c + r .d))
+    ∷ (39, not (risesTo (greatestOf r) (map (listEntry T) (range (r .c) (r .d)))))
+    ∷ [])
+    []
+
+unfoldable pub entryCount : TypeRow → ℕ
+entryCount r = pick (eqb (r .kind) 8) (r .d) 0
+
+unfoldable pub allowedPass : List ℕ → Fault
+allowedPass T = orElse (pass (rowAt T) (allowedRules T) (range 0 (types T))) (entriesRules T)
+
+unfoldable pub rowsPass : List ℕ → Fault
+rowsPass T = orElse (typePass T) (orElse (allowedPass T) (sumRules T))
 
 -- ---- member rows
 

@@ -1,11 +1,12 @@
 -- The rules as the code takes them are those of the definitions.
 --
+--   allowed-rules  in a table with lists, the rules of a list by its row find what the definition's find
 --   row-rules      the rules of a type row, taken by its kind, find what the row's rules find
---   owners-pass    where the type rows and the sum are fine, the member rows owner by owner are the member rows in order
+--   owners-pass    where the type rows, the lists and the sum are fine, the member rows owner by owner are the member rows in order
 --   or-assoc       the first fault of three passes
 --   table-length   where the header is fine, the table is as long as it says
---   owners-there   where the type rows and the sum are fine, the member rows of each owner are all there
-use Prim.Native.Nat.{ℕ, zero, suc, _+_, _-_, _≤_, _<_}
+--   owners-there   where the type rows, the lists and the sum are fine, the member rows of each owner are all there
+use Prim.Native.Nat.{ℕ, zero, suc, _+_, _-_, _*_, _≤_, _<_}
 use mathlib.Core.Path.{_≡_, refl, sym, ap, ap₂, _∙_}
 use mathlib.Core.Bool.{Bool, true, false, _&&_, not}
 use mathlib.Core.Logic.{⊎-elim}
@@ -17,9 +18,10 @@ use lib.Dec.{eqb}
 use borrow.Author.Tests.{eqb-true, eqb-false, not-false, lt-leb, le-leb, lt-ltb}
 use Rattle.encoding.specs.Result.{pick, firstOf}
 use Rattle.encoding.specs.Number.{negative}
-use Rattle.encoding.specs.Table.{types, members, names, rowAt, memberAt, namesAt, greatest, kind, field, mark, tag, owns, range, any, used, noBase, alike, taken, takes, ownerOf, tagAlike, typeRules, memberRules, headerTests, headerRules, sumRules, faultAt, Fault, fine, fault, orElse, pass}
+use Rattle.encoding.specs.Table.{withLists, types, members, entries, rowAt, memberAt, entriesAt, greatest, entriesOf, kind, field, mark, tag, owns, range, any, used, noBase, alike, takenBy, taken, takes, hasList, entriesTaken, allowedRules, ownerOf, tagAlike, typeRules, memberRules, headerTests, headerRules, sumRules, faultAt, Fault, fine, fault, orElse, pass}
+use Rattle.encoding.specs.RuleLaws.{header-test}
 use Rattle.table.specs.Rows.{typeRowOf}
-use Rattle.rules.specs.Checks.{isSetFrom, noBaseOf, enumRules, structRules, seqRules, dictRules, recordRules, listRules, kindRules, rowRules, share, typePass, memberPass, isTagBefore, requiredRules, optionalRules, memberRulesBy, memberRulesOf, ownerPass, ownersPass, OwnersThere}
+use Rattle.rules.specs.Checks.{isSetFrom, noBaseOf, enumRules, structRules, seqRules, dictRules, recordRules, listRules, kindRules, rowRules, share, allowedRulesBy, typePass, allowedPass, rowsPass, memberPass, isTagBefore, requiredRules, optionalRules, memberRulesBy, memberRulesOf, ownerPass, ownersPass, OwnersThere}
 
 -- ---- a type row by its kind
 
@@ -63,6 +65,12 @@ module _ (T : List ℕ) (t : ℕ) where
   pub row-rules : firstOf (rowRules T t (typeRowOf T t) (taken T t) (alike T t)) ≡ firstOf (typeRules T t)
   unfolding firstOf rowRules typeRules
   row-rules = rw (set-from (used T (kind T t)), kind-rules)
+
+-- ---- a list by its row
+
+pub allowed-rules : (T : List ℕ) → withLists T ≡ true → (t : ℕ) → firstOf (allowedRulesBy T (entries T) (typeRowOf T t) (entriesTaken T t)) ≡ firstOf (allowedRules T t)
+unfolding firstOf allowedRulesBy allowedRules hasList greatest entriesOf
+allowed-rules T lists t = rw lists (either (kind T t) 8 (λ e. rw e) (λ e. rw e))
 
 -- ---- a member row by its mark
 
@@ -154,7 +162,7 @@ turns T e t h o = first-taken T t (pass-fine (rowAt T) (typeRules T) (types T) 0
 
 module _ (T : List ℕ) where
   taken-more : (n : ℕ) → taken T (suc n) ≡ taken T n + share (typeRowOf T n)
-  unfolding taken share
+  unfolding taken takenBy share
   taken-more n = refl
 
   share-own : (o : ℕ) → owns (kind T o) ≡ true → share (typeRowOf T o) ≡ field T o 1
@@ -226,31 +234,27 @@ sum-fine T e = go (eqb (taken T (types T)) (members T)) refl (at-fine 0 _ e)
     go true q z = eqb-true _ _ q
     go false q z = absurd (omega arith)
 
-pub table-length : (T : List ℕ) → headerRules T ≡ fine → length T ≡ namesAt T + names T
-unfolding headerRules headerTests
-table-length T e =
-    let a = first-none 31 _ _ (omega arith) (at-fine 0 _ e) in
-    let b = first-none 31 _ _ (omega arith) (a .1) in
-    let c = first-none 31 _ _ (omega arith) (b .1) in
-    let d = first-none 31 _ _ (omega arith) (c .1) in
-    let f = first-none 31 _ _ (omega arith) (d .1) in
-    let g = first-none 31 _ _ (omega arith) (f .1) in
-    let h = first-none 31 (not (eqb (length T) (namesAt T + names T))) _ (omega arith) (g .1) in
-    eqb-true _ _ (not-false _ (h .0))
+pub table-length : (T : List ℕ) → headerRules T ≡ fine → length T ≡ entriesAt T + 4 * entries T
+unfolding headerTests
+table-length T e = eqb-true _ _ (not-false _ (header-test T e 8))
 
-pub owners-pass : (T : List ℕ) → orElse (typePass T) (sumRules T) ≡ fine → ownersPass T (range 0 (types T)) ≡ memberPass T
-unfolding memberPass taken
+rows-fine : (T : List ℕ) → rowsPass T ≡ fine → (typePass T ≡ fine) × (sumRules T ≡ fine)
+unfolding rowsPass
+rows-fine T e = let f = or-fine (typePass T) _ e in (f .0, or-fine (allowedPass T) (sumRules T) (f .1) .1)
+
+pub owners-pass : (T : List ℕ) → rowsPass T ≡ fine → ownersPass T (range 0 (types T)) ≡ memberPass T
+unfolding memberPass taken takenBy
 owners-pass T e =
-    let f = or-fine (typePass T) (sumRules T) e in
+    let f = rows-fine T e in
     let s = sum-fine T (f .1) in
     owners-from T (turns T (f .0)) (types T) 0 (omega arith) ∙ ap (λ (z : ℕ). pass (memberAt T) (memberRules T) (range 0 z)) (omega arith)
 
-pub owners-there : (T : List ℕ) → orElse (typePass T) (sumRules T) ≡ fine → OwnersThere T
+pub owners-there : (T : List ℕ) → rowsPass T ≡ fine → OwnersThere T
 unfolding share Turns
 owners-there T f = record { owners = λ o h. record { there = go o h (owns (kind T o)) refl } }
   where
     p : (typePass T ≡ fine) × (sumRules T ≡ fine)
-    p = or-fine (typePass T) (sumRules T) f
+    p = rows-fine T f
 
     go : (o : ℕ) → o < types T → (b : Bool) → owns (kind T o) ≡ b → 0 < pick b (field T o 1) 0 → field T o 0 + pick b (field T o 1) 0 ≤ members T
     go o h true q s = omega (arith, turns T (p .0) o h q, share-own T o q, taken-more T o, taken-least T (suc o) (types T) h, sum-fine T (p .1))

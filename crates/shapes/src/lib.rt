@@ -4,7 +4,7 @@ ghost use mathlib.Core.Path.{_≡_};
 ghost use Prim.Native.Nat.{_≤_, _<_};
 ghost use Rattle.encoding.specs.Result.{pick};
 ghost use Rattle.encoding.specs.Types.{fixed, fixeds, struct, seq, dict};
-ghost use Rattle.encoding.specs.Table.{field, memberTys, ownRows, tys, partTy, typeRows};
+ghost use Rattle.encoding.specs.Table.{typesAt, field, memberTys, ownRows, tys, partTy, typeRows};
 ghost use Rattle.shapes.specs.Shapes.{widthOf, plainShape, shapeOf, shapeAt, shapesOf, Shaped, formCode, widthCode, shapeIn, formIn, widthIn, widthBelow, isTextIn, isBoolIn, isEnumIn};
 
 // The number of the optional's form that a shape says.
@@ -76,7 +76,8 @@ pub fn is_enum(shapes: &[u8; 256], t: usize) -> bool
 }
 
 // Row i is below t and fixed-size.
-fn is_fixed(table: &[u8], shapes: &[u8; 256], t: usize, i: usize) -> bool
+fn is_fixed(table: &[u8], begin: usize, shapes: &[u8; 256], t: usize, i: usize) -> bool
+    requires { ⌜ begin ≡ typesAt (now table) ⌝ }
     requires { ⌜ t ≤ typeRows (now table) ⌝ }
     requires { ⌜ Shaped (now table) (now shapes) t ⌝ }
     ensures { λ r. ⌜ r ≡ fixed (partTy (now (table .entry)) t i) ⌝ }
@@ -92,25 +93,33 @@ fn is_fixed(table: &[u8], shapes: &[u8; 256], t: usize, i: usize) -> bool
         return true;
     }
     if x == 9 {
-        return table::kind(table, i) == 9;
+        return table::kind(table, begin, i) == 9;
     }
     false
 }
 
 // Every member of row t is fixed-size.
-fn are_fixed(table: &[u8], shapes: &[u8; 256], t: usize) -> bool
+fn are_fixed(table: &[u8], begin: usize, shapes: &[u8; 256], t: usize) -> bool
+    requires { ⌜ begin ≡ typesAt (now table) ⌝ }
     requires { ⌜ t ≤ typeRows (now table) ⌝ }
     requires { ⌜ Shaped (now table) (now shapes) t ⌝ }
     ensures { λ r. ⌜ r ≡ fixeds (memberTys (now (table .entry)) (tys (now (table .entry)) t) (ownRows (now (table .entry)) t)) ⌝ }
 {
     let count = table::members(table);
-    let mut m = table::field(table, t, 0);
-    let mut left = table::field(table, t, 1);
+    let first = table::members_at(table, begin);
+    let mut m = table::field(table, begin, t, 0);
+    let mut left = table::field(table, begin, t, 1);
     while left > 0 {
         if count <= m {
             return false;
         }
-        if !is_fixed(table, shapes, t, table::member_row(table, m).of) {
+        if !is_fixed(
+            table,
+            begin,
+            shapes,
+            t,
+            table::member_row_from(table, first, m).of,
+        ) {
             return false;
         }
         m += 1;
@@ -130,13 +139,15 @@ pub fn width_below(shapes: &[u8; 256], t: usize, i: usize) -> usize
 }
 
 // The width of struct row t if it has one of at most 237, else 0: shapes fit a byte.
-fn struct_width(table: &[u8], shapes: &[u8; 256], t: usize) -> usize
+fn struct_width(table: &[u8], begin: usize, shapes: &[u8; 256], t: usize) -> usize
+    requires { ⌜ begin ≡ typesAt (now table) ⌝ }
     requires { ⌜ t ≤ typeRows (now table) ⌝ }
     requires { ⌜ Shaped (now table) (now shapes) t ⌝ }
     ensures { λ r. ⌜ (r ≡ widthOf (struct (memberTys (now (table .entry)) (tys (now (table .entry)) t) (ownRows (now (table .entry)) t)))) × (r ≤ 237) ⌝ }
 {
     let count = table::members(table);
-    let row = table::type_row(table, t);
+    let first = table::members_at(table, begin);
+    let row = table::type_row(table, begin, t);
     let mut m = row.a;
     let mut left = row.b;
     let mut sum: usize = 0;
@@ -144,7 +155,7 @@ fn struct_width(table: &[u8], shapes: &[u8; 256], t: usize) -> usize
         if count <= m {
             return 0;
         }
-        let w = width_below(shapes, t, table::member_row(table, m).of);
+        let w = width_below(shapes, t, table::member_row_from(table, first, m).of);
         if w == 0 {
             return 0;
         }
@@ -159,16 +170,17 @@ fn struct_width(table: &[u8], shapes: &[u8; 256], t: usize) -> usize
 }
 
 // The shape of struct row t.
-fn struct_shape(table: &[u8], shapes: &[u8; 256], t: usize) -> u8
+fn struct_shape(table: &[u8], begin: usize, shapes: &[u8; 256], t: usize) -> u8
+    requires { ⌜ begin ≡ typesAt (now table) ⌝ }
     requires { ⌜ t ≤ typeRows (now table) ⌝ }
     requires { ⌜ Shaped (now table) (now shapes) t ⌝ }
     ensures { λ r. ⌜ r ≡ shapeOf (struct (memberTys (now (table .entry)) (tys (now (table .entry)) t) (ownRows (now (table .entry)) t))) ⌝ }
 {
-    let w = struct_width(table, shapes, t);
+    let w = struct_width(table, begin, shapes, t);
     if w != 0 {
         return (18 + w) as u8;
     }
-    counted(are_fixed(table, shapes, t))
+    counted(are_fixed(table, begin, shapes, t))
 }
 
 // The shape of a row without parts, by its kind.
@@ -197,61 +209,65 @@ fn counted(fixed: bool) -> u8
 }
 
 // The shape of sequence row t.
-fn seq_shape(table: &[u8], shapes: &[u8; 256], t: usize) -> u8
+fn seq_shape(table: &[u8], begin: usize, shapes: &[u8; 256], t: usize) -> u8
+    requires { ⌜ begin ≡ typesAt (now table) ⌝ }
     requires { ⌜ t ≤ typeRows (now table) ⌝ }
     requires { ⌜ Shaped (now table) (now shapes) t ⌝ }
     ensures { λ r. ⌜ r ≡ shapeOf (seq (partTy (now (table .entry)) t (field (now (table .entry)) t 0))) ⌝ }
 {
-    let i = table::field(table, t, 0);
+    let i = table::field(table, begin, t, 0);
     if t <= i {
         return 10;
     }
-    if table::kind(table, i) <= 1 {
+    if table::kind(table, begin, i) <= 1 {
         return 7;
     }
-    counted(is_fixed(table, shapes, t, i))
+    counted(is_fixed(table, begin, shapes, t, i))
 }
 
 // The shape of dictionary row t.
-fn dict_shape(table: &[u8], shapes: &[u8; 256], t: usize) -> u8
+fn dict_shape(table: &[u8], begin: usize, shapes: &[u8; 256], t: usize) -> u8
+    requires { ⌜ begin ≡ typesAt (now table) ⌝ }
     requires { ⌜ t ≤ typeRows (now table) ⌝ }
     requires { ⌜ Shaped (now table) (now shapes) t ⌝ }
     ensures { λ r. ⌜ r ≡ shapeOf (dict (partTy (now (table .entry)) t (field (now (table .entry)) t 0)) (partTy (now (table .entry)) t (field (now (table .entry)) t 1))) ⌝ }
 {
-    if !is_fixed(table, shapes, t, table::field(table, t, 0)) {
+    if !is_fixed(table, begin, shapes, t, table::field(table, begin, t, 0)) {
         return 10;
     }
-    counted(is_fixed(table, shapes, t, table::field(table, t, 1)))
+    counted(is_fixed(table, begin, shapes, t, table::field(table, begin, t, 1)))
 }
 
 // The shape of row t; the array has those of the rows below it.
-fn row_shape(table: &[u8], shapes: &[u8; 256], t: usize) -> u8
+fn row_shape(table: &[u8], begin: usize, shapes: &[u8; 256], t: usize) -> u8
+    requires { ⌜ begin ≡ typesAt (now table) ⌝ }
     requires { ⌜ t < typeRows (now table) ⌝ }
     requires { ⌜ Shaped (now table) (now shapes) t ⌝ }
     ensures { λ r. ⌜ r ≡ shapeAt (now (table .entry)) t ⌝ }
 {
-    let k = table::kind(table, t);
+    let k = table::kind(table, begin, t);
     if k == 9 {
-        return struct_shape(table, shapes, t);
+        return struct_shape(table, begin, shapes, t);
     }
     if k == 10 {
-        return seq_shape(table, shapes, t);
+        return seq_shape(table, begin, shapes, t);
     }
     if k == 11 {
-        return dict_shape(table, shapes, t);
+        return dict_shape(table, begin, shapes, t);
     }
     plain(k)
 }
 
 // Sets the shape of each row; rows that the table does not have are broken.
-pub fn fill(table: &[u8], shapes: &mut [u8; 256])
+pub fn fill(table: &[u8], begin: usize, shapes: &mut [u8; 256])
+    requires { ⌜ begin ≡ typesAt (now table) ⌝ }
     ensures { λ _. ⌜ now (shapes .exit) ≡ shapesOf (now (table .entry)) ⌝ }
 {
     let n = table::rows(table);
     *shapes = [10u8; 256];
     let mut t = 0;
     while t < n {
-        let x = row_shape(table, shapes, t);
+        let x = row_shape(table, begin, shapes, t);
         shapes[t] = x;
         t += 1;
     }

@@ -1,10 +1,11 @@
 // The walk over the slices of a record, and its steps.
 ghost use mathlib.Core.Path.{_≡_};
 ghost use mathlib.Core.Bool.{_&&_, not};
-ghost use Prim.Native.Nat.{ℕ, _≤_};
+ghost use Prim.Native.Nat.{ℕ, _≤_, _<_};
 ghost use lib.Dec.{eqb};
 ghost use lib.ListN.{length, drop};
 ghost use Rattle.encoding.specs.Result.{ok, pick};
+ghost use Rattle.encoding.specs.Table.{typesAt, membersAt};
 ghost use Rattle.encoding.specs.Slice.{sliced as in-slices, compact, formatNumber, Chain, slices};
 ghost use Rattle.shapes.specs.Shapes.{shapesOf};
 ghost use Rattle.table.specs.Tags.{optionalFrom};
@@ -50,8 +51,17 @@ fn opening(table: &[u8], top: usize, stage: Stage, s: &[u8]) -> Opening
     }
 }
 
-// Reads the next optional, or the end marker (14 if no optional came before it). A tag is looked up among the member rows from `row` to `stop`.
-fn next(table: &[u8], shapes: &[u8; 256], stop: usize, row: usize, least: usize, s: &[u8]) -> Turn
+// Reads the next optional, or the end marker (14 if no optional came before it). A tag is looked up among the member rows from `row` to `stop`; `first` is where the member rows begin.
+fn next(
+    table: &[u8],
+    first: usize,
+    shapes: &[u8; 256],
+    stop: usize,
+    row: usize,
+    least: usize,
+    s: &[u8],
+) -> Turn
+    requires { ⌜ (first ≡ membersAt (now table)) × (first < 1048576) ⌝ }
     requires { ⌜ now shapes ≡ shapesOf (now table) ⌝ }
     requires { ⌜ stop ≤ 131072 ⌝ }
     ensures { λ r. ⌜ r ≡ turnOf (optionalFrom (now (table .entry)) stop row) least (now (s .entry)) ⌝ }
@@ -62,7 +72,7 @@ fn next(table: &[u8], shapes: &[u8; 256], stop: usize, row: usize, least: usize,
         }
         return Turn::End;
     }
-    let o = level::optionals::optional(table, shapes, stop, row, least, s);
+    let o = level::optionals::optional(table, first, shapes, stop, row, least, s);
     match o {
         Optional::Known(m, tag, a, n) => Turn::Known(m, tag, a, n),
         Optional::Skipped(tag, n) => Turn::Skipped(tag, n),
@@ -108,21 +118,24 @@ fn format_number(sliced: bool) -> usize
     if sliced { 1 } else { 0 }
 }
 
-// The slices of a record from a place on, with a row for each known member.
+// The slices of a record from a place on, with a row for each known member. `begin` is where the table's type rows begin.
 pub fn slices(
     table: &[u8],
+    begin: usize,
     shapes: &[u8; 256],
     top: usize,
     m: &[u8],
     start: usize,
     out: &mut [u8],
 ) -> Walk
+    requires { ⌜ begin ≡ typesAt (now table) ⌝ }
     requires { ⌜ start ≤ length (now m) ⌝ }
     requires { ⌜ now shapes ≡ shapesOf (now table) ⌝ }
     ensures { λ r. ⌜ r ≡ sliceWalk (now (table .entry)) start (slices (now (table .entry)) top (drop start (now (m .entry)))) ⌝ }
     ensures { λ _. ⌜ length (now (out .exit)) ≡ length (now (out .entry)) ⌝ }
     ensures { λ _. ⌜ ((c : Chain) (n : ℕ) → slices (now (table .entry)) top (drop start (now (m .entry))) ≡ ok c n → now (out .exit) ≡ fill 0 (chainRows (now (table .entry)) start c) (now (out .entry))) ⌝ }
 {
+    let place = table::members_at(table, begin);
     let mut stage = Stage::First;
     let mut pos = start;
     let mut count = 0;
@@ -141,17 +154,26 @@ pub fn slices(
             Opening::Known(t, has, sliced, a, e) => {
                 let from = pos + a;
                 let end = pos + e;
-                let members = level::required(table, shapes, t, &m[from..end], from, count, out);
+                let members = level::required(
+                    table,
+                    begin,
+                    shapes,
+                    t,
+                    &m[from..end],
+                    from,
+                    count,
+                    out,
+                );
                 match members {
-                    Members::Read(n, k, begin) => {
-                        let stop = table::chain::member_end(table, t);
+                    Members::Read(n, k, opt) => {
+                        let stop = table::chain::member_end(table, begin, t);
                         count = k;
                         let mut at = from + n;
                         let mut least = 0;
-                        let mut row = begin;
+                        let mut row = opt;
                         let mut more = has;
                         while more {
-                            let x = next(table, shapes, stop, row, least, &m[at..end]);
+                            let x = next(table, place, shapes, stop, row, least, &m[at..end]);
                             match x {
                                 Turn::End => {
                                     at += 1;
@@ -162,7 +184,7 @@ pub fn slices(
                                     count += 1;
                                     at += l;
                                     least = tag + 1;
-                                    row = table::chain::behind(table, row, member, tag);
+                                    row = table::chain::behind(table, place, row, member, tag);
                                 }
                                 Turn::Skipped(tag, l) => {
                                     optionals += 1;
@@ -180,7 +202,7 @@ pub fn slices(
                             break 'slices;
                         }
                         first = first_of(stage, first, t);
-                        let b = table::chain::base(table, t);
+                        let b = table::chain::base(table, begin, t);
                         if b == 0 {
                             answer = Walk::Done(
                                 first,

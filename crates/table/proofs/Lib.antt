@@ -4,3 +4,4 @@ pub mod Ranges
 pub mod ByKind
 pub mod Labels
 pub mod Chains
+pub mod Searches

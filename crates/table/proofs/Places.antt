@@ -1,6 +1,8 @@
 -- Where rows begin, and what the bytes of a row say, read at their place or from a part that shows the row. Assumes nothing.
 --
---   types-begin                            the header's length
+--   types-lists, types-other, types-later  the header's length, by the two bytes of the version
+--   lists-begin, entries-lists, entries-none   a table with lists by the header's length; how many entries it has
+--   entry-is                               an entry of the lists
 --   row-fits, row-near                     the place of a row below 65,536 is a small number
 --   row-past, member-past                  a row that begins past the table's end
 --   begins-here                            two names of one place
@@ -9,31 +11,67 @@
 --   kind-direct, kind-byte, field-direct   a kind, a field read at its place
 --   kind-is .. field-within                a field of a type row, read from a part that shows the row; field-past past the table's end
 --   member-type-is .. tag-is               the same of a member row
---   allows-is                              whether an enum row allows a number
 --   rows-few, rows-many                    how many rows have a tree
 --   member-row, no-member                  the row of a member's type
 use Prim.Native.Nat.{ℕ, _+_, _-_, _*_, _/_, _≤_, _<_}
-use mathlib.Core.Path.{_≡_, refl, sym, ap, ap₂, _∙_}
+use mathlib.Core.Path.{_≡_, refl, sym, ap, _∙_}
+use mathlib.Core.Bool.{Bool, true, false}
 use mathlib.Core.List.{List}
 use native.Mathlib.Nat.{add-zero}
 use native.Mathlib.Omega.{arith}
 use lib.ListN.{length, take, drop, getD, drop-of-length-le}
 use lib.Seq.{drop-drop}
-use lib.Dec.{leb}
-use borrow.Author.Tests.{le-leb, lt-leb}
-use Rattle.encoding.specs.Types.{allows}
-use Rattle.encoding.specs.Table.{at, types, members, typesAt, rowAt, memberAt, fieldAt, kind, spare, field, memberType, mark, memberSpare, tag, greatest, allowed, typeRows, trees, tyOf, memberTy}
+use lib.Dec.{eqb, leb}
+use borrow.Author.Tests.{le-leb, lt-leb, eq-eqb, ne-eqb}
+use Rattle.encoding.specs.Result.{pick}
+use Rattle.encoding.specs.Table.{at, version, withLists, types, members, entries, typesAt, rowAt, memberAt, entriesAt, fieldAt, listEntry, kind, spare, field, memberType, mark, memberSpare, tag, typeRows, trees, tyOf, memberTy}
 use Rattle.encoding.specs.TableLaws.{header-most, rows-below, ty-past, member-past as member-none, member-whole}
 use Rattle.wire.specs.StepLaws.{rest-is}
-use Rattle.wire.specs.At.{at-byte, at-past, at-within}
-use Rattle.table.specs.Rows.{IsTypeRow, greatestOf}
-use Rattle.table.specs.declared.TypeRow.{TypeRow}
+use Rattle.wire.specs.At.{at-byte, at-split, at-past, at-within}
 
 -- ---- where rows begin
 
-pub types-begin : (T : List ℕ) → 12 ≡ typesAt T
-unfolding typesAt
-types-begin T = refl
+module _ (T : List ℕ) where
+  other-version : (version T ≡ 2 → ⊥) → 12 ≡ typesAt T
+  unfolding typesAt withLists
+  other-version h = rw (ne-eqb (version T) 2 h)
+
+  -- the version by its two bytes
+  module _ (a : ℕ) (ea : a ≡ at T 1 3) (small : a < 256) where
+    pub types-other : (a ≡ 2 → ⊥) → 12 ≡ typesAt T
+    unfolding version
+    types-other h = other-version (λ q. h (omega (arith, at-split T 1 1 3)))
+
+    module _ (b : ℕ) (eb : b ≡ at T 1 4) where
+      pub types-later : (b ≡ 0 → ⊥) → 12 ≡ typesAt T
+      unfolding version
+      types-later h = other-version (λ q. h (omega (arith, at-split T 1 1 3)))
+
+      pub types-lists : a ≡ 2 → b ≡ 0 → 14 ≡ typesAt T
+      unfolding typesAt withLists version
+      types-lists p q = let z : at T 2 3 ≡ 2 = omega (arith, at-split T 1 1 3) in rw z
+
+  module _ (f : ℕ) (ef : f ≡ typesAt T) where
+    pub lists-begin : eqb f 14 ≡ withLists T
+    unfolding typesAt
+    lists-begin = rw ef (go (withLists T))
+      where
+        go : (b : Bool) → eqb (pick b 14 12) 14 ≡ b
+        go true = refl
+        go false = refl
+
+  module _ (b : Bool) (eb : b ≡ withLists T) where
+    pub entries-lists : (r : ℕ) → b ≡ true → r ≡ at T 2 12 → r ≡ entries T
+    unfolding entries
+    entries-lists r q e = rw (← eb, q) e
+
+    pub entries-none : b ≡ false → 0 ≡ entries T
+    unfolding entries
+    entries-none q = rw (← eb, q)
+
+  pub entry-is : (p i r : ℕ) → p ≡ entriesAt T → r ≡ at T 4 (p + 4 * i) → r ≡ listEntry T i
+  unfolding listEntry
+  entry-is p i r e h = h ∙ ap (at T 4) (omega arith)
 
 -- the place of a row below 65,536 is no greater than the code's numbers
 pub row-fits : (T : List ℕ) (t : ℕ) → t ≤ 65536 → rowAt T t < 18446744073709551616
@@ -134,11 +172,6 @@ module _ (T s : List ℕ) (m : ℕ) (shows : Shows T s (memberAt T m) 8) (r : �
   pub tag-is : r ≡ at s 4 4 → r ≡ tag T m
   unfolding tag
   tag-is h = h ∙ shows .same 4 4 (omega arith)
-
--- an enumerator up to the greatest is allowed
-pub allows-is : (T : List ℕ) (t n g : ℕ) (row : TypeRow) → IsTypeRow T t row → g ≡ greatestOf row → leb n g ≡ allows (allowed T t) n
-unfolding allows allowed greatest
-allows-is T t n g row i e = ap (leb n) (e ∙ ap₂ (λ (a b : ℕ). a + 65536 * b) (i .a-is) (i .b-is))
 
 -- ---- rows that have a tree
 

@@ -4,15 +4,16 @@ ghost use mathlib.Core.Path.{_≡_};
 ghost use Prim.Native.Nat.{_+_, _≤_, _<_};
 ghost use lib.ListN.{length};
 ghost use lib.Dec.{eqb};
-ghost use Rattle.encoding.specs.Table.{any, field, membersAt, memberAt, takes, lookup, base, chain};
+ghost use Rattle.encoding.specs.Table.{any, field, typesAt, membersAt, memberAt, takes, lookup, base, chain};
 ghost use Rattle.table.specs.Found.{memberFound};
 ghost use Rattle.table.specs.Tags.{optionalFrom, behind};
 
-// The base row + 1, or 0 if row t has no base; a base that is not a smaller row is none.
-pub fn base(table: &[u8], t: usize) -> usize
+// The base row + 1, or 0 if row t has no base; a base that is not a smaller row is none. Here and below, `begin` is where the type rows begin.
+pub fn base(table: &[u8], begin: usize, t: usize) -> usize
+    requires { ⌜ begin ≡ typesAt (now table) ⌝ }
     ensures { λ r. ⌜ (r ≡ base (now (table .entry)) t) × (r ≤ t) ⌝ }
 {
-    let row = crate::type_row(table, t);
+    let row = crate::type_row(table, begin, t);
     if crate::is_record(row.kind) {
         if row.c <= t {
             return row.c;
@@ -25,12 +26,13 @@ pub fn base(table: &[u8], t: usize) -> usize
 pub fn in_chain(table: &[u8], t: usize, top: usize) -> bool
     ensures { λ r. ⌜ r ≡ any (λ o. eqb o top) (chain (now (table .entry)) t) ⌝ }
 {
+    let begin = crate::types_at(table);
     let mut o = t;
     loop {
         if o == top {
             return true;
         }
-        let b = base(table, o);
+        let b = base(table, begin, o);
         if b == 0 {
             return false;
         }
@@ -39,10 +41,11 @@ pub fn in_chain(table: &[u8], t: usize, top: usize) -> bool
 }
 
 // Member row m is one of the rows that row t takes by its fields a and b.
-fn takes(table: &[u8], t: usize, m: usize) -> bool
+fn takes(table: &[u8], begin: usize, t: usize, m: usize) -> bool
+    requires { ⌜ begin ≡ typesAt (now table) ⌝ }
     ensures { λ r. ⌜ r ≡ takes (now (table .entry)) t m ⌝ }
 {
-    let row = crate::type_row(table, t);
+    let row = crate::type_row(table, begin, t);
     if m < row.a {
         return false;
     }
@@ -53,12 +56,13 @@ fn takes(table: &[u8], t: usize, m: usize) -> bool
 pub fn of_chain(table: &[u8], t: usize, m: usize) -> bool
     ensures { λ r. ⌜ r ≡ any (λ o. takes (now (table .entry)) o m) (chain (now (table .entry)) t) ⌝ }
 {
+    let begin = crate::types_at(table);
     let mut o = t;
     loop {
-        if takes(table, o, m) {
+        if takes(table, begin, o, m) {
             return true;
         }
-        let b = base(table, o);
+        let b = base(table, begin, o);
         if b == 0 {
             return false;
         }
@@ -67,10 +71,11 @@ pub fn of_chain(table: &[u8], t: usize, m: usize) -> bool
 }
 
 // The row after the member rows that row t takes.
-pub fn member_end(table: &[u8], t: usize) -> usize
+pub fn member_end(table: &[u8], begin: usize, t: usize) -> usize
+    requires { ⌜ begin ≡ typesAt (now table) ⌝ }
     ensures { λ r. ⌜ (r ≡ field (now (table .entry)) t 0 + field (now (table .entry)) t 1) × (r ≤ 131072) ⌝ }
 {
-    let row = crate::type_row(table, t);
+    let row = crate::type_row(table, begin, t);
     row.a + row.b
 }
 
@@ -94,11 +99,11 @@ fn tag_member_in(table: &[u8], first: usize, end: usize, from: usize, tag: usize
 }
 
 // The same for any table: the missing bytes of a row outside are 0.
-pub fn tag_member(table: &[u8], end: usize, from: usize, tag: usize) -> FoundMember
+pub fn tag_member(table: &[u8], first: usize, end: usize, from: usize, tag: usize) -> FoundMember
+    requires { ⌜ (first ≡ membersAt (now table)) × (first < 1048576) ⌝ }
     requires { ⌜ end ≤ 131072 ⌝ }
     ensures { λ r. ⌜ r ≡ memberFound (now (table .entry)) (lookup tag (optionalFrom (now (table .entry)) end from)) ⌝ }
 {
-    let first = crate::members_at(table);
     if crate::member_at(table, first, end) <= table.len() {
         return tag_member_in(table, first, end, from, tag);
     }
@@ -115,12 +120,12 @@ pub fn tag_member(table: &[u8], end: usize, from: usize, tag: usize) -> FoundMem
     FoundMember::Nothing
 }
 
-// Where to look up the next tag, after `tag` was found at member row m by a look-up from row `from`: at the first optional row before m with a greater tag, else after m.
-pub fn behind(table: &[u8], from: usize, m: usize, tag: usize) -> usize
+// Where to look up the next tag, after `tag` was found at member row m by a look-up from row `from`: at the first optional row before m with a greater tag, else after m. `first` is where the member rows begin.
+pub fn behind(table: &[u8], first: usize, from: usize, m: usize, tag: usize) -> usize
+    requires { ⌜ (first ≡ membersAt (now table)) × (first < 1048576) ⌝ }
     requires { ⌜ m < 131072 ⌝ }
     ensures { λ r. ⌜ r ≡ behind (now (table .entry)) from m tag ⌝ }
 {
-    let first = crate::members_at(table);
     let mut i = from;
     while i < m {
         let row = crate::member_row_from(table, first, i);

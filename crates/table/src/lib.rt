@@ -1,6 +1,8 @@
 // Look-ups in a type table: rows, kinds, members. Each equals its definition on any bytes: past the end is 0.
-// naming.rt has the records' names, chain.rt the bases and the member rows of a row.
-// Every place in a table is computed here, by `types_at` to `field_at` and the two that stop at the table's end.
+// naming.rt has the records' names, chain.rt the bases and the member rows of a row, allowed.rt the lists of allowed enumerators.
+// Every place in a table is computed here, by `types_at` to `field_at` and the two that stop at the table's end. Places depend on the version:
+// the look-ups of type rows are passed `begin`, where the type rows begin, so that a function looks at the version once.
+pub mod allowed;
 pub mod chain;
 pub mod naming;
 
@@ -8,7 +10,7 @@ ghost use mathlib.Core.Path.{_≡_};
 ghost use Prim.Native.Nat.{_+_, _*_, _≤_, _<_};
 ghost use lib.ListN.{length, drop};
 ghost use Rattle.encoding.specs.Types.{allows};
-ghost use Rattle.encoding.specs.Table.{types, members, names, typesAt, rowAt, membersAt, memberAt, namesAt, fieldAt, isRecord, owns, kind, field, memberType, mark, tag, allowed, typeRows, trees, tyOf, memberTy};
+ghost use Rattle.encoding.specs.Table.{withLists, types, members, names, entries, typesAt, rowAt, membersAt, memberAt, namesAt, entriesAt, fieldAt, isRecord, owns, kind, field, memberType, mark, tag, allowed, typeRows, trees, tyOf, memberTy};
 ghost use Rattle.table.specs.Rows.{IsTypeRow, IsMemberRow, greatestOf};
 
 // A row number, if there is one.
@@ -74,26 +76,52 @@ pub fn rows(table: &[u8]) -> usize
     256
 }
 
-// Where the type rows begin: after the header.
+// Where the type rows begin: after the header, which version 2, as two bytes, makes longer.
 pub fn types_at(table: &[u8]) -> usize
     ensures { λ r. ⌜ (r ≡ typesAt (now (table .entry))) × ((12 ≤ r) × (r ≤ 64)) ⌝ }
 {
+    if wire::byte_at(table, 3) == 2 {
+        if wire::byte_at(table, 4) == 0 {
+            return 14;
+        }
+    }
     12
 }
 
+// The table has lists of allowed enumerators. Here and below, `begin` is where the type rows begin.
+pub fn with_lists(table: &[u8], begin: usize) -> bool
+    requires { ⌜ begin ≡ typesAt (now table) ⌝ }
+    ensures { λ r. ⌜ r ≡ withLists (now (table .entry)) ⌝ }
+{
+    begin == 14
+}
+
+// E of the header; a table without lists has none.
+pub fn entries(table: &[u8], begin: usize) -> usize
+    requires { ⌜ begin ≡ typesAt (now table) ⌝ }
+    ensures { λ r. ⌜ (r ≡ entries (now (table .entry))) × (r < 65536) ⌝ }
+{
+    if with_lists(table, begin) {
+        return wire::short_at(table, 12);
+    }
+    0
+}
+
 // Where type row t begins.
-pub fn row_at(table: &[u8], t: usize) -> usize
+pub fn row_at(table: &[u8], begin: usize, t: usize) -> usize
+    requires { ⌜ begin ≡ typesAt (now table) ⌝ }
     requires { ⌜ rowAt (now table) t < 18446744073709551616 ⌝ }
     ensures { λ r. ⌜ r ≡ rowAt (now (table .entry)) t ⌝ }
 {
-    types_at(table) + 12 * t
+    begin + 12 * t
 }
 
 // Where the member rows begin: after the type rows.
-pub fn members_at(table: &[u8]) -> usize
+pub fn members_at(table: &[u8], begin: usize) -> usize
+    requires { ⌜ begin ≡ typesAt (now table) ⌝ }
     ensures { λ r. ⌜ (r ≡ membersAt (now (table .entry))) × (r < 1048576) ⌝ }
 {
-    row_at(table, types(table))
+    row_at(table, begin, types(table))
 }
 
 // Where member row m begins. `first` is where the member rows begin, so that a loop looks that up once.
@@ -106,10 +134,19 @@ pub fn member_at(table: &[u8], first: usize, m: usize) -> usize
 }
 
 // Where the names begin: after the member rows.
-pub fn names_at(table: &[u8]) -> usize
+pub fn names_at(table: &[u8], begin: usize) -> usize
+    requires { ⌜ begin ≡ typesAt (now table) ⌝ }
     ensures { λ r. ⌜ (r ≡ namesAt (now (table .entry))) × (r < 2097152) ⌝ }
 {
-    member_at(table, members_at(table), members(table))
+    member_at(table, members_at(table, begin), members(table))
+}
+
+// Where the entries of the lists begin: after the names.
+pub fn entries_at(table: &[u8], begin: usize) -> usize
+    requires { ⌜ begin ≡ typesAt (now table) ⌝ }
+    ensures { λ r. ⌜ (r ≡ entriesAt (now (table .entry))) × (r < 4194304) ⌝ }
+{
+    names_at(table, begin) + names(table)
 }
 
 // Where field i is within a type row.
@@ -121,23 +158,24 @@ fn field_at(i: usize) -> usize
 }
 
 // Where type row t begins, or the table's end if it begins past it.
-fn row_or_end(table: &[u8], t: usize) -> usize
+fn row_or_end(table: &[u8], begin: usize, t: usize) -> usize
+    requires { ⌜ begin ≡ typesAt (now table) ⌝ }
     ensures { λ r. ⌜ (r ≤ length (now (table .entry))) × (drop r (now (table .entry)) ≡ drop (rowAt (now (table .entry)) t) (now (table .entry))) ⌝ }
 {
-    if table.len() <= types_at(table) {
+    if table.len() <= begin {
         return table.len();
     }
-    if (table.len() - types_at(table)) / 12 < t {
+    if (table.len() - begin) / 12 < t {
         return table.len();
     }
-    row_at(table, t)
+    row_at(table, begin, t)
 }
 
 // Where member row m begins, or the table's end if it begins past it.
 fn member_or_end(table: &[u8], m: usize) -> usize
     ensures { λ r. ⌜ (r ≤ length (now (table .entry))) × (drop r (now (table .entry)) ≡ drop (memberAt (now (table .entry)) m) (now (table .entry))) ⌝ }
 {
-    let first = members_at(table);
+    let first = members_at(table, types_at(table));
     if table.len() <= first {
         return table.len();
     }
@@ -148,79 +186,86 @@ fn member_or_end(table: &[u8], m: usize) -> usize
 }
 
 // A type row's kind.
-pub fn kind(table: &[u8], t: usize) -> usize
+pub fn kind(table: &[u8], begin: usize, t: usize) -> usize
+    requires { ⌜ begin ≡ typesAt (now table) ⌝ }
     ensures { λ r. ⌜ (r ≡ kind (now (table .entry)) t) × (r < 256) ⌝ }
 {
     if t < 65536 {
-        return wire::byte_at(table, row_at(table, t));
+        return wire::byte_at(table, row_at(table, begin, t));
     }
-    let a = row_or_end(table, t);
+    let a = row_or_end(table, begin, t);
     wire::byte_at(&table[a..], 0)
 }
 
 // The kind of a type row whose first byte lies inside the table.
-pub fn kind_in(table: &[u8], t: usize) -> usize
+pub fn kind_in(table: &[u8], begin: usize, t: usize) -> usize
+    requires { ⌜ begin ≡ typesAt (now table) ⌝ }
     requires { ⌜ rowAt (now table) t < length (now table) ⌝ }
     ensures { λ r. ⌜ (r ≡ kind (now (table .entry)) t) × (r < 256) ⌝ }
 {
-    wire::wide(table[row_at(table, t)])
+    wire::wide(table[row_at(table, begin, t)])
 }
 
 // A type row's fields a, b, c, d, e as i = 0..4.
-pub fn field(table: &[u8], t: usize, i: usize) -> usize
+pub fn field(table: &[u8], begin: usize, t: usize, i: usize) -> usize
+    requires { ⌜ begin ≡ typesAt (now table) ⌝ }
     ensures { λ r. ⌜ (r ≡ field (now (table .entry)) t i) × (r < 65536) ⌝ }
 {
     if table.len() / 2 <= i {
         return 0;
     }
-    let a = row_or_end(table, t);
+    let a = row_or_end(table, begin, t);
     wire::short_at(&table[a..], field_at(i))
 }
 
 // A type row's field a; faster than `field` where the row number is below 65,536.
-pub fn field_a(table: &[u8], t: usize) -> usize
+pub fn field_a(table: &[u8], begin: usize, t: usize) -> usize
+    requires { ⌜ begin ≡ typesAt (now table) ⌝ }
     ensures { λ r. ⌜ (r ≡ field (now (table .entry)) t 0) × (r < 65536) ⌝ }
 {
     if t < 65536 {
-        return wire::short_at(table, row_at(table, t) + field_at(0));
+        return wire::short_at(table, row_at(table, begin, t) + field_at(0));
     }
-    field(table, t, 0)
+    field(table, begin, t, 0)
 }
 
 // A type row's field b; faster in the same way.
-pub fn field_b(table: &[u8], t: usize) -> usize
+pub fn field_b(table: &[u8], begin: usize, t: usize) -> usize
+    requires { ⌜ begin ≡ typesAt (now table) ⌝ }
     ensures { λ r. ⌜ (r ≡ field (now (table .entry)) t 1) × (r < 65536) ⌝ }
 {
     if t < 65536 {
-        return wire::short_at(table, row_at(table, t) + field_at(1));
+        return wire::short_at(table, row_at(table, begin, t) + field_at(1));
     }
-    field(table, t, 1)
+    field(table, begin, t, 1)
 }
 
 // Type row t where it is not wholly inside the table: what is missing is 0.
 // Called at two places and long, since each field is looked up by itself: so the compiler does not inline it, and `type_row` stays small.
-fn type_row_outside(table: &[u8], t: usize) -> TypeRow
+fn type_row_outside(table: &[u8], begin: usize, t: usize) -> TypeRow
+    requires { ⌜ begin ≡ typesAt (now table) ⌝ }
     ensures { λ r. ⌜ IsTypeRow (now (table .entry)) t r ⌝ }
 {
-    let start = row_or_end(table, t);
+    let start = row_or_end(table, begin, t);
     TypeRow {
-        kind: kind(table, t),
+        kind: kind(table, begin, t),
         spare: wire::byte_at(&table[start..], 1),
-        a: field(table, t, 0),
-        b: field(table, t, 1),
-        c: field(table, t, 2),
-        d: field(table, t, 3),
-        e: field(table, t, 4),
+        a: field(table, begin, t, 0),
+        b: field(table, begin, t, 1),
+        c: field(table, begin, t, 2),
+        d: field(table, begin, t, 3),
+        e: field(table, begin, t, 4),
     }
 }
 
 // Type row t, which lies inside the table.
-pub fn type_row_in(table: &[u8], t: usize) -> TypeRow
+pub fn type_row_in(table: &[u8], begin: usize, t: usize) -> TypeRow
+    requires { ⌜ begin ≡ typesAt (now table) ⌝ }
     requires { ⌜ rowAt (now table) (t + 1) ≤ length (now table) ⌝ }
     ensures { λ r. ⌜ IsTypeRow (now (table .entry)) t r ⌝ }
 {
-    let start = row_at(table, t);
-    let end = row_at(table, t + 1);
+    let start = row_at(table, begin, t);
+    let end = row_at(table, begin, t + 1);
     let bytes = &table[start..end];
     TypeRow {
         kind: wire::byte_at(bytes, 0),
@@ -234,11 +279,12 @@ pub fn type_row_in(table: &[u8], t: usize) -> TypeRow
 }
 
 // Type row t. The fields of a row outside are copied, so that the returned row is lent to no call.
-pub fn type_row(table: &[u8], t: usize) -> TypeRow
+pub fn type_row(table: &[u8], begin: usize, t: usize) -> TypeRow
+    requires { ⌜ begin ≡ typesAt (now table) ⌝ }
     ensures { λ r. ⌜ IsTypeRow (now (table .entry)) t r ⌝ }
 {
     if 65536 <= t {
-        let far = type_row_outside(table, t);
+        let far = type_row_outside(table, begin, t);
         return TypeRow {
             kind: far.kind,
             spare: far.spare,
@@ -249,8 +295,8 @@ pub fn type_row(table: &[u8], t: usize) -> TypeRow
             e: far.e,
         };
     }
-    if table.len() < row_at(table, t + 1) {
-        let cut = type_row_outside(table, t);
+    if table.len() < row_at(table, begin, t + 1) {
+        let cut = type_row_outside(table, begin, t);
         return TypeRow {
             kind: cut.kind,
             spare: cut.spare,
@@ -261,7 +307,7 @@ pub fn type_row(table: &[u8], t: usize) -> TypeRow
             e: cut.e,
         };
     }
-    type_row_in(table, t)
+    type_row_in(table, begin, t)
 }
 
 // The type of member row m.
@@ -336,8 +382,10 @@ pub fn member_row_from(table: &[u8], first: usize, m: usize) -> MemberRow
     member_row_in(table, first, m)
 }
 
-// Member row m.
-pub fn member_row(table: &[u8], m: usize) -> MemberRow
+// Member row m of any number; `first` is where the member rows begin.
+pub fn member_row(table: &[u8], first: usize, m: usize) -> MemberRow
+    requires { ⌜ first ≡ membersAt (now table) ⌝ }
+    requires { ⌜ first < 1048576 ⌝ }
     ensures { λ r. ⌜ IsMemberRow (now (table .entry)) m r ⌝ }
 {
     if 131072 <= m {
@@ -349,7 +397,7 @@ pub fn member_row(table: &[u8], m: usize) -> MemberRow
             tag: far.tag,
         };
     }
-    member_row_from(table, members_at(table), m)
+    member_row_from(table, first, m)
 }
 
 // The greatest enumerator of an enum row: field a is its low half, b its high half.
@@ -360,11 +408,19 @@ pub fn greatest(row: TypeRow) -> usize
     row.a + 65536 * row.b
 }
 
-// Enum row t allows enumerator n.
+// Enum row t allows enumerator n. A list of all numbers up to the greatest is not searched.
 pub fn allows(table: &[u8], t: usize, n: usize) -> bool
     ensures { λ r. ⌜ r ≡ allows (allowed (now (table .entry)) t) n ⌝ }
 {
-    n <= greatest(type_row(table, t))
+    let begin = types_at(table);
+    let row = type_row(table, begin, t);
+    let g = greatest(row);
+    if with_lists(table, begin) {
+        if row.d != g + 1 {
+            return allowed::searched(table, entries_at(table, begin), row.c, row.d, n);
+        }
+    }
+    n <= g
 }
 
 // Kind k is an exception or a class.
@@ -391,11 +447,13 @@ pub fn owns(k: usize) -> bool
 }
 
 // The row of a member's type; 256, a row without a type tree, if there is no such member.
-pub fn type_of_member(table: &[u8], m: usize) -> usize
+pub fn type_of_member(table: &[u8], begin: usize, m: usize) -> usize
+    requires { ⌜ begin ≡ typesAt (now table) ⌝ }
     ensures { λ r. ⌜ (tyOf (now (table .entry)) r ≡ memberTy (now (table .entry)) (trees (now (table .entry))) m) × (r < 65536) ⌝ }
 {
     if m < members(table) {
-        return member_row(table, m).of;
+        let first = members_at(table, begin);
+        return member_row_from(table, first, m).of;
     }
     256
 }

@@ -4,25 +4,27 @@ ghost use mathlib.Core.Path.{_≡_};
 ghost use Prim.Native.Nat.{_+_, _≤_, _<_};
 ghost use lib.ListN.{length};
 ghost use Rattle.encoding.specs.Result.{sameBytes};
-ghost use Rattle.encoding.specs.Table.{nameOf, named};
+ghost use Rattle.encoding.specs.Table.{typesAt, nameOf, named};
 ghost use Rattle.table.specs.Found.{foundOf};
 ghost use Rattle.table.specs.Names.{nameStart, isNamed};
 
-// Where the name of row t begins, or the table's end if it begins past it.
-pub fn name_start(table: &[u8], t: usize) -> usize
+// Where the name of row t begins, or the table's end if it begins past it. Here and below, `begin` is where the type rows begin.
+pub fn name_start(table: &[u8], begin: usize, t: usize) -> usize
+    requires { ⌜ begin ≡ typesAt (now table) ⌝ }
     ensures { λ r. ⌜ (r ≡ nameStart (now (table .entry)) t) × (r ≤ length (now (table .entry))) ⌝ }
 {
-    let row = crate::type_row(table, t);
-    let start = crate::names_at(table) + row.d;
+    let row = crate::type_row(table, begin, t);
+    let start = crate::names_at(table, begin) + row.d;
     wire::least(start, table.len())
 }
 
 // How many bytes of row t's name lie within the table.
-pub fn name_length(table: &[u8], t: usize) -> usize
+pub fn name_length(table: &[u8], begin: usize, t: usize) -> usize
+    requires { ⌜ begin ≡ typesAt (now table) ⌝ }
     ensures { λ r. ⌜ (r ≡ length (nameOf (now (table .entry)) t)) × (nameStart (now (table .entry)) t + r ≤ length (now (table .entry))) × (r < 65536) ⌝ }
 {
-    let row = crate::type_row(table, t);
-    let start = crate::names_at(table) + row.d;
+    let row = crate::type_row(table, begin, t);
+    let start = crate::names_at(table, begin) + row.d;
     let a = wire::least(start, table.len());
     wire::least(row.e, table.len() - a)
 }
@@ -55,25 +57,27 @@ pub fn same(a: &[u8], b: &[u8]) -> bool
 }
 
 // The name of row t is this one.
-pub fn is_named(table: &[u8], t: usize, name: &[u8]) -> bool
+pub fn is_named(table: &[u8], begin: usize, t: usize, name: &[u8]) -> bool
+    requires { ⌜ begin ≡ typesAt (now table) ⌝ }
     ensures { λ r. ⌜ r ≡ sameBytes (now (name .entry)) (nameOf (now (table .entry)) t) ⌝ }
 {
-    let row = crate::type_row(table, t);
-    let start = crate::names_at(table) + row.d;
+    let row = crate::type_row(table, begin, t);
+    let start = crate::names_at(table, begin) + row.d;
     let a = wire::least(start, table.len());
     let e = a + wire::least(row.e, table.len() - a);
     same(name, &table[a..e])
 }
 
 // Row t is a record of this name. Names of different lengths differ, so a row with a shorter name is passed without a look at its bytes.
-pub fn is_record_named(table: &[u8], t: usize, name: &[u8]) -> bool
+pub fn is_record_named(table: &[u8], begin: usize, t: usize, name: &[u8]) -> bool
+    requires { ⌜ begin ≡ typesAt (now table) ⌝ }
     ensures { λ r. ⌜ r ≡ isNamed (now (table .entry)) (now (name .entry)) t ⌝ }
 {
-    if crate::is_record(crate::kind(table, t)) {
-        if crate::field(table, t, 4) < name.len() {
+    if crate::is_record(crate::kind(table, begin, t)) {
+        if crate::field(table, begin, t, 4) < name.len() {
             return false;
         }
-        return is_named(table, t, name);
+        return is_named(table, begin, t, name);
     }
     false
 }
@@ -83,9 +87,10 @@ pub fn named(table: &[u8], name: &[u8]) -> Found
     ensures { λ r. ⌜ r ≡ foundOf (named (now (table .entry)) (now (name .entry))) ⌝ }
 {
     let n = crate::types(table);
+    let begin = crate::types_at(table);
     let mut t = 0;
     while t < n {
-        if is_record_named(table, t, name) {
+        if is_record_named(table, begin, t, name) {
             return Found::At(t);
         }
         t += 1;

@@ -3,36 +3,38 @@
 --   row-not, as-bool .. as-other                             a value by its row's kind
 --   row-wide, exact-wide, part-wide                          a value by its row's width
 --   text-there, -not                                         what the shapes say of a part, by whether it lies below
---   row-text, text-value, text-values                        a string, by its row's shape; row-bool, row-enum a bool, an enum
+--   row-text, text-value, text-values                        a string, by its row's shape; row-bool, row-enum a bool, an enum without a list
 --   again-took, again-bad                                    an answer that is rebuilt
 --   struct-begin, member-gone, -read, -next, -fault, -done   the loop over members
 --   seq-none, -wide, -took, -bad                             a sequence: its size, then its elements
---   dict-none, -took, -bad                                   a dictionary: its size, then its entries
+--   dict-none, -took, -bad                                   a dictionary: its size, then its pairs
 --   element-begin, -next, -fault, -done                      the loop over elements
---   entry-begin, -next, -fault, -done                        the loop over entries
+--   entry-begin, -next, -fault, -done                        the loop over pairs
 --   key-end, pair-none, -wide, -took, -bad                   an entry: its key, then its value
---   value-took-fits .. entries-bad-fits                      what they take, and where they refuse, does not wrap
+--   value-took-fits .. pairs-bad-fits                        what they take, and where they refuse, does not wrap
 --   value-row                                                a row of the table
 --   exact-took, -bad                                         exactly one value
 use mathlib.Core.Path.{_≡_, refl, sym, ap, _∙_}
-use mathlib.Core.Bool.{Bool, true, false, false≢true}
+use mathlib.Core.Bool.{Bool, true, false, not, false≢true}
 use mathlib.Core.List.{List}
 use Prim.Native.Nat.{ℕ, zero, suc, _+_, _-_, _*_, _≤_, _<_, zero-le}
 use native.Mathlib.Omega.{arith}
 use native.Mathlib.Nat.{add-zero, zero-mul, suc-mul}
 use lib.ListN.{length, take, drop, length-drop}
 use lib.Dec.{eqb, leb, ltb}
-use borrow.Author.Tests.{le-leb, lt-leb, leb-false, ltb-true, ltb-false}
+use borrow.Author.Tests.{le-leb, lt-leb, leb-false, ltb-true, ltb-false, not-true}
 use Rattle.encoding.specs.Result.{Res, ok, bad, Parser, pick, _>>=_, pure, fail, skip, times}
 use Rattle.encoding.specs.ResultLaws.{bind-step, Held, held-bind, held-times}
 use Rattle.encoding.specs.Number.{size}
 use Rattle.encoding.specs.Number
 use Rattle.encoding.specs.Proxy
-use Rattle.encoding.specs.Types.{short, int, long, float, double, Ty, broken, bool, byte, string, proxy, num, enum, struct, seq, dict}
-use Rattle.encoding.specs.Table.{kind, field, members, memberType, range, allowed, memberTy, memberTys, ownRows, rowTy, tys, partTy, typeRows, trees, tyOf}
+use Rattle.encoding.specs.Types.{upto, short, int, long, float, double, Ty, broken, bool, byte, string, proxy, num, enum, struct, seq, dict}
+use Rattle.encoding.specs.Table.{withLists, kind, field, members, memberType, range, greatest, allowed, memberTy, memberTys, ownRows, rowTy, tys, partTy, typeRows, trees, tyOf}
 use Rattle.encoding.specs.TableLaws.{tys-at, ty-row, ty-past, below-none, row-broken, member-in, member-past, members-more, members-none}
 use Rattle.encoding.specs.Value.{value, values, whole, exact}
 use Rattle.encoding.specs.ValueLaws.{held-value}
+use Rattle.table.specs.Rows.{IsTypeRow, greatestOf}
+use Rattle.table.specs.declared.TypeRow.{TypeRow}
 use Rattle.shapes.specs.Shapes.{widthOf, shapesOf, widthIn, widthBelow, isTextIn, isBoolIn, isEnumIn}
 use Rattle.shapes.specs.ShapesLaws.{width-takes, width-row, text-row, bool-row, enum-row}
 use Rattle.wire.specs.declared.Step.{Step}
@@ -162,8 +164,13 @@ module _ (T shapes : List ℕ) (f : shapes ≡ shapesOf T) where
     unfolding value
     row-bool g h q = rw (bool-row T t shapes f (sym g ∙ h)) q
 
-    pub row-enum : b ≡ isEnumIn shapes t → b ≡ true → r ≡ stepOf (value (enum (allowed T t)) s) → r ≡ stepOf (value (tyOf T t) s)
-    row-enum g h q = rw (enum-row T t shapes f (sym g ∙ h)) q
+    -- without lists, up to the greatest
+    pub row-enum : b ≡ isEnumIn shapes t → b ≡ true → (w : Bool) → w ≡ withLists T → not w ≡ true → (row : TypeRow) → IsTypeRow T t row
+        → (n : ℕ) → n ≡ greatestOf row → r ≡ stepOf (value (enum (upto n)) s) → r ≡ stepOf (value (tyOf T t) s)
+    unfolding allowed greatest
+    row-enum g h w ew none row i n en q =
+        let z : n ≡ field T t 0 + 65536 * field T t 1 = omega (arith, i .a-is, i .b-is) in
+        rw (enum-row T t shapes f (sym g ∙ h), ← ew, not-true w none, ← z) q
 
   module _ (t e : ℕ) (l : e < t) where
     part-takes : (s : List ℕ) (w : ℕ) → w ≡ widthIn shapes e → 0 < w → w ≤ length s → value (partTy T t e) s ≡ ok tt w
@@ -304,7 +311,7 @@ module _ (s : List ℕ) (r : Sized) (e : r ≡ sizedOf (size s)) where
       unfolding value entry
       dict-bad f p h = with-bad size (λ n. times n (entry K W)) s r e n k q a d f p h
 
--- ---- the loops over elements and entries, and what they take
+-- ---- the loops over elements and pairs, and what they take
 
 pub held-entry : (K W : Ty) → Held (entry K W)
 unfolding entry
@@ -386,11 +393,11 @@ entry-took-fits K W = took-fits (entry K W) (held-entry K W)
 pub entry-bad-fits : (K W : Ty) → BadFits (entry K W)
 entry-bad-fits K W = bad-fits (entry K W) (held-entry K W)
 
-pub entries-took-fits : (i : ℕ) (K W : Ty) → TookFits (times i (entry K W))
-entries-took-fits i K W = took-fits (times i (entry K W)) (held-times i (entry K W) (held-entry K W))
+pub pairs-took-fits : (i : ℕ) (K W : Ty) → TookFits (times i (entry K W))
+pairs-took-fits i K W = took-fits (times i (entry K W)) (held-times i (entry K W) (held-entry K W))
 
-pub entries-bad-fits : (i : ℕ) (K W : Ty) → BadFits (times i (entry K W))
-entries-bad-fits i K W = bad-fits (times i (entry K W)) (held-times i (entry K W) (held-entry K W))
+pub pairs-bad-fits : (i : ℕ) (K W : Ty) → BadFits (times i (entry K W))
+pairs-bad-fits i K W = bad-fits (times i (entry K W)) (held-times i (entry K W) (held-entry K W))
 
 -- ---- a row of the table, and exactly one value
 

@@ -2,8 +2,8 @@
 --
 --   skip-cut, -whole           k bytes of any content
 --   bool-none, -high, -whole   a bool
---   enum-allowed, -other, -none   an enum
-use mathlib.Core.Path.{_≡_, sym, _∙_}
+--   enum-allowed, -other, -none   an enum; enum-upto, enum-above up to a greatest
+use mathlib.Core.Path.{_≡_, refl, sym, _∙_}
 use mathlib.Core.Bool.{Bool, true, false}
 use mathlib.Core.List.{List}
 use Prim.Native.Nat.{ℕ, _≤_, _<_}
@@ -12,7 +12,7 @@ use borrow.Author.Tests.{le-leb, lt-leb, lt-ltb, le-ltb}
 use Rattle.encoding.specs.Result.{chunk, skip, judged, must, made, mapc}
 use Rattle.encoding.specs.Number.{number, byte, boolForm, bool, size}
 use Rattle.encoding.specs.Table.{at}
-use Rattle.encoding.specs.Types.{Allowed, allows, enum}
+use Rattle.encoding.specs.Types.{Allowed, upto, allows, enum}
 use Rattle.encoding.specs.Value.{enumForm, value}
 use Rattle.wire.specs.declared.Step.the-variants.{Took, Fault}
 use Rattle.wire.specs.declared.Sized.{Sized}
@@ -56,3 +56,12 @@ module _ (s : List ℕ) (a : Allowed) (r : Sized) (e : r ≡ sizedOf (size s)) w
     pub enum-other : b ≡ false → Fault 9 0 ≡ stepOf (value (enum a) s)
     unfolding value mapc made must judged enumForm stepOf
     enum-other h = rw (sized-is (size s) n k (sym q ∙ e), ← eb, h)
+
+module _ (s : List ℕ) (g : ℕ) (r : Sized) (e : r ≡ sizedOf (size s)) (n k : ℕ) (q : r ≡ Is n k) where
+  pub enum-upto : n ≤ g → Took k ≡ stepOf (value (enum (upto g)) s)
+  unfolding allows
+  enum-upto h = enum-allowed s (upto g) r e n k q true (sym (le-leb n g h)) refl
+
+  pub enum-above : g < n → Fault 9 0 ≡ stepOf (value (enum (upto g)) s)
+  unfolding allows
+  enum-above h = enum-other s (upto g) r e n k q false (sym (lt-leb n g h)) refl

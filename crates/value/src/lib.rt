@@ -24,7 +24,7 @@ fn value(table: &[u8], shapes: &[u8; 256], t: usize, e: usize, s: &[u8]) -> Step
     if t <= e {
         return Step::Fault(4, 0);
     }
-    let kind = table::kind(table, e);
+    let kind = table::kind(table, table::types_at(table), e);
     match kind {
         0 => plain::bool(s),
         1 => plain::skip(s, 1),
@@ -68,8 +68,10 @@ fn struct_value(table: &[u8], shapes: &[u8; 256], t: usize, s: &[u8]) -> Step
     requires { ⌜ now shapes ≡ shapesOf (now table) ⌝ }
     ensures { λ r. ⌜ r ≡ stepOf (value (struct (memberTys (now (table .entry)) (tys (now (table .entry)) t) (ownRows (now (table .entry)) t))) (now (s .entry))) ⌝ }
 {
+    let begin = table::types_at(table);
     let all = table::members(table);
-    let owner = table::type_row(table, t);
+    let first = table::members_at(table, begin);
+    let owner = table::type_row(table, begin, t);
     let mut m = owner.a;
     let mut left = owner.b;
     let mut at: usize = 0;
@@ -77,7 +79,7 @@ fn struct_value(table: &[u8], shapes: &[u8; 256], t: usize, s: &[u8]) -> Step
         if all <= m {
             return Step::Fault(4, at);
         }
-        let row = table::member_row(table, m);
+        let row = table::member_row_from(table, first, m);
         let step = part(table, shapes, t, row.of, &s[at..]);
         match step {
             Step::Took(n) => {
@@ -111,7 +113,7 @@ fn sequence(table: &[u8], shapes: &[u8; 256], t: usize, s: &[u8]) -> Step
     let z = wire::read_size(s);
     match z {
         Sized::Is(n, k) => {
-            let e = table::field_a(table, t);
+            let e = table::field_a(table, table::types_at(table), t);
             let w = shapes::width_below(shapes, t, e);
             if 0 < w {
                 if n * w <= s.len() - k {
@@ -156,7 +158,7 @@ fn elements(table: &[u8], shapes: &[u8; 256], t: usize, e: usize, n: usize, s: &
     Step::Took(at)
 }
 
-// The dictionary of row t: a size, and as many entries.
+// The dictionary of row t: a size, and as many pairs.
 fn dictionary(table: &[u8], shapes: &[u8; 256], t: usize, s: &[u8]) -> Step
     requires { ⌜ now shapes ≡ shapesOf (now table) ⌝ }
     ensures { λ r. ⌜ r ≡ stepOf (value (dict (partTy (now (table .entry)) t (field (now (table .entry)) t 0)) (partTy (now (table .entry)) t (field (now (table .entry)) t 1))) (now (s .entry))) ⌝ }
@@ -164,7 +166,7 @@ fn dictionary(table: &[u8], shapes: &[u8; 256], t: usize, s: &[u8]) -> Step
     let z = wire::read_size(s);
     match z {
         Sized::Is(n, k) => {
-            let step = entries(table, shapes, t, n, &s[k..]);
+            let step = pairs(table, shapes, t, n, &s[k..]);
             match step {
                 Step::Took(m) => Step::Took(k + m),
                 Step::Fault(f, p) => Step::Fault(f, k + p),
@@ -174,13 +176,14 @@ fn dictionary(table: &[u8], shapes: &[u8; 256], t: usize, s: &[u8]) -> Step
     }
 }
 
-// n entries of dictionary row t.
-fn entries(table: &[u8], shapes: &[u8; 256], t: usize, n: usize, s: &[u8]) -> Step
+// n pairs of dictionary row t.
+fn pairs(table: &[u8], shapes: &[u8; 256], t: usize, n: usize, s: &[u8]) -> Step
     requires { ⌜ now shapes ≡ shapesOf (now table) ⌝ }
     ensures { λ r. ⌜ r ≡ stepOf (times n (entry (partTy (now (table .entry)) t (field (now (table .entry)) t 0)) (partTy (now (table .entry)) t (field (now (table .entry)) t 1))) (now (s .entry))) ⌝ }
 {
-    let key = table::field_a(table, t);
-    let val = table::field_b(table, t);
+    let begin = table::types_at(table);
+    let key = table::field_a(table, begin, t);
+    let val = table::field_b(table, begin, t);
     let text = is_text_below(shapes, t, key);
     let w = shapes::width_below(shapes, t, val);
     let mut left = n;
@@ -212,7 +215,7 @@ fn key(table: &[u8], shapes: &[u8; 256], t: usize, k: usize, text: bool, s: &[u8
     part(table, shapes, t, k, s)
 }
 
-// A key of row k, then a value of row v, both below t; `text` and `w` come from their shapes, looked up once for all entries.
+// A key of row k, then a value of row v, both below t; `text` and `w` come from their shapes, looked up once for all pairs.
 fn pair(
     table: &[u8],
     shapes: &[u8; 256],
@@ -258,7 +261,7 @@ pub fn read_value(table: &[u8], shapes: &[u8; 256], t: usize, s: &[u8]) -> Step
     }
 }
 
-// The same; one that may be any bytes, a string, a bool and an enum are taken without a call.
+// The same; one that may be any bytes, a string, a bool and an enum without a list are taken without a call.
 pub fn read_member(table: &[u8], shapes: &[u8; 256], t: usize, s: &[u8]) -> Step
     requires { ⌜ now shapes ≡ shapesOf (now table) ⌝ }
     ensures { λ r. ⌜ r ≡ stepOf (value (tyOf (now (table .entry)) t) (now (s .entry))) ⌝ }
@@ -276,7 +279,11 @@ pub fn read_member(table: &[u8], shapes: &[u8; 256], t: usize, s: &[u8]) -> Step
         return plain::bool(s);
     }
     if shapes::is_enum(shapes, t) {
-        return plain::enumerator(table, t, s);
+        let begin = table::types_at(table);
+        if !table::with_lists(table, begin) {
+            let row = table::type_row(table, begin, t);
+            return plain::upto(table::greatest(row), s);
+        }
     }
     read_value(table, shapes, t, s)
 }

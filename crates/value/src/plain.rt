@@ -3,7 +3,7 @@ ghost use mathlib.Core.Path.{_≡_};
 ghost use Rattle.encoding.specs.Result.{skip, times};
 ghost use Rattle.encoding.specs.Number.{bool};
 ghost use Rattle.encoding.specs.Proxy.{text};
-ghost use Rattle.encoding.specs.Types.{enum};
+ghost use Rattle.encoding.specs.Types.{upto, enum};
 ghost use Rattle.encoding.specs.Table.{allowed};
 ghost use Rattle.encoding.specs.Value.{value};
 ghost use Rattle.wire.specs.Steps.{stepOf};
@@ -62,6 +62,23 @@ pub fn enumerator(table: &[u8], t: usize, s: &[u8]) -> Step
     match z {
         Sized::Is(n, k) => {
             if table::allows(table, t, n) {
+                Step::Took(k)
+            } else {
+                Step::Fault(9, 0)
+            }
+        }
+        Sized::Isnt(f, p) => Step::Fault(f, p),
+    }
+}
+
+// An enum of all numbers up to g: what an enum is in a table without lists.
+pub fn upto(g: usize, s: &[u8]) -> Step
+    ensures { λ r. ⌜ r ≡ stepOf (value (enum (upto g)) (now (s .entry))) ⌝ }
+{
+    let z = wire::read_size(s);
+    match z {
+        Sized::Is(n, k) => {
+            if n <= g {
                 Step::Took(k)
             } else {
                 Step::Fault(9, 0)

@@ -4,7 +4,7 @@ ghost use Rattle.encoding.specs.Table.{faults, tableVerdict};
 use encoding::Verdict;
 use rules::Finding;
 
-// Whether a table breaks a rule: the number of the first broken rule is its class, 31 to 38; its place is 0 or the first byte of its row.
+// Whether a table breaks a rule: the number of the first broken rule is its class, 31 to 39; its place is 0 or the first byte of its row.
 // Wrong and ruled out: one number for every rule; the number of a rule as its place.
 pub fn check(table: &[u8]) -> Verdict
     ensures { λ r. ⌜ r ≡ tableVerdict (faults (now (table .entry))) ⌝ }

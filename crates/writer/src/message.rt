@@ -28,12 +28,13 @@ fn put_slices(
     requires { ⌜ (start ≤ 7) × (t < 65536) × (count ≤ 4294967296) × (length (now buffer) ≤ 65536) ⌝ }
     ensures { λ r. ⌜ AllPut (now (table .entry)) (now (rows .entry)) (now (buffer .entry)) judged count t start (slicesBytes (formatBy sliced) first (slicesFrom (now (table .entry)) (now (rows .entry)) (now (buffer .entry)) count 0 (chain (now (table .entry)) t))) (now (out .entry)) (now (out .exit)) r ⌝ }
 {
+    let begin = table::types_at(table);
     let mut at = start;
     let mut o = t;
     let mut id = true;
     let mut i = 0;
     loop {
-        let up = table::chain::base(table, o);
+        let up = table::chain::base(table, begin, o);
         let d = slice::put_slice(
             table,
             shapes,
@@ -81,7 +82,7 @@ fn put_contents(
     requires { ⌜ (t < 65536) × (count ≤ 4294967296) × (length (now buffer) ≤ 65536) ⌝ }
     ensures { λ r. ⌜ AllPut (now (table .entry)) (now (rows .entry)) (now (buffer .entry)) judged count t 6 (contentsOf (now (table .entry)) (now (rows .entry)) (now (buffer .entry)) count (formatBy sliced) t) (now (out .entry)) (now (out .exit)) r ⌝ }
 {
-    let k = table::kind(table, t);
+    let k = table::kind(table, table::types_at(table), t);
     if k == 15 {
         let d = slice::put_rows(table, shapes, out, 6, t, 0, judged, count, rows, buffer);
         if d.fault != 0 {

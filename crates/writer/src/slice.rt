@@ -29,6 +29,7 @@ pub fn put_rows(
     requires { ⌜ (start ≤ 576460752303423488) × (first ≤ count) × (count ≤ 4294967296) × (length (now buffer) ≤ 65536) ⌝ }
     ensures { λ r. ⌜ RowsPut (now (table .entry)) (now (rows .entry)) (now (buffer .entry)) judged count o first start (now (out .entry)) (now (out .exit)) r ⌝ }
 {
+    let begin = table::types_at(table);
     let mut from = Cursor {
         owner: o,
         passed: 0,
@@ -38,7 +39,7 @@ pub fn put_rows(
     let mut i = first;
     let mut optionals = false;
     while i < count {
-        let p = piece::put_row(table, shapes, out, at, from, judged, rows, i, buffer);
+        let p = piece::put_row(table, begin, shapes, out, at, from, judged, rows, i, buffer);
         match p {
             Placed::Row(c, end, optional) => {
                 from = c;
@@ -64,7 +65,7 @@ pub fn put_rows(
             }
         }
     }
-    if state::is_due(table, from) {
+    if state::is_due(table, begin, from) {
         return Laid {
             end: at,
             row: i,
@@ -85,7 +86,7 @@ fn id_len(table: &[u8], o: usize, id: bool) -> usize
     ensures { λ r. ⌜ (r ≡ length (idField (now (table .entry)) o id)) × (r ≤ 65540) ⌝ }
 {
     if id {
-        let n = table::naming::name_length(table, o);
+        let n = table::naming::name_length(table, table::types_at(table), o);
         return wire::size_len(n) + n;
     }
     0
@@ -97,8 +98,9 @@ fn put_id(table: &[u8], out: &mut [u8], at: usize, o: usize, id: bool) -> usize
     ensures { λ r. ⌜ Puts at (idField (now (table .entry)) o id) (now (out .entry)) (now (out .exit)) r × (r ≤ at + 65540) ⌝ }
 {
     if id {
-        let n = table::naming::name_length(table, o);
-        let name = table::naming::name_start(table, o);
+        let begin = table::types_at(table);
+        let n = table::naming::name_length(table, begin, o);
+        let name = table::naming::name_start(table, begin, o);
         let k = wire::size_len(n);
         wire::put_size(out, at, n);
         wire::put_part(out, at + k, table, name, n);

@@ -28,7 +28,7 @@ fn checked(
         Prepared::Refused(c, q) => Outcome::Stopped(c, q),
         Prepared::Ready => {
             let mut shapes = [0u8; 256];
-            shapes::fill(table, &mut shapes);
+            shapes::fill(table, table::types_at(table), &mut shapes);
             writer::write_rows(table, &shapes, top, format, count, rows, buffer, out)
         }
     }

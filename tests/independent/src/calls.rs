@@ -61,6 +61,20 @@ pub enum Answer {
 pub const LENT: u8 = 0xA5;
 
 impl Call {
+    /// The table that the call is made under.
+    pub fn table(&self) -> &[u8] {
+        match self {
+            Call::Check { table } | Call::Read { table, .. } | Call::Write { table, .. } | Call::View { table, .. } => {
+                table
+            }
+        }
+    }
+
+    /// Whether that table is of version 2.
+    pub fn is_of_version_2(&self) -> bool {
+        self.table().get(3..5) == Some(&[2, 0])
+    }
+
     /// The answer of this implementation.
     pub fn answer(&self) -> Answer {
         match self {

@@ -1,4 +1,4 @@
-//! Random calls from one seed: tables of all kinds, right and damaged; messages in both formats with unknown optionals
+//! Random calls from one seed: tables of both versions and all kinds, right and damaged; messages in both formats with unknown optionals
 //! and slices in them, conforming, with wrong items in them, or damaged; right and wrong rows for the writer.
 
 mod message;
@@ -90,15 +90,71 @@ fn damage(rng: &mut Rng, bytes: &mut Vec<u8>, from: usize) {
     }
 }
 
+/// Breaks a rule of the lists of enumerators, mostly.
+fn spoil_lists(rng: &mut Rng, spec: &mut Spec) {
+    let Some(entries) = &mut spec.entries else { return };
+    let enums: Vec<usize> = (0..spec.rows.len()).filter(|&r| spec.rows[r].0 == 8).collect();
+    if enums.is_empty() || rng.one_in(7) {
+        let entry = entries.last().map_or(0, |last| last + 1);
+        return entries.extend((entry..).take(rng.pick(&[1, 1, 2]))); // left over
+    }
+    let (r, other) = (rng.pick(&enums), rng.pick(&enums));
+    let [a, b, first, count] = [0, 1, 2, 3].map(|field| spec.rows[r].1[field]);
+    let list = first as usize..first as usize + count as usize;
+    let fields = &mut spec.rows[r].1;
+    match rng.below(7) {
+        0 => fields[2] = rng.number(first.into()) as u16, // not the number taken before
+        1 => {
+            // No entries, and all else right.
+            entries.drain(list);
+            fields[3] = 0;
+            for (kind, fields) in &mut spec.rows[r + 1..] {
+                if *kind == 8 {
+                    fields[2] -= count;
+                }
+            }
+        }
+        2 => {
+            // Beyond all entries, into the next list or not to its end.
+            let beyond = entries.len() as u16 - first + 1;
+            let any = rng.number(count.into()) as u16;
+            fields[3] = rng.pick(&[beyond, any]);
+        }
+        3 => {
+            // Not rising.
+            let (i, j) = (list.start + rng.below(list.len()), list.start + rng.below(list.len()));
+            if rng.one_in(2) {
+                entries.swap(i, j);
+            } else {
+                entries[i] = entries[j];
+            }
+        }
+        4 => entries[list.end - 1] = rng.number((a as usize) | (b as usize) << 16), // the greatest is another
+        5 => fields[0] = rng.number(a.into()) as u16,
+        _ => {
+            // Lists in another order than their rows.
+            let swapped = spec.rows[other].1;
+            spec.rows[other].1 = spec.rows[r].1;
+            spec.rows[r].1 = swapped;
+        }
+    }
+}
+
 /// A table that breaks a rule or more, mostly.
 fn damaged_table(rng: &mut Rng, types: &Types) -> Vec<u8> {
-    let mut bytes = types.spec.bytes();
-    let (rows, members) = (types.spec.rows.len(), types.spec.members.len());
-    for _ in 0..rng.pick(&[1, 1, 2, 3]) {
+    let mut spec = types.spec.clone();
+    let has_enum = spec.rows.iter().any(|row| row.0 == 8);
+    let lists = spec.entries.is_some() && rng.one_in(if has_enum { 2 } else { 20 });
+    if lists {
+        spoil_lists(rng, &mut spec);
+    }
+    let mut bytes = spec.bytes();
+    let (start, rows, members) = (spec.header(), spec.rows.len(), spec.members.len());
+    for _ in 0..rng.pick(if lists { &[0, 0, 0, 1] } else { &[1, 1, 2, 3] }) {
         let (r, other) = (rng.below(rows), rng.below(rows));
-        let (row, other) = (12 + 12 * r, 12 + 12 * other);
+        let (row, other) = (start + 12 * r, start + 12 * other);
         match rng.below(14) {
-            0 => bytes[rng.below(12)] = rng.byte(),
+            0 => bytes[rng.below(start)] = rng.byte(),
             1 => bytes.copy_within(other..other + 12, row),
             2 => bytes.copy_within(other + 8..other + 12, row + 8), // the name of a record
             3 => bytes[row] = rng.below(18) as u8,
@@ -113,7 +169,7 @@ fn damaged_table(rng: &mut Rng, types: &Types) -> Vec<u8> {
                 bytes[field..field + 2].copy_from_slice(&number.to_le_bytes());
             }
             _ if members > 0 => {
-                let all = 12 + 12 * rows;
+                let all = start + 12 * rows;
                 let (one, other) = (all + 8 * rng.below(members), all + 8 * rng.below(members));
                 match rng.below(4) {
                     0 => bytes.copy_within(other..other + 8, one),
@@ -199,9 +255,13 @@ impl Iterator for Calls {
                 let top = if rng.one_in(2) { types.top(rng).into() } else { rng.number(types.spec.rows.len()) };
                 read_call(rng, types.spec.bytes(), top, message)
             }
-            800..=879 => right_rows(rng, types, top).call(rng),
+            800..=879 => rows(rng, types, top, 0).call(rng),
+            880..=899 => {
+                let wrong = rng.pick(&[8, 20, 50]);
+                rows(rng, types, top, wrong).call(rng)
+            }
             _ => {
-                let mut rows = right_rows(rng, types, top);
+                let mut rows = rows(rng, types, top, 0);
                 rows.spoil(rng);
                 rows.call(rng)
             }
@@ -230,9 +290,10 @@ struct Rows {
     buffer: Vec<u8>,
 }
 
-/// The rows of a message, in it or in a buffer of their parts in another order.
-fn right_rows(rng: &mut Rng, types: &Types, top: u16) -> Rows {
-    let Message { bytes, mut rows, reading } = message(rng, types, top, 0);
+/// The rows of a message, in it or in a buffer of their parts in another order. One item in `wrong` is wrong; with 0 they
+/// are right.
+fn rows(rng: &mut Rng, types: &Types, top: u16, wrong: usize) -> Rows {
+    let Message { bytes, mut rows, reading } = message(rng, types, top, wrong);
     let mut buffer = bytes;
     if rng.one_in(2) {
         let message = std::mem::take(&mut buffer);
@@ -307,7 +368,7 @@ impl Rows {
 
 /// A call at the bounds of 65,536 bytes.
 fn large(rng: &mut Rng) -> Call {
-    let mut spec = Spec::default();
+    let mut spec = if rng.one_in(2) { Spec::with_lists() } else { Spec::default() };
     let (bool, short, string) = (spec.basic(0), spec.basic(2), spec.basic(7));
     let bools = spec.row(10, [bool, 0, 0, 0, 0]);
     let shorts = spec.row(10, [short, 0, 0, 0, 0]);
@@ -344,7 +405,13 @@ fn large_table(rng: &mut Rng) -> Call {
     let (rows, members, names) = (255 + rng.below(3), 1_023 + rng.below(3), 8_191 + rng.below(3));
     let mut spec = Spec::default();
     if rng.one_in(2) {
-        (2..rows).for_each(|_| spec.rows.push((1, [0; 5])));
+        let entries: Vec<u32> = (0..1_023 + rng.below(3) as u32).map(|i| 3 * i).collect();
+        let (one, other) = entries.split_at(rng.pick(&[1, 300, 1_022]));
+        spec.listed(one);
+        spec.listed(other);
+    }
+    if rng.one_in(2) {
+        (spec.rows.len() + 2..rows).for_each(|_| spec.rows.push((1, [0; 5])));
     }
     let byte = spec.basic(1);
     let members = if rng.one_in(2) { members } else { 3 };

@@ -1,6 +1,6 @@
-//! Document 01 in plain Rust, written from the document alone.
+//! Document 01, as document 02 changes it, in plain Rust, written from these documents alone.
 //!
-//! - [`check`], [`class`]: the rules of a type table.
+//! - [`check`]: the rules of a type table, [`forms`]: how its types are written as optionals.
 //! - [`read`]: the rows of a message, [`member`]: the bytes of one member.
 //! - [`write`]: a message from rows and the buffer they point into.
 //!
@@ -20,7 +20,7 @@ mod value;
 mod write;
 
 pub use read::{member, read, Reading};
-pub use table::check;
+pub use table::{check, forms};
 pub use write::write;
 
 /// A refusal: its number and its place.

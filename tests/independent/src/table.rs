@@ -32,9 +32,17 @@ pub(crate) const FSIZE: u8 = 6;
 /// The greatest enumerator or tag.
 pub(crate) const GREATEST: u32 = 0x7FFF_FFFF;
 
-/// The rules of a type table: the class of the first broken one, 31 to 38, at place 0 or the row's first byte.
+/// The rules of a type table: the class of the first broken one, 31 to 39, at place 0 or the row's first byte.
 pub fn check(table: &[u8]) -> Result<(), Refusal> {
     Table::check(table, &mut [Shape::NONE; 256]).map(drop)
+}
+
+/// For each row of a table that breaks no rule the optional type, and whether the value's own size is its length field.
+pub fn forms(table: &[u8]) -> Vec<(u8, bool)> {
+    match Table::check(table, &mut [Shape::NONE; 256]) {
+        Ok(table) => (0..table.rows()).map(|r| (table.shape(r).optional, table.has_own_size(r))).collect(),
+        Err(_) => vec![],
+    }
 }
 
 /// A type row.
@@ -80,9 +88,10 @@ impl TypeRow {
         self.a + 65_536 * self.b
     }
 
-    /// Whether a field that the kind does not use is other than 0.
-    fn unused(&self) -> bool {
+    /// Whether a field that the kind does not use is other than 0. With `lists`, in version 2, an enum uses c and d.
+    fn unused(&self, lists: bool) -> bool {
         let bits = match self.kind {
+            ENUM if lists => self.e,
             BOOL..=STRING | PROXY => self.a | self.b | self.c | self.d | self.e,
             SEQUENCE => self.b | self.c | self.d | self.e,
             ENUM | STRUCT | DICTIONARY | LIST => self.c | self.d | self.e,
@@ -154,46 +163,66 @@ impl Shape {
     }
 }
 
+/// An entry of a list of enumerators.
+fn entry(entry: &[u8; 4]) -> usize {
+    u32::from_le_bytes(*entry) as usize
+}
+
 /// A table that breaks no rule.
 pub(crate) struct Table<'t> {
     types: &'t [[u8; 12]],
     members: &'t [[u8; 8]],
     names: &'t [u8],
+    /// The lists of allowed enumerators; none in version 1.
+    entries: Option<&'t [[u8; 4]]>,
     shapes: &'t Shapes,
 }
 
 impl<'t> Table<'t> {
-    /// The table, or the class and the place of the first rule broken: header, type rows, member sum, member rows.
+    /// The table, or the class and the place of the first rule broken: header, type rows, lists of enumerators, member
+    /// sum, member rows.
     pub fn check(bytes: &'t [u8], shapes: &'t mut Shapes) -> Result<Table<'t>, Refusal> {
         let Some((header, rest)) = bytes.split_first_chunk::<12>() else {
             return Err((31, 0));
         };
         let number = |i: usize| u16::from_le_bytes([header[i], header[i + 1]]) as usize;
-        let (types, members, names) = (number(5), number(7), number(9));
+        let (version, types, members, names) = (number(3), number(5), number(7), number(9));
+        // In version 2 a count of entries follows the zero byte.
+        let (entries, rest) = match (version, rest.split_first_chunk::<2>()) {
+            (1, _) => (None, rest),
+            (2, Some((&count, rest))) => (Some(u16::from_le_bytes(count) as usize), rest),
+            _ => return Err((31, 0)),
+        };
         let right = header[..3] == *b"FGT"
-            && number(3) == 1
             && (1..=256).contains(&types)
             && members <= 1_024
             && names <= 8_192
             && header[11] == 0
-            && rest.len() == 12 * types + 8 * members + names;
+            && entries.is_none_or(|entries| entries <= 1_024)
+            && rest.len() == 12 * types + 8 * members + names + 4 * entries.unwrap_or(0);
         if !right {
             return Err((31, 0));
         }
+        let start = bytes.len() - rest.len();
         let (types, rest) = rest.split_at(12 * types);
-        let (members, names) = rest.split_at(8 * members);
+        let (members, rest) = rest.split_at(8 * members);
+        let (names, rest) = rest.split_at(names);
         let (types, members) = (types.as_chunks().0, members.as_chunks().0);
+        let entries = entries.map(|_| rest.as_chunks().0);
 
-        let table = Table { types, members, names, shapes: &[Shape::NONE; 256] };
+        let table = Table { types, members, names, entries, shapes: &[Shape::NONE; 256] };
         let mut taken = 0;
         for (r, row) in types.iter().enumerate() {
             let row = TypeRow::of(row);
             if let Some(class) = table.type_rule(r, &row, taken) {
-                return Err((class, 12 + 12 * r as u32));
+                return Err((class, (start + 12 * r) as u32));
             }
             if row.owns() {
                 taken += row.b;
             }
+        }
+        if let Some(entries) = entries {
+            table.list_rule(entries).map_err(|wrong| (39, wrong.map_or(0, |r| (start + 12 * r) as u32)))?;
         }
         if taken != members.len() {
             return Err((35, 0));
@@ -213,7 +242,7 @@ impl<'t> Table<'t> {
                 PROXY => Shape::NONE,
                 _ => {
                     if let Some((class, m)) = table.member_rule(r, &row) {
-                        return Err((class, (12 + 12 * types.len() + 8 * m) as u32));
+                        return Err((class, (start + 12 * types.len() + 8 * m) as u32));
                     }
                     if row.kind == STRUCT {
                         table.structure(&row, shapes)
@@ -229,7 +258,7 @@ impl<'t> Table<'t> {
     /// The class of the first rule that type row `r` breaks with those before it.
     fn type_rule(&self, r: usize, row: &TypeRow, taken: usize) -> Option<u32> {
         let smaller = |part: usize| part < r && self.kind(part) <= PROXY;
-        if row.zero != 0 || row.unused() {
+        if row.zero != 0 || row.unused(self.entries.is_some()) {
             return Some(32);
         }
         if row.kind > LIST {
@@ -257,6 +286,25 @@ impl<'t> Table<'t> {
             return Some(38);
         }
         None
+    }
+
+    /// The lists of the enums follow each other in row order, none left over. Each has at least one entry, rises strictly
+    /// and ends with the greatest enumerator. The wrong one is an enum row, or none for entries left over.
+    fn list_rule(&self, entries: &[[u8; 4]]) -> Result<(), Option<usize>> {
+        let mut taken = 0;
+        for (r, row) in self.types.iter().map(TypeRow::of).enumerate().filter(|(_, row)| row.kind == ENUM) {
+            let list = entries.get(row.c..row.c + row.d).filter(|_| row.c == taken).unwrap_or_default();
+            let rises = list.is_sorted_by(|one, next| entry(one) < entry(next));
+            if !rises || list.last().map(entry) != Some(row.greatest()) {
+                return Err(Some(r));
+            }
+            taken += row.d;
+        }
+        if taken == entries.len() {
+            Ok(())
+        } else {
+            Err(None)
+        }
     }
 
     /// The name has 1 to 255 bytes, lies within the name bytes and differs from those before.
@@ -329,6 +377,14 @@ impl<'t> Table<'t> {
 
     pub fn shape(&self, r: usize) -> Shape {
         self.shapes[r]
+    }
+
+    /// Whether an enum allows a number: one up to the greatest, in version 2 one of its list.
+    pub fn allows(&self, row: &TypeRow, number: usize) -> bool {
+        match self.entries {
+            None => number <= row.greatest(),
+            Some(entries) => entries[row.c..row.c + row.d].binary_search_by_key(&number, entry).is_ok(),
+        }
     }
 
     pub fn name(&self, record: &TypeRow) -> &'t [u8] {

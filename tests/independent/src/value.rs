@@ -157,10 +157,10 @@ impl Table<'_> {
             STRING => part.string().map(drop),
             ENUM => {
                 let start = *part;
-                if part.size()? > row.greatest() {
-                    start.refuse(9)
-                } else {
+                if self.allows(&row, part.size()?) {
                     Ok(())
+                } else {
+                    start.refuse(9)
                 }
             }
             STRUCT => row.members().try_for_each(|m| self.value(self.member(m).of, part)),

@@ -1,4 +1,4 @@
-//! Document 01's bench cases, its rules each by name, and the bounds that it names.
+//! Document 01's bench cases, its rules and those of document 02, each by name, and the bounds that they name.
 
 use independent::json::unhex;
 use independent::spec::{Member, Spec};
@@ -543,4 +543,142 @@ fn table_bounds() {
         fault(&table.bytes()).0
     };
     assert_eq!((name(0), name(1), name(255), name(256)), (37, 0, 0, 37));
+}
+
+/// A byte, the valve states 1, 3 and 4, a second enum of 0 and 7, and a list of both: version 2, with type rows at 14,
+/// 26, 38 and 50, member rows at 62 and 70, and entries at 78, 82, 86, 90 and 94.
+fn valves() -> Spec {
+    let mut table = Spec::default();
+    table.basic(1);
+    let valve = table.listed(&[1, 3, 4]);
+    let other = table.listed(&[0, 7]);
+    table.owner(15, &[(valve, None), (other, Some(2))]);
+    table
+}
+
+/// The fault of the table of valves after a change of its parts.
+fn valves_with(change: impl Fn(&mut Spec)) -> Refusal {
+    let mut table = valves();
+    change(&mut table);
+    fault(&table.bytes())
+}
+
+#[test]
+fn enumerators_with_holes() {
+    let (table, top) = (valves().bytes(), 3);
+    for valve in [1, 3, 4] {
+        there_and_back(&table, top, &wrapped(&[valve, 0x14, 7]), &[[0, 6, 1], [1, 8, 1]]);
+    }
+    for valve in [0, 2, 5, 7, 254] {
+        assert_eq!(rows_of(&table, top, &wrapped(&[valve])), Err((9, 6)), "{valve}");
+        assert_eq!(member(&table, top, &wrapped(&[valve]), 1, &[9]), [], "{valve}");
+        let row: Vec<u8> = [0u32, 0, 1].iter().flat_map(|number| number.to_le_bytes()).collect();
+        assert_eq!(write(&table, top, 1, 1, &row, &[valve], &mut [0; 9]), Err((21, 0)), "{valve}");
+    }
+    assert_eq!(rows_of(&table, top, &wrapped(&[1, 0x14, 1])), Err((9, 8)));
+    assert_eq!(rows_of(&table, top, &wrapped(&[255, 2, 0, 0, 0])), Err((7, 6)));
+}
+
+/// Every second number, in 1,024 entries. A list of all numbers up to the greatest answers as version 1 does.
+#[test]
+fn long_lists() {
+    let of = |list: &[u32]| one(None, |spec| spec.listed(list));
+    let every_second = of(&(0..1_024).map(|i| 2 * i).collect::<Vec<_>>());
+    for number in 0..2_050u32 {
+        let body = if number < 255 { vec![number as u8] } else { [&[255][..], &number.to_le_bytes()].concat() };
+        let answer = rows_of(&every_second.0, every_second.1, &wrapped(&body)).map(|(rows, _)| rows[0][2]);
+        let allowed = number % 2 == 0 && number <= 2_046;
+        assert_eq!(answer, if allowed { Ok(body.len() as u32) } else { Err((9, 6)) }, "{number}");
+    }
+    let (full, plain) = (of(&[0, 1, 2]), one(None, |spec| spec.enumeration(2)));
+    for body in ["00", "01", "02", "03", "FF FF 00 00 00", "FF 02 00 00 00", ""] {
+        assert_eq!(length_or_refusal(&full, body), length_or_refusal(&plain, body), "{body}");
+    }
+    assert_eq!(length_or_refusal(&of(&[0x7FFF_FFFF]), "FF FF FF FF 7F"), Ok(5));
+    assert_eq!(length_or_refusal(&of(&[0x7FFF_FFFF]), "FF FE FF FF 7F"), Err((9, 6)));
+}
+
+#[test]
+fn version_2_headers() {
+    let table = valves().bytes();
+    assert_eq!((fault(&table), table.len()), ((0, 0), 98));
+    assert_eq!((fault(&table[..97]), fault(&[&table[..], &[0; 4]].concat())), ((31, 0), (31, 0)));
+    assert_eq!((fault(&table[..13]), fault(&table[..12]), fault(&table[..14])), ((31, 0), (31, 0), (31, 0)));
+    for (at, byte) in [(3, 0), (3, 1), (3, 3), (4, 1), (11, 1), (12, 4), (12, 6), (13, 1)] {
+        let mut table = table.clone();
+        table[at] = byte;
+        assert_eq!(fault(&table), (31, 0), "{at}");
+    }
+    let entries = |count: u32| {
+        let mut table = Spec::default();
+        table.listed(&(0..count).collect::<Vec<_>>());
+        fault(&table.bytes())
+    };
+    assert_eq!((entries(1), entries(1_024), entries(1_025)), ((0, 0), (0, 0), (31, 0)));
+    assert_eq!(fault(&{ Spec { rows: vec![(1, [0; 5])], ..Spec::with_lists() } }.bytes()), (0, 0));
+}
+
+/// Each fault of a list, at its enum row: the first entry, no entries, too many, not rising, another greatest. Entries
+/// left over are judged at 0.
+#[test]
+fn list_faults() {
+    assert_eq!(valves_with(|_| ()), (0, 0));
+    assert_eq!(valves_with(|table| table.rows[1].1[2] = 1), (39, 26));
+    assert_eq!(valves_with(|table| table.rows[2].1[2] = 2), (39, 38));
+    assert_eq!(valves_with(|table| table.rows[2].1[3] = 0), (39, 38));
+    assert_eq!(valves_with(|table| table.rows[1].1 = [0; 5]), (39, 26));
+    assert_eq!(valves_with(|table| table.rows[2].1[3] = 3), (39, 38));
+    assert_eq!(valves_with(|table| table.rows[2].1[3] = 0xFFFF), (39, 38));
+    let entry = |i: usize, entry: u32| valves_with(|table| table.entries.as_mut().unwrap()[i] = entry);
+    assert_eq!((entry(1, 1), entry(1, 0), entry(1, 4), entry(1, 5)), ((39, 26), (39, 26), (39, 26), (39, 26)));
+    assert_eq!((entry(1, 2), entry(0, 0), entry(3, 6), entry(3, 7)), ((0, 0), (0, 0), (0, 0), (39, 38)));
+    assert_eq!((entry(2, 5), entry(4, 8), entry(4, 0x8000_0007)), ((39, 26), (39, 38), (39, 38)));
+    assert_eq!(valves_with(|table| table.rows[1].1[0] = 3), (39, 26));
+    assert_eq!(valves_with(|table| table.rows[1].1[1] = 1), (39, 26));
+    assert_eq!(valves_with(|table| table.entries.as_mut().unwrap().push(8)), (39, 0));
+    let unlisted = Spec { rows: vec![(1, [0; 5])], entries: Some(vec![0]), ..Spec::default() };
+    assert_eq!(fault(&unlisted.bytes()), (39, 0));
+}
+
+/// Lists are judged after all type rows and before the member sum, enum rows in order, entries left over last.
+#[test]
+fn order_of_list_faults() {
+    let list = |table: &mut Spec| table.rows[1].1[2] = 1;
+    let both = |other: &dyn Fn(&mut Spec)| {
+        valves_with(|table| {
+            list(table);
+            other(table);
+        })
+    };
+    assert_eq!(both(&|table| table.rows.push((10, [4, 0, 0, 0, 0]))), (34, 62));
+    assert_eq!(both(&|table| table.rows[2].1[1] = 0x8000), (38, 38));
+    assert_eq!(both(&|table| table.rows[1].1[4] = 1), (32, 26));
+    assert_eq!(both(&|table| table.rows[2].1[3] = 0), (39, 26));
+    assert_eq!(both(&|table| table.members.push((0, None))), (39, 26));
+    assert_eq!(both(&|table| table.members[0].1 = Some(0x8000_0000)), (39, 26));
+    let left = |table: &mut Spec| table.entries.as_mut().unwrap().push(8);
+    assert_eq!(both(&left), (39, 26));
+    let leaves = |other: &dyn Fn(&mut Spec)| {
+        valves_with(|table| {
+            left(table);
+            other(table);
+        })
+    };
+    assert_eq!(leaves(&|table| table.members.push((0, None))), (39, 0));
+    assert_eq!(leaves(&|table| table.members[0].1 = Some(0x8000_0000)), (39, 0));
+    // Without list faults: the member sum, and a member row of a table of version 2.
+    assert_eq!(valves_with(|table| table.members.push((0, None))), (35, 0));
+    assert_eq!(valves_with(|table| table.members[1].1 = Some(0x8000_0000)), (38, 70));
+}
+
+/// An enum row uses a and b, in version 2 c and d too.
+#[test]
+fn fields_of_an_enum() {
+    for (field, fault) in [(2, (32, 24)), (3, (32, 24)), (4, (32, 24))] {
+        let mut table = sample();
+        table.rows[1].1[field] = 1;
+        assert_eq!(check(&table.bytes()), Err(fault));
+    }
+    assert_eq!(valves_with(|table| table.rows[2].1[4] = 1), (32, 38));
+    assert_eq!(valves_with(|table| table.rows[0].1[2] = 1), (32, 14));
 }

@@ -84,15 +84,79 @@ fn the_view_gives_the_rows_of_the_reader() {
 
 #[test]
 fn generated_calls_reach_every_refusal() {
-    let mut reached = [0; 39];
+    let mut reached = [[0; 40]; 2];
     for call in Calls::new(4).take(200_000) {
         let answer = call.answer();
         assert_ne!(answer, Answer::Astray, "{}", call.json(&answer));
-        reached[answer.refusal() as usize] += 1;
+        reached[usize::from(call.is_of_version_2())][answer.refusal() as usize] += 1;
     }
-    let is_number = |number: usize| !matches!(number, 1 | 24..=30);
-    assert!((0..39).all(|number| reached[number] >= 20 || !is_number(number)), "{reached:?}");
+    // 39 is of version 2 only.
+    let is_number = |version: usize, number: usize| !matches!((version, number), (_, 1 | 24..=30) | (1, 39));
+    for version in [1, 2] {
+        let reached = reached[version - 1];
+        assert!((0..40).all(|number| reached[number] >= 10 || !is_number(version, number)), "{version}: {reached:?}");
+    }
     println!("{reached:?}");
+}
+
+/// Which rule of the lists a table breaks at a place, by its number in document 02's order; 5 for entries left over.
+fn list_fault(table: &[u8], place: u32) -> usize {
+    let number = |at: usize| u16::from_le_bytes([table[at], table[at + 1]]) as usize;
+    let (types, members, names, entries) = (number(5), number(7), number(9), number(12));
+    let row = place as usize;
+    if row == 0 {
+        return 5;
+    }
+    let before = (14..row).step_by(12).filter(|&row| table[row] == 8).map(|row| number(row + 8)).sum::<usize>();
+    let (first, count) = (number(row + 6), number(row + 8));
+    let list = 14 + 12 * types + 8 * members + names + 4 * first;
+    let entry = |i: usize| number(list + 4 * i) + 65_536 * number(list + 4 * i + 2);
+    if first != before {
+        0
+    } else if count == 0 {
+        1
+    } else if first + count > entries {
+        2
+    } else if (1..count).any(|i| entry(i - 1) >= entry(i)) {
+        3
+    } else {
+        assert_ne!(entry(count - 1), number(row + 2) + 65_536 * number(row + 4));
+        4
+    }
+}
+
+#[test]
+fn generated_tables_break_every_rule_of_lists() {
+    let mut reached = [0; 6];
+    for call in Calls::new(6).take(200_000) {
+        if let (Call::Check { table }, Answer::Check { refusal: (39, place) }) = (&call, call.answer()) {
+            reached[list_fault(table, place)] += 1;
+        }
+    }
+    assert!(reached.iter().all(|&calls| calls >= 20), "{reached:?}");
+    println!("{reached:?}");
+}
+
+/// Enums that allow all numbers up to a greatest one: the two versions of such a table give the same answers, and places
+/// in the table two bytes apart.
+#[test]
+fn both_versions_answer_alike() {
+    let (mut rng, mut tables) = (Rng(7), 0);
+    while tables < 3_000 {
+        let types = Types::random(&mut rng);
+        let Some(other) = types.other_version() else { continue };
+        tables += 1;
+        for (types, other) in [(&types, &other), (&other, &types)] {
+            let top = types.top(&mut rng);
+            let wrong = if tables % 2 == 0 { 0 } else { 10 };
+            let made = message(&mut rng, types, top, wrong);
+            let answers = [types, other].map(|types| {
+                let (table, message) = (types.spec.bytes(), made.bytes.clone());
+                Call::Read { table, top: top.into(), message, room: 12 * 1_024 }.answer()
+            });
+            assert_eq!(answers[0], answers[1]);
+        }
+    }
 }
 
 #[test]

@@ -3,13 +3,15 @@
 use std::fs;
 use std::path::{Path, PathBuf};
 
-const PAGES: [&str; 9] = [
+const PAGES: [&str; 11] = [
     "README.md",
     "docs/DECISIONS.md",
     "docs/PROVING.md",
     "docs/RULES.md",
     "docs/SPEED.md",
     "docs/USERS.md",
+    "docs/changes/M-100.md",
+    "docs/changes/M-101.md",
     "samples/README.md",
     "bindings/rust/README.md",
     "tests/independent/README.md",

@@ -52,8 +52,9 @@ Exit status: 0 all messages accepted, 1 some refused, 2 something could not be d
 const TABLE_HELP: &str = "\
 icehub table TABLE
 
-Shows a type table: its types with their members, names and bases, and which of them can be a top. If the table breaks a
-rule it says which row breaks it and what is wrong with that row, and shows the rows before it.
+Shows a type table: its version, its types with their members, names, bases and lists of enumerators, and
+which of them can be a top. If the table breaks a rule it says which row breaks it and what is wrong with that row, and
+shows the rows before it.
 
   TABLE    the type table, a file; - is standard input
 

@@ -5,7 +5,6 @@
 use crate::words;
 use icehub::{Kind, Refusal};
 
-const HEADER: usize = 12;
 const TYPE_ROW: usize = 12;
 const MEMBER_ROW: usize = 8;
 /// The greatest tag and enumerator.
@@ -17,9 +16,10 @@ pub fn sentence(bytes: &[u8], refusal: Refusal) -> String {
     let (number, place) = (refusal.number, refusal.place as usize);
     let (row, wrong) = match place {
         0 if number == 35 => ("member rows".to_string(), table.sum()),
+        0 if number == 39 => ("entries".to_string(), table.left_over()),
         0 => ("header".to_string(), table.header()),
         _ if place < table.members_at() => {
-            let row = (place - HEADER) / TYPE_ROW;
+            let row = (place - table.types_at()) / TYPE_ROW;
             (table.type_label(row), table.type_row(number, row))
         }
         _ => {
@@ -34,9 +34,9 @@ pub fn sentence(bytes: &[u8], refusal: Refusal) -> String {
 pub fn judged(bytes: &[u8], refusal: Refusal) -> (u32, u32) {
     let (table, place) = (Raw(bytes), refusal.place as usize);
     match place {
-        0 if refusal.number != 35 => (0, 0),
+        0 if !matches!(refusal.number, 35 | 39) => (0, 0),
         0 => (table.types() as u32, 0),
-        _ if place < table.members_at() => (((place - HEADER) / TYPE_ROW) as u32, 0),
+        _ if place < table.members_at() => (((place - table.types_at()) / TYPE_ROW) as u32, 0),
         _ => (table.types() as u32, ((place - table.members_at()) / MEMBER_ROW) as u32),
     }
 }
@@ -65,16 +65,45 @@ impl<'a> Raw<'a> {
         self.short(9)
     }
 
+    /// Version 2: enums have lists.
+    fn has_lists(&self) -> bool {
+        self.short(3) == 2
+    }
+
+    fn entries(&self) -> usize {
+        if self.has_lists() {
+            self.short(12)
+        } else {
+            0
+        }
+    }
+
+    fn types_at(&self) -> usize {
+        if self.has_lists() {
+            14
+        } else {
+            12
+        }
+    }
+
     fn members_at(&self) -> usize {
-        HEADER + TYPE_ROW * self.types()
+        self.types_at() + TYPE_ROW * self.types()
     }
 
     fn names_at(&self) -> usize {
         self.members_at() + MEMBER_ROW * self.members()
     }
 
+    fn entry_at(&self, entry: usize) -> usize {
+        self.names_at() + self.names() + 4 * entry
+    }
+
+    fn entry(&self, entry: usize) -> usize {
+        self.short(self.entry_at(entry)) + 65_536 * self.short(self.entry_at(entry) + 2)
+    }
+
     fn kind(&self, row: usize) -> u8 {
-        self.byte(HEADER + TYPE_ROW * row)
+        self.byte(self.types_at() + TYPE_ROW * row)
     }
 
     /// The kind of a type row in words, with its article.
@@ -86,7 +115,7 @@ impl<'a> Raw<'a> {
 
     /// Field a to e of a type row, by its number from 0.
     fn field(&self, row: usize, field: usize) -> usize {
-        self.short(HEADER + TYPE_ROW * row + 2 + 2 * field)
+        self.short(self.types_at() + TYPE_ROW * row + 2 + 2 * field)
     }
 
     fn is_record(&self, row: usize) -> bool {
@@ -131,17 +160,24 @@ impl<'a> Raw<'a> {
         (0..rows).filter(|&row| self.is_owner(row)).map(|row| self.field(row, 1)).sum()
     }
 
+    /// How many entries the lists of the first type rows take.
+    fn listed(&self, rows: usize) -> usize {
+        (0..rows).filter(|&row| self.kind(row) == 8).map(|row| self.field(row, 3)).sum()
+    }
+
     /// 31.
     fn header(&self) -> Option<String> {
         let (length, version) = (self.0.len(), self.short(3));
-        let (types, members, names) = (self.types(), self.members(), self.names());
-        let due = self.names_at() + names;
-        Some(if length < HEADER {
-            format!("the table is {length} bytes long, and its header alone has {HEADER}")
+        let (types, members, names, entries) = (self.types(), self.members(), self.names(), self.entries());
+        let (header, due) = (self.types_at(), self.entry_at(entries));
+        Some(if length < 12 {
+            format!("the table is {length} bytes long, and its header alone has 12")
         } else if !self.0.starts_with(b"FGT") {
             "the table does not begin with the mark FGT".to_string()
-        } else if version != 1 {
-            format!("its version is {version}, not 1")
+        } else if !matches!(version, 1 | 2) {
+            format!("its version is {version}, not 1 or 2")
+        } else if length < header {
+            format!("the table is {length} bytes long, and the header of version {version} alone has {header}")
         } else if !(1..=256).contains(&types) {
             format!("it says {types} type rows; a table has 1 to 256")
         } else if members > 1_024 {
@@ -149,15 +185,23 @@ impl<'a> Raw<'a> {
         } else if names > 8_192 {
             format!("it says {names} name bytes; a table has at most 8192")
         } else if self.byte(11) != 0 {
-            format!("its last byte is {}, not 0", self.byte(11))
+            format!("its zero byte, at 11, is {}, not 0", self.byte(11))
+        } else if entries > 1_024 {
+            format!("it says {entries} entries of lists of enumerators; a table has at most 1024")
         } else if length != due {
-            format!(
-                "the table is {length} bytes long, and {types} type rows, {members} member rows and {names} name bytes \
-                make {due}"
-            )
+            let parts = match version {
+                1 => format!("{types} type rows, {members} member rows and {names} name bytes"),
+                _ => format!("{types} type rows, {members} member rows, {names} name bytes and {entries} entries"),
+            };
+            format!("the table is {length} bytes long, and {parts} make {due}")
         } else {
             return None;
         })
+    }
+
+    /// 39 at 0.
+    fn left_over(&self) -> Option<String> {
+        Some(format!("the lists of the enums take {}, and the table has {}", self.listed(self.types()), self.entries()))
     }
 
     /// 35 at 0.
@@ -195,17 +239,43 @@ impl<'a> Raw<'a> {
                 }
             }
             38 => format!("its greatest enumerator is {} (a + 65536 b), over {GREATEST}", a + 65_536 * b),
+            39 => self.list(row)?,
             _ => return None,
         })
     }
 
+    /// 39, of an enum row.
+    fn list(&self, row: usize) -> Option<String> {
+        let [a, b, first, count] = [0, 1, 2, 3].map(|field| self.field(row, field));
+        let (taken, end, entries) = (self.listed(row), first + count, self.entries());
+        if first != taken {
+            return Some(format!(
+                "its list begins at entry {first} (c), and the rows before it take {taken}: it is to begin there"
+            ));
+        }
+        if count == 0 {
+            return Some("its list has no entry (d); a list has at least one".to_string());
+        }
+        if end > entries {
+            return Some(format!("its list ends at entry {end} (c + d), and there are {entries} entries"));
+        }
+        if let Some(entry) = (first + 1..end).find(|&entry| self.entry(entry) <= self.entry(entry - 1)) {
+            let (at, is, before) = (self.entry_at(entry), self.entry(entry), self.entry(entry - 1));
+            return Some(format!("its list does not rise at entry {entry}, at {at}: {is} follows {before}"));
+        }
+        let (last, greatest) = (self.entry(end - 1), a + 65_536 * b);
+        (last != greatest)
+            .then(|| format!("its list ends with {last}, and its greatest enumerator is {greatest} (a + 65536 b)"))
+    }
+
     /// 32.
     fn type_zeros(&self, row: usize) -> Option<String> {
-        let zero = self.byte(HEADER + TYPE_ROW * row + 1);
+        let zero = self.byte(self.types_at() + TYPE_ROW * row + 1);
         if zero != 0 {
             return Some(format!("its second byte is {zero}, not 0"));
         }
         let used = match self.kind(row) {
+            8 if self.has_lists() => 4,
             8 | 9 | 11 | 15 => 2,
             10 => 1,
             13 | 14 => 5,

@@ -14,6 +14,8 @@ pub struct Location<'a> {
     pub member: Option<Held<'a>>,
     /// The way to the place inside the member's value.
     pub path: Vec<Step>,
+    /// The type of the value that holds the place.
+    pub of: Option<TypeRow<'a>>,
     /// What is at the place, if it is no value.
     pub item: Option<&'static str>,
 }
@@ -241,6 +243,7 @@ impl<'a> Walk<'a> {
 
     /// Steps into a value as far as the place is in a part of it.
     fn inside(&mut self, of: TypeRow<'a>, at: usize, end: usize) {
+        self.found.of = Some(of);
         let parts = match of.kind() {
             Kind::Struct => of.members().len(),
             Kind::Sequence | Kind::Dictionary => self.size(at).map_or(0, |(count, _)| count),

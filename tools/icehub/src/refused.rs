@@ -2,7 +2,7 @@
 
 use crate::locate::{locate, Location};
 use crate::{broken, words};
-use icehub::{Reason, Refusal, Table};
+use icehub::{Allowed, Reason, Refusal, Table, TypeRow, Value};
 use std::io::{self, Write};
 
 /// A refusal in a line, without the name of the message.
@@ -22,7 +22,11 @@ pub fn write(out: &mut dyn Write, bytes: &[u8], top: u32, message: &[u8], refusa
         (Some(Reason::InputTooLong), _) => Ok(()),
         (_, Ok(table)) => {
             let place = refusal.place as usize;
-            write_location(out, &locate(table, top, message, place))?;
+            let location = locate(table, top, message, place);
+            write_location(out, &location)?;
+            if let (Some(Reason::BadEnumerator), Some(of)) = (refusal.reason(), location.of) {
+                write_allowed(out, of, message.get(place..).unwrap_or_default())?;
+            }
             write_around(out, "message", message, place)
         }
     }
@@ -73,6 +77,30 @@ fn write_location(out: &mut dyn Write, location: &Location) -> io::Result<()> {
         Some(item) => writeln!(out, "  at {item}"),
         None => Ok(()),
     }
+}
+
+/// Of a list with more runs than these, only the entries next to the number are shown.
+const RUNS: usize = 16;
+
+/// The enumerator at the front of these bytes, and those that its enum allows.
+fn write_allowed(out: &mut dyn Write, of: TypeRow, bytes: &[u8]) -> io::Result<()> {
+    let number = Value::at_front(of, bytes).and_then(|(value, _)| value.as_enumerator());
+    let (Some(number), Some(allowed)) = (number, of.allowed()) else { return Ok(()) };
+    let allowed = match allowed {
+        Allowed::UpTo(greatest) => format!("0 to {greatest}"),
+        Allowed::Only(list) => {
+            let runs = words::runs(list.clone());
+            if runs.len() <= RUNS {
+                runs.join(", ")
+            } else {
+                let below = list.clone().take_while(|&entry| entry < number).last();
+                let above = list.clone().find(|&entry| entry > number);
+                let next: Vec<_> = below.into_iter().chain(above).map(|entry| entry.to_string()).collect();
+                format!("{} enumerators, next to it {}", list.len(), next.join(" and "))
+            }
+        }
+    };
+    writeln!(out, "  the enumerator is {number}; its enum, type {}, allows {allowed}", of.number())
 }
 
 /// Bytes on a line.

@@ -2,7 +2,7 @@
 
 use crate::input::Source;
 use crate::{broken, refused, tell, words, Status};
-use icehub::{Kind, Table, TypeRow, MOST_BYTES};
+use icehub::{Allowed, Kind, Table, TypeRow, MOST_BYTES};
 use std::io::{self, Write};
 
 pub fn run(source: &Source, out: &mut impl Write, status: &mut Status) -> io::Result<()> {
@@ -36,7 +36,11 @@ fn write_table(out: &mut dyn Write, table: Table, shown: (u32, u32)) -> io::Resu
     let types = words::count(table.types() as usize, "type", "types");
     let members = words::count(table.members() as usize, "member", "members");
     let names = words::count(table.names().len(), "name byte", "name bytes");
-    writeln!(out, "version {}, {types}, {members}, {names}\n", table.version())?;
+    let entries = match table.version() {
+        2 => format!(", {}", words::count(table.entries() as usize, "entry", "entries")),
+        _ => String::new(),
+    };
+    writeln!(out, "version {}, {types}, {members}, {names}{entries}\n", table.version())?;
     writeln!(out, "  type  what")?;
     for row in table.type_rows().take(shown.0 as usize) {
         writeln!(out, "{:>6}  {}", row.number(), row_words(row))?;
@@ -52,7 +56,7 @@ fn write_table(out: &mut dyn Write, table: Table, shown: (u32, u32)) -> io::Resu
 /// A type row: what it is, its parts or base by their rows, and whether it can be a top.
 fn row_words(row: TypeRow) -> String {
     let mut text = match row.kind() {
-        Kind::Enum => format!("enum, at most {}", row.greatest().unwrap_or_default()),
+        Kind::Enum => enum_words(row),
         Kind::Struct => "struct".to_string(),
         _ => words::type_words(row),
     };
@@ -67,6 +71,29 @@ fn row_words(row: TypeRow) -> String {
     }
     if row.kind().can_be_top() {
         text.push_str(", can be a top");
+    }
+    text
+}
+
+/// Enumerators are put on lines of about this length.
+const WIDTH: usize = 80;
+
+/// An enum: its greatest enumerator, or its list.
+fn enum_words(row: TypeRow) -> String {
+    let list = match row.allowed() {
+        Some(Allowed::Only(list)) => list,
+        _ => return format!("enum, at most {}", row.greatest().unwrap_or_default()),
+    };
+    let mut text = format!("enum of {}: ", words::count(list.len(), "enumerator", "enumerators"));
+    let mut line = text.len();
+    for (number, run) in words::runs(list).iter().enumerate() {
+        if number > 0 {
+            let is_full = line >= WIDTH;
+            text.push_str(if is_full { ",\n          " } else { ", " });
+            line = if is_full { 0 } else { line + 2 };
+        }
+        text.push_str(run);
+        line += run.len();
     }
     text
 }

@@ -85,6 +85,23 @@ pub fn count(number: usize, one: &str, more: &str) -> String {
     format!("{number} {}", if number == 1 { one } else { more })
 }
 
+/// Rising numbers: three or more that follow each other by the first and the last.
+pub fn runs(numbers: impl IntoIterator<Item = u32>) -> Vec<String> {
+    let mut runs: Vec<(u32, u32)> = vec![];
+    for number in numbers {
+        match runs.last_mut() {
+            Some((_, last)) if last.checked_add(1) == Some(number) => *last = number,
+            _ => runs.push((number, number)),
+        }
+    }
+    let shown = runs.into_iter().flat_map(|(first, last)| match last - first {
+        0 => vec![first.to_string()],
+        1 => vec![first.to_string(), last.to_string()],
+        _ => vec![format!("{first} to {last}")],
+    });
+    shown.collect()
+}
+
 /// A type in a few words: its kind, with the parts of a container and the name of a record.
 pub fn type_words(of: TypeRow) -> String {
     nested(of, 3)
@@ -115,6 +132,14 @@ mod tests {
         assert_eq!(quoted("ø \u{9B}\u{202E}"), r#""ø \u009b\u202e""#);
         assert_eq!(plain("a\"\u{1B}[2J"), r#"a"\u001b[2J"#);
         assert_eq!((string(b"hub"), string(b"\xC3")), ("\"hub\"".to_string(), "bytes C3".to_string()));
+    }
+
+    #[test]
+    fn numbers() {
+        assert_eq!(runs([1, 3, 4]), ["1", "3", "4"]);
+        assert_eq!(runs([0, 1, 2, 7, 8, 9, 10, 255]), ["0 to 2", "7 to 10", "255"]);
+        assert_eq!(runs([u32::MAX, 0, 0]), ["4294967295", "0", "0"]);
+        assert!(runs([]).is_empty());
     }
 
     #[test]

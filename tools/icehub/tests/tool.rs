@@ -75,6 +75,8 @@ fn samples() {
         (&["show", "fault.table", "2", "fault.message", "fault-damaged.message"], 1, include_str!("shown/both")),
         (&["table", "kinds.table"], 0, include_str!("shown/kinds-table")),
         (&["table", "fault-newer.table"], 0, include_str!("shown/fault-newer-table")),
+        (&["show", "valve.table", "3", "valve-between.message"], 1, include_str!("shown/valve-between")),
+        (&["table", "valve.table"], 0, include_str!("shown/valve-table")),
         (&["table", "kinds.message"], 1, include_str!("shown/no-table")),
     ] {
         let run = run(words);
@@ -451,11 +453,18 @@ fn broken_tables() {
     let (base, derived) = ("type row 4 (::Guard::Fault)", "type row 5 (::Guard::PipeFault)");
     for (place, to, number, wrong) in [
         (0, b'X', 31, "header: the table does not begin with the mark FGT".to_string()),
-        (3, 2, 31, "header: its version is 2, not 1".to_string()),
+        (3, 3, 31, "header: its version is 3, not 1 or 2".to_string()),
+        (
+            3,
+            2,
+            31,
+            "header: the table is 148 bytes long, and 6 type rows, 4 member rows, 32 name bytes and 7 entries make 178"
+                .to_string(),
+        ),
         (5, 0, 31, "header: it says 0 type rows; a table has 1 to 256".to_string()),
         (8, 16, 31, "header: it says 4100 member rows; a table has at most 1024".to_string()),
         (10, 64, 31, "header: it says 16416 name bytes; a table has at most 8192".to_string()),
-        (11, 1, 31, "header: its last byte is 1, not 0".to_string()),
+        (11, 1, 31, "header: its zero byte, at 11, is 1, not 0".to_string()),
         (
             9,
             33,
@@ -499,6 +508,91 @@ fn broken_tables() {
         assert!(run.status == 1 && lines.next().unwrap().starts_with(&format!("refused by {number} (BAD_TABLE_")));
         assert_eq!(lines.next().unwrap().trim_start(), wrong);
     }
+}
+
+/// The same for the lists of a table of version 2: a few bytes of the sample are changed.
+#[test]
+fn broken_lists() {
+    for (number, (changes, wrong)) in [
+        (
+            &[(12, 7)][..],
+            "header: the table is 110 bytes long, and 4 type rows, 3 member rows, 0 name bytes and 7 entries make 114",
+        ),
+        (&[(13, 5)], "header: it says 1286 entries of lists of enumerators; a table has at most 1024"),
+        (&[(24, 1)], "type row 0: e is 1, and an enum has it 0"),
+        (&[(32, 2)], "type row 1: its list begins at entry 2 (c), and the rows before it take 3: it is to begin there"),
+        (&[(34, 0)], "type row 1: its list has no entry (d); a list has at least one"),
+        (&[(34, 4)], "type row 1: its list ends at entry 7 (c + d), and there are 6 entries"),
+        (&[(90, 1)], "type row 0: its list does not rise at entry 1, at 90: 1 follows 1"),
+        (&[(102, 3)], "type row 1: its list does not rise at entry 5, at 106: 2 follows 3"),
+        (&[(16, 5)], "type row 0: its list ends with 4, and its greatest enumerator is 5 (a + 65536 b)"),
+        (&[(28, 1), (34, 2)], "entries: the lists of the enums take 5, and the table has 6"),
+        (
+            &[(52, 1)],
+            "type row 3: its member rows begin at 1 (a), and the rows before it take 0: they are to begin there",
+        ),
+        (&[(85, 128)], "member row 2 of type row 3: its tag is 2147483649, over 2147483647"),
+    ]
+    .into_iter()
+    .enumerate()
+    {
+        let mut table = sample("valve.table");
+        for &(place, to) in changes {
+            table[place] = to;
+        }
+        let run = run(&["table", &file(&format!("broken-list-{number}.table"), &table)]);
+        assert_eq!((run.status, run.out.lines().nth(1).unwrap().trim_start()), (1, wrong));
+        let shown = run.out.lines().skip_while(|line| !line.starts_with("  type  what")).skip(1).count();
+        let rows = match wrong.split(':').next().unwrap() {
+            "header" | "type row 0" => 0,
+            "type row 1" => 1,
+            "type row 3" => 3,
+            "entries" => 4,
+            _ => 6, // two of the members as well
+        };
+        assert_eq!(shown, rows, "{}", run.out);
+    }
+    let run = run(&["table", &file("cut.table", &sample("valve.table")[..13])]);
+    let wrong = "  header: the table is 13 bytes long, and the header of version 2 alone has 14";
+    assert_eq!((run.status, run.out.lines().nth(1)), (1, Some(wrong)));
+}
+
+/// The enumerators that an enum allows: all lines of a long list, and on a 9 those next to the number.
+#[test]
+fn allowed_enumerators() {
+    let table = |fields: [u16; 5], list: &[u32]| {
+        let mut table = Table::new(&[(8, fields), (10, [0; 5]), (15, [0, 1, 0, 0, 0])], &[(1, None)]);
+        if !list.is_empty() {
+            table[3] = 2;
+            table.splice(12..12, (list.len() as u16).to_le_bytes());
+            table.extend(list.iter().flat_map(|entry| entry.to_le_bytes()));
+        }
+        file(&format!("allowed-{}.table", list.len()), &table)
+    };
+    let allowed = |table: &str, body: &[u8]| {
+        let run = run_with(&["show", table, "2", "-"], &wrapped(body));
+        assert_eq!(run.status, 1);
+        run.out.lines().nth(3).unwrap().trim_start().to_string()
+    };
+    let plain = table([3, 0, 0, 0, 0], &[]);
+    assert_eq!(allowed(&plain, &[2, 0, 4]), "the enumerator is 4; its enum, type 0, allows 0 to 3");
+    let few = table([300, 0, 0, 5, 0], &[1, 3, 4, 5, 300]);
+    assert_eq!(allowed(&few, &[1, 2]), "the enumerator is 2; its enum, type 0, allows 1, 3 to 5, 300");
+    let many = table([2_047, 0, 0, 1_024, 0], &(0..1_024).map(|i| 2 * i + 1).collect::<Vec<_>>());
+    assert_eq!(
+        allowed(&many, &[1, 100]),
+        "the enumerator is 100; its enum, type 0, allows 1024 enumerators, next to it 99 and 101"
+    );
+    assert_eq!(
+        allowed(&many, &[1, 255, 0, 8, 0, 0]),
+        "the enumerator is 2048; its enum, type 0, allows 1024 enumerators, next to it 2047"
+    );
+    let run = run(&["table", &many]);
+    assert!(run.out.starts_with("version 2, 3 types, 1 member, 0 name bytes, 1024 entries\n"), "{}", run.out);
+    let lines: Vec<_> = run.out.lines().skip(3).take_while(|line| !line.starts_with("     1")).collect();
+    assert!(lines.len() > 50 && lines.iter().all(|line| line.len() < 100), "{}", run.out);
+    assert!(lines[0].starts_with("     0  enum of 1024 enumerators: 1, 3, 5, "), "{}", lines[0]);
+    assert!(lines[1].starts_with("          ") && lines.last().unwrap().ends_with("2045, 2047"), "{}", run.out);
 }
 
 /// Refusals that are not in the message: a table that breaks a rule, a top that is none, a message that is too long.

@@ -10,10 +10,10 @@ use Rattle.level.proofs.required.Statement.{statement}
 use Rattle.level.proofs.required.Tie as tie
 
 abbrev Inv-loop : tie.InvT-loop
-Inv-loop table shapes t s at count out₀ all first m₀ left₀ pos₀ k₀ next₀ out m left pos k next = (at + length s < 2 ^ 63) × (count < 2 ^ 63) × Due table t at count s out₀ m left pos k next out
+Inv-loop table begin shapes t s at count out₀ all first m₀ left₀ pos₀ k₀ next₀ out m left pos k next = (at + length s < 2 ^ 63) × (count < 2 ^ 63) × Due table t at count s out₀ m left pos k next out
 
 abbrev μ-loop : tie.MeasureT-loop
-μ-loop table shapes t s at count out₀ all first m₀ left₀ pos₀ k₀ next₀ out m left pos k next = left
+μ-loop table begin shapes t s at count out₀ all first m₀ left₀ pos₀ k₀ next₀ out m left pos k next = left
 
 pub required-spec : {M : Type 1} → statement M
 required-spec =
@@ -32,7 +32,7 @@ required-spec =
     (λ c. search needs)  -- part-put-member-start
     (λ c. search needs)  -- part-put-member-end
     (λ c. omega arith)  -- add-put-member
-    (λ c κs. search needs)  -- put-member-requires
+    (λ c κs. search (needs, c .before .before .before .before .before .before .before .before .before .before .before .before .before .before .before .pre))  -- put-member-requires
     (λ c. search needs)  -- enum-known-step
     (λ c. omega arith)  -- add-k
     (λ c. search (due-room _ _ _ _ _ _ _ _ _ _ _ _ (c .before .before .before .before .before .before .before .before .before .before .before .before .before .loop .inv .2), typed, c .before .before .before .before .before .before .before .before .before .before .before .member-row-from .ensures .mark-is, c .before .before .before .before .before .before .before .before .before .before .before .member-row-from .ensures .of-is, c .before .before .before .before .before .before .before .before .before .before .before .before .before .before .before .before .before .members .ensures .0, c .before .before .before .before .before .before .before .before .before .before .before .before .before .loop .inv .0))  -- add-pos

@@ -20,9 +20,9 @@ pub early-spec : {M : Type 1} → statement M
 early-spec =
     tie.close
     (tie.spec
+    (λ c κs. search needs)  -- kind-requires
     (λ c κs. search needs)  -- no-top-requires
     returns
-    (λ c κs. search needs)  -- kind-requires
     (λ c κs. search needs)  -- no-format-requires
     returns-2
     returns-3

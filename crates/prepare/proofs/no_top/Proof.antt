@@ -16,5 +16,4 @@ no-top-spec =
     (tie.spec
     (λ c κs. search needs)  -- types-requires
     returns
-    (λ c κs. search needs)  -- kind-requires
     returns-2)

@@ -20,6 +20,7 @@ prepare-spec =
     (λ c κs. search needs)  -- check-requires
     (λ c. search needs)  -- enum-known-v
     (λ c. search needs)  -- enum-told
+    (λ c κs. search needs)  -- types-at-requires
     (λ c κs. search needs)  -- early-requires
     returns
     returns-2

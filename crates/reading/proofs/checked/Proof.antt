@@ -12,6 +12,7 @@ checked-spec =
     (λ c κs. search needs)  -- prepared-requires
     (λ c. search needs)  -- enum-known-p
     (λ c. search needs)  -- enum-told
+    (λ c κs. search needs)  -- types-at-requires
     (λ c κs. search needs)  -- fill-requires
     (λ c κs. search needs)  -- body-requires
     (λ c. search stop-walked)  -- returns

@@ -8,8 +8,10 @@ pub alike-spec : {M : Type 1} → statement M
 alike-spec =
     tie.close
     (tie.spec
-    (λ c κs. search needs)  -- name-start-requires
-    (λ c κs. search needs)  -- name-length-requires
+    (λ c. search needs)  -- add-start
+    (λ c κs. search needs)  -- least-requires
+    (λ c. search needs)  -- sub-least
+    (λ c κs. search needs)  -- least-requires-2
     (λ c. search needs)  -- add-e
     (λ c. search needs)  -- sub-is-name-before
     (λ c. search needs)  -- part-is-name-before-start

@@ -8,6 +8,7 @@ pub check-spec : {M : Type 1} → statement M
 check-spec =
     tie.close
     (tie.spec
+    (λ c κs. search needs)  -- types-at-requires
     (λ c κs. search needs)  -- header-requires
     (λ c. search check-header)  -- returns
     (λ c κs. search needs)  -- types-requires

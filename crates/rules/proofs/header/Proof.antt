@@ -2,7 +2,7 @@
 use borrow.Author.Needs.{needs}
 use native.Mathlib.Omega.{arith}
 use Rattle.table.proofs.Places.{row-fits}
-use Rattle.rules.proofs.Judging.{header-short, header-mark, header-none, header-types, header-members, header-names, header-spare, header-length, header-fine}
+use Rattle.rules.proofs.Judging.{five-there, header-short, header-mark, header-none, header-types, header-members, header-names, header-spare, header-entries, header-length, header-fine}
 use Rattle.rules.proofs.header.Statement.{statement}
 use Rattle.rules.proofs.header.Tie as tie
 
@@ -10,9 +10,8 @@ pub header-spec : {M : Type 1} → statement M
 header-spec =
     tie.close
     (tie.spec
-    (λ c κs. search needs)  -- types-at-requires
     (λ c. search header-short)  -- returns
-    (λ c κs. search needs)  -- is-marked-requires
+    (λ c κs. search five-there)  -- is-marked-requires
     (λ c. search header-mark)  -- returns-2
     (λ c κs. search needs)  -- types-requires
     (λ c. search header-none)  -- returns-3
@@ -23,8 +22,12 @@ header-spec =
     (λ c. search header-names)  -- returns-6
     (λ c κs. search needs)  -- byte-at-requires
     (λ c. search header-spare)  -- returns-7
-    (λ c κs. row-fits _ _ (omega arith))  -- row-at-requires
+    (λ c κs. search needs)  -- entries-requires
+    (λ c. search header-entries)  -- returns-8
+    (λ c κs. (search needs, row-fits _ _ (omega arith)))  -- row-at-requires
     (λ c κs. (search needs, omega arith))  -- member-at-requires
-    (λ c. search needs)  -- add-if8
-    (λ c. search header-length)  -- returns-8
-    (λ c. search header-fine))  -- returns-9
+    (λ c. search needs)  -- add-if9
+    (λ c. search needs)  -- mul-if9
+    (λ c. search needs)  -- add-if9-2
+    (λ c. search header-length)  -- returns-9
+    (λ c. search header-fine))  -- returns-10

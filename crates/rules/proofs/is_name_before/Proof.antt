@@ -8,10 +8,10 @@ use Rattle.rules.proofs.is_name_before.Statement.{statement}
 use Rattle.rules.proofs.is_name_before.Tie as tie
 
 abbrev Inv-loop : tie.InvT-loop
-Inv-loop table name from t r₀ r = Before table name from t r
+Inv-loop table begin name from t r₀ r = Before table name from t r
 
 abbrev μ-loop : tie.MeasureT-loop
-μ-loop table name from t r₀ r = t - r
+μ-loop table begin name from t r₀ r = t - r
 
 pub is-name-before-spec : {M : Type 1} → statement M
 is-name-before-spec =
@@ -20,7 +20,7 @@ is-name-before-spec =
     Inv-loop
     μ-loop
     (λ c. search before-begin)  -- loop-holds
-    (λ c κs. omega arith)  -- type-row-in-requires
+    (λ c κs. (search needs, omega arith))  -- type-row-in-requires
     (λ c κs. search needs)  -- is-record-requires
     (λ c κs. search needs)  -- is-named-requires
     (λ c. search before-here)  -- returns

@@ -7,10 +7,10 @@ use Rattle.rules.proofs.member_rows.Statement.{statement}
 use Rattle.rules.proofs.member_rows.Tie as tie
 
 abbrev Inv-loop : tie.InvT-loop
-Inv-loop table n k first o₀ o = Owners table n o
+Inv-loop table begin n k first o₀ o = Owners table n o
 
 abbrev μ-loop : tie.MeasureT-loop
-μ-loop table n k first o₀ o = n - o
+μ-loop table begin n k first o₀ o = n - o
 
 pub member-rows-spec : {M : Type 1} → statement M
 member-rows-spec =
@@ -20,7 +20,7 @@ member-rows-spec =
     μ-loop
     (λ c κs. search needs)  -- row-at-requires
     (λ c. search owners-begin)  -- loop-holds
-    (λ c κs. omega arith)  -- kind-in-requires
+    (λ c κs. (search needs, omega arith))  -- kind-in-requires
     (λ c. omega arith)  -- add-o
     (λ c. omega arith)  -- loop-less
     (λ c. search owners-low)  -- loop-again

@@ -7,10 +7,10 @@ use Rattle.rules.proofs.owner.Statement.{statement}
 use Rattle.rules.proofs.owner.Tie as tie
 
 abbrev Inv-loop : tie.InvT-loop
-Inv-loop table o first k own left₀ m₀ above₀ optional left m above = (m + left ≤ k) × Owner table o own left m above
+Inv-loop table begin o first k own left₀ m₀ above₀ optional left m above = (m + left ≤ k) × Owner table o own left m above
 
 abbrev μ-loop : tie.MeasureT-loop
-μ-loop table o first k own left₀ m₀ above₀ optional left m above = left
+μ-loop table begin o first k own left₀ m₀ above₀ optional left m above = left
 
 pub owner-spec : {M : Type 1} → statement M
 owner-spec =
@@ -39,7 +39,7 @@ owner-spec =
     (λ c. c .before .loop .inv)  -- loop2-holds
     (λ c κs. (search needs, omega arith))  -- member-at-requires-2
     (λ c κs. (search needs, omega arith))  -- member-row-in-requires
-    (λ c κs. (search needs, (search needs, omega arith)))  -- member-class-requires
+    (λ c κs. (search needs, (search needs, (c .before .before .before .before .before .before .before .before .before .before .before .before .before .pre .1 .1 .0 .0, omega arith))))  -- member-class-requires
     (λ c. search owner-fault)  -- returns-4
     (λ c κs. omega arith)  -- raised-requires-2
     (λ c. omega arith)  -- add-m-2

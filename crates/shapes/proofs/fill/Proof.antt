@@ -9,10 +9,10 @@ use Rattle.shapes.proofs.fill.Statement.{statement}
 use Rattle.shapes.proofs.fill.Tie as tie
 
 abbrev Inv-loop : tie.InvT-loop
-Inv-loop table shapes₀ n t₀ shapes t = (n ≡ typeRows table) × (n ≤ 256) × (t ≤ n) × Filling table shapes t
+Inv-loop table begin shapes₀ n t₀ shapes t = (n ≡ typeRows table) × (n ≤ 256) × (t ≤ n) × Filling table shapes t
 
 abbrev μ-loop : tie.MeasureT-loop
-μ-loop table shapes₀ n t₀ shapes t = n - t
+μ-loop table begin shapes₀ n t₀ shapes t = n - t
 
 pub fill-spec : {M : Type 1} → statement M
 fill-spec =

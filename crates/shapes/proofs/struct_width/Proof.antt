@@ -6,10 +6,10 @@ use Rattle.shapes.proofs.struct_width.Statement.{statement}
 use Rattle.shapes.proofs.struct_width.Tie as tie
 
 abbrev Inv-loop : tie.InvT-loop
-Inv-loop table shapes t count m₀ left₀ sum₀ m left sum = Widths table t m left sum
+Inv-loop table begin shapes t count first m₀ left₀ sum₀ m left sum = Widths table t m left sum
 
 abbrev μ-loop : tie.MeasureT-loop
-μ-loop table shapes t count m₀ left₀ sum₀ m left sum = left
+μ-loop table begin shapes t count first m₀ left₀ sum₀ m left sum = left
 
 pub struct-width-spec : {M : Type 1} → statement M
 struct-width-spec =
@@ -18,10 +18,11 @@ struct-width-spec =
     Inv-loop
     μ-loop
     (λ c κs. search needs)  -- members-requires
+    (λ c κs. search needs)  -- members-at-requires
     (λ c κs. search needs)  -- type-row-requires
     (λ c. search widths-begin)  -- loop-holds
     (λ c. search (needs, widths-past))  -- returns
-    (λ c κs. search needs)  -- member-row-requires
+    (λ c κs. search needs)  -- member-row-from-requires
     (λ c κs. search needs)  -- width-below-requires
     (λ c. search (needs, widths-not))  -- returns-2
     (λ c. omega arith)  -- add-sum

@@ -10,7 +10,7 @@ pub field-a-spec : {M : Type 1} → statement M
 field-a-spec =
     tie.close
     (tie.spec
-    (λ c κs. row-fits _ _ (omega arith))  -- row-at-requires
+    (λ c κs. (search needs, row-fits _ _ (omega arith)))  -- row-at-requires
     (λ c κs. search needs)  -- field-at-requires
     (λ c. omega (arith, header-most (c .before .before .before .before .args .table .now)))  -- add-short-at
     (λ c κs. search needs)  -- short-at-requires

@@ -9,7 +9,7 @@ pub kind-spec : {M : Type 1} → statement M
 kind-spec =
     tie.close
     (tie.spec
-    (λ c κs. row-fits _ _ (omega arith))  -- row-at-requires
+    (λ c κs. (search needs, row-fits _ _ (omega arith)))  -- row-at-requires
     (λ c κs. search needs)  -- byte-at-requires
     (λ c. search (needs, kind-direct))  -- returns
     (λ c κs. search needs)  -- row-or-end-requires

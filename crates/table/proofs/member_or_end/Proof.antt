@@ -9,6 +9,7 @@ pub member-or-end-spec : {M : Type 1} → statement M
 member-or-end-spec =
     tie.close
     (tie.spec
+    (λ c κs. search needs)  -- types-at-requires
     (λ c κs. search needs)  -- members-at-requires
     (λ c. (omega arith, member-past _ _ (omega arith)))  -- returns
     (λ c. search needs)  -- sub-if2

@@ -10,5 +10,5 @@ members-at-spec =
     tie.close
     (tie.spec
     (λ c κs. search needs)  -- types-requires
-    (λ c κs. row-fits _ _ (omega arith))  -- row-at-requires
+    (λ c κs. (search needs, row-fits _ _ (omega arith)))  -- row-at-requires
     (λ c. search (needs, row-near)))  -- returns

@@ -9,9 +9,7 @@ pub row-or-end-spec : {M : Type 1} → statement M
 row-or-end-spec =
     tie.close
     (tie.spec
-    (λ c κs. search needs)  -- types-at-requires
     (λ c. (omega arith, row-past _ _ (omega arith)))  -- returns
-    (λ c κs. search needs)  -- types-at-requires-2
     (λ c. search needs)  -- sub-if2
     (λ c. (omega arith, row-past _ _ (omega arith)))  -- returns-2
     (λ c κs. search needs)  -- row-at-requires

@@ -9,6 +9,7 @@ type-of-member-spec =
     tie.close
     (tie.spec
     (λ c κs. search needs)  -- members-requires
-    (λ c κs. search needs)  -- member-row-requires
+    (λ c κs. search needs)  -- members-at-requires
+    (λ c κs. search needs)  -- member-row-from-requires
     (λ c. search (needs, member-row))  -- returns
     (λ c. search (needs, no-member)))  -- returns-2

@@ -12,7 +12,7 @@ type-row-spec =
     (λ c κs. search needs)  -- type-row-outside-requires
     (λ c. search needs)  -- returns
     (λ c. search needs)  -- add-row-at
-    (λ c κs. row-fits _ _ (omega arith))  -- row-at-requires
+    (λ c κs. (search needs, row-fits _ _ (omega arith)))  -- row-at-requires
     (λ c κs. search needs)  -- type-row-outside-requires-2
     (λ c. search needs)  -- returns-2
     (λ c κs. search needs)  -- type-row-in-requires

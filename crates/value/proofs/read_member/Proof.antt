@@ -1,4 +1,4 @@
--- By the shape of the row: any bytes, a string, a bool, an enum, or another value. Assumes nothing.
+-- By the shape of the row: any bytes, a string, a bool, an enum without a list, or another value. Assumes nothing.
 use borrow.Author.Needs.{needs}
 use Rattle.value.proofs.CycleLaws.{row-wide, row-text, row-bool, row-enum}
 use Rattle.value.proofs.read_member.Statement.{statement}
@@ -17,7 +17,11 @@ read-member-spec =
     (λ c κs. search needs)  -- bool-requires
     (λ c. search row-bool)  -- returns-3
     (λ c κs. search needs)  -- is-enum-requires
-    (λ c κs. search needs)  -- enumerator-requires
+    (λ c κs. search needs)  -- types-at-requires
+    (λ c κs. search needs)  -- with-lists-requires
+    (λ c κs. search needs)  -- type-row-requires
+    (λ c κs. search needs)  -- greatest-requires
+    (λ c κs. search needs)  -- upto-requires
     (λ c. search row-enum)  -- returns-4
     (λ c κs. search needs)  -- read-value-requires
     (λ c. search needs))  -- returns-5

@@ -22,6 +22,7 @@ checked-spec =
     (λ c κs. search needs)  -- prepare-requires
     (λ c. search needs)  -- enum-known-p
     (λ c. search needs)  -- enum-told
+    (λ c κs. search needs)  -- types-at-requires
     (λ c κs. search needs)  -- fill-requires
     write-rows-requires
     returns

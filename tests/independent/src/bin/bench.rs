@@ -208,6 +208,24 @@ fn main() {
     let strings = (0..20_000).flat_map(|i| string(1 + i % 3)).collect::<Vec<_>>();
     Case::new("20,000 short strings", &spec, top, &[(0, [size(20_000), strings].concat())]).run();
 
+    // Enumerators by a list of 1,024 entries, in which each is searched, and by their greatest.
+    let allowed: Vec<u32> = (0..1_024).map(|i| 1_000 + 3 * i).collect();
+    let enumerators = (0..12_000).flat_map(|i| size(allowed[i * 389 % 1_024])).collect::<Vec<_>>();
+    let value = [(0, [size(12_000), enumerators].concat())];
+    let list = |mut spec: Spec, state: u16| {
+        let states = spec.row(10, [state, 0, 0, 0, 0]);
+        let top = spec.owner(15, &[(states, None)]);
+        (spec, top)
+    };
+    let mut spec = Spec::default();
+    let state = spec.listed(&allowed);
+    let (spec, top) = list(spec, state);
+    Case::new("12,000 listed enums", &spec, top, &value).run();
+    let mut spec = Spec::default();
+    let state = spec.enumeration(allowed[1_023]);
+    let (spec, top) = list(spec, state);
+    Case::new("12,000 enums", &spec, top, &value).run();
+
     let mut spec = Spec::default();
     let kinds: Vec<u16> = (0..8).map(|kind| spec.basic(kind)).collect();
     let members: Vec<_> = (0..1_024).map(|i| (kinds[i % 8], if i < 512 { None } else { Some(i as u32) })).collect();

@@ -26,7 +26,7 @@ fn main() {
 
     let start = Instant::now();
     let mut differences = 0;
-    let mut refusals = [0; 39];
+    let mut refusals = [[0; 40]; 2];
     let mut compare = |call: &Call, expected: &Answer| {
         let Some(got) = ffi::answer(call) else { return };
         if got != *expected {
@@ -39,15 +39,17 @@ fn main() {
     };
     for (index, call) in Calls::new(seed).take(calls as usize).enumerate() {
         let expected = call.answer();
-        refusals[expected.refusal() as usize] += 1;
+        refusals[usize::from(call.is_of_version_2())][expected.refusal() as usize] += 1;
         compare(&call, &expected);
         if let Some(view) = call.view(index as u32 % 8) {
             compare(&view, &view.answer());
         }
     }
-    let met = refusals.iter().enumerate().filter(|(number, _)| !matches!(number, 1 | 24..=30));
-    let reached: Vec<_> = met.map(|(number, calls)| format!("{number}: {calls}")).collect();
-    println!("answers by refusal number: {}", reached.join(", "));
+    for (version, refusals) in (1..).zip(refusals) {
+        let met = refusals.iter().enumerate().filter(|(number, _)| !matches!(number, 1 | 24..=30));
+        let reached: Vec<_> = met.map(|(number, calls)| format!("{number}: {calls}")).collect();
+        println!("answers by refusal number, tables of version {version}: {}", reached.join(", "));
+    }
     println!("{differences} differences in {calls} calls from seed {seed}, {:.1} s", start.elapsed().as_secs_f64());
     process::exit(i32::from(differences != 0));
 }

@@ -62,7 +62,9 @@ fn recorded(path: &str) -> Result<Vec<Call>, String> {
     let read = |file: &Path| fs::read(file).map_err(|error| format!("{}: {error}", file.display()));
     let path = Path::new(path);
     if path.ends_with("replay") {
-        return replay::calls(&read(&path.join("stdin"))?).ok_or(format!("{}: no recorded calls", path.display()));
+        let calls = replay::calls(&read(&path.join("stdin"))?);
+        let calls = calls.map(|calls| calls.into_iter().map(|recorded| recorded.call).collect());
+        return calls.ok_or(format!("{}: no recorded calls", path.display()));
     }
     let mut files = vec![path.to_path_buf()];
     if path.is_dir() {

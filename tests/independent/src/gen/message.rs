@@ -124,11 +124,8 @@ impl Maker<'_> {
             kind @ 1..=6 => self.bytes([1, 1, 2, 4, 8, 4, 8][kind as usize]),
             7 => self.string(),
             8 => {
-                let greatest = a as usize + ((b as usize) << 16);
-                let any = self.rng.below(greatest + 1);
-                let near = [0, greatest, any, 254.min(greatest), 255.min(greatest)];
-                let enumerator = if self.slips() { greatest + 1 } else { self.rng.pick(&near) };
-                self.size(enumerator);
+                let enumerator = self.enumerator(r);
+                self.size(enumerator as usize);
             }
             9 => types.owned(r).for_each(|m| self.value(types.spec.members[m].0)),
             10 => {
@@ -145,6 +142,25 @@ impl Maker<'_> {
                 }
             }
             _ => self.proxy(),
+        }
+    }
+
+    /// A number that an enum allows. A wrong one is above the greatest or, in a list, mostly between two entries.
+    fn enumerator(&mut self, r: u16) -> u32 {
+        let greatest = self.types.greatest(r);
+        let any = self.rng.below(greatest as usize + 1) as u32;
+        match self.types.list(r) {
+            None if self.slips() => greatest + 1,
+            None => self.rng.pick(&[0, greatest, any, 254.min(greatest), 255.min(greatest)]),
+            Some(list) => {
+                let inner = self.rng.pick(list);
+                let entry = self.rng.pick(&[list[0], greatest, inner]);
+                if self.slips() {
+                    self.rng.pick(&[entry + 1, entry.saturating_sub(1), any, greatest + 1])
+                } else {
+                    entry
+                }
+            }
         }
     }
 

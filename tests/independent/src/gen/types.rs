@@ -15,10 +15,32 @@ pub struct Types {
     fixed: Vec<bool>,
 }
 
+/// A list of enumerators of at most `room` entries: with holes or without, near some bound.
+fn list(rng: &mut Rng, room: usize) -> Vec<u32> {
+    let mut list: Vec<u32> = match rng.below(8) {
+        0 | 1 => (0..=rng.pick(&[0, 1, 2, 3, 254, 255, 300])).collect(),
+        2 => vec![1, 3, 4],
+        3 => vec![rng.pick(&[0, 1, 254, 255, 65_535, 65_536, 0x7FFF_FFFF])],
+        _ => {
+            let entries = if rng.one_in(8) { rng.pick(&[200, 1_000, 1_024]) } else { 1 + rng.below(9) };
+            let steps = rng.pick(&[&[1, 1, 1, 2, 3][..], &[1, 2, 100], &[2], &[1, 65_536, 0x1000_0000]]);
+            let start = rng.pick(&[0, 0, 1, 2, 250, 254, 255, 65_530, 0x7FFF_FFF0]);
+            let rising = std::iter::successors(Some(start), |&entry| Some(entry + rng.pick(steps)));
+            rising.take_while(|&entry| entry <= 0x7FFF_FFFF).take(entries).collect()
+        }
+    };
+    if list.len() > 1 && rng.one_in(4) {
+        list.remove(rng.below(list.len()));
+    }
+    list.truncate(room);
+    list
+}
+
 impl Types {
-    /// A table that breaks no rule.
+    /// A table that breaks no rule, of version 1 or 2.
     pub fn random(rng: &mut Rng) -> Types {
-        let mut types = Types { spec: Spec::default(), least: vec![], fixed: vec![] };
+        let spec = if rng.one_in(2) { Spec::with_lists() } else { Spec::default() };
+        let mut types = Types { spec, least: vec![], fixed: vec![] };
         let rows = if rng.one_in(150) { 1 + rng.below(256) } else { 1 + rng.below(14) };
         let most = if rng.one_in(150) { 300 } else { 6 };
         let kinds = [0, 1, 2, 3, 4, 5, 6, 7, 7, 8, 8, 9, 9, 9, 10, 10, 10, 11, 11, 12, 13, 13, 14, 14, 15];
@@ -41,9 +63,13 @@ impl Types {
     fn push(&mut self, rng: &mut Rng, kind: u8, most: usize) {
         let parts: Vec<u16> = (0..self.spec.rows.len() as u16).filter(|&r| self.kind(r) <= 12).collect();
         let (least, fixed) = match kind {
-            8 => {
+            8 if self.spec.entries.is_none() => {
                 let greatest = rng.pick(&[0, 1, 3, 254, 255, 256, 300, 65_535, 65_536, 0x7FFF_FFFF]);
                 self.spec.enumeration(greatest);
+                (1, false)
+            }
+            8 if self.entries() < 1_024 => {
+                self.spec.listed(&list(rng, 1_024 - self.entries()));
                 (1, false)
             }
             9 if !parts.is_empty() => self.push_struct(rng, &parts),
@@ -157,6 +183,44 @@ impl Types {
         members
     }
 
+    fn entries(&self) -> usize {
+        self.spec.entries.as_ref().map_or(0, Vec::len)
+    }
+
+    /// The list of an enum; none in version 1.
+    pub fn list(&self, r: u16) -> Option<&[u32]> {
+        let [_, _, first, count, _] = self.fields(r).map(usize::from);
+        self.spec.entries.as_ref().map(|entries| &entries[first..first + count])
+    }
+
+    pub fn greatest(&self, r: u16) -> u32 {
+        let [a, b, ..] = self.fields(r).map(u32::from);
+        a | b << 16
+    }
+
+    /// The same types in the other version, if every enum allows all numbers up to its greatest and the lists fit.
+    pub fn other_version(&self) -> Option<Types> {
+        let enums: Vec<u16> = (0..self.spec.rows.len() as u16).filter(|&r| self.kind(r) == 8).collect();
+        let mut types = self.clone();
+        let mut entries = vec![];
+        for r in enums {
+            let [a, b, ..] = self.fields(r);
+            let count = self.greatest(r) as usize + 1;
+            let fields = match self.list(r) {
+                None if entries.len() + count > 1_024 => return None,
+                None => [a, b, entries.len() as u16, count as u16, 0],
+                Some(list) if list.len() < count => return None,
+                Some(_) => [a, b, 0, 0, 0],
+            };
+            if self.spec.entries.is_none() {
+                entries.extend(0..count as u32);
+            }
+            types.spec.rows[r as usize].1 = fields;
+        }
+        types.spec.entries = if self.spec.entries.is_none() { Some(entries) } else { None };
+        Some(types)
+    }
+
     pub fn kind(&self, r: u16) -> u8 {
         self.spec.rows[r as usize].0
     }
@@ -228,9 +292,10 @@ impl Types {
         }
     }
 
-    /// The table of an older hub: an optional less, or a record under another name.
+    /// The table of an older hub: an optional less, or a record under another name; of the other version, sometimes.
     pub fn older(&self, rng: &mut Rng) -> Types {
-        let mut types = self.clone();
+        let other = if rng.one_in(2) { self.other_version() } else { None };
+        let mut types = other.unwrap_or_else(|| self.clone());
         let optionals: Vec<usize> =
             (0..types.spec.members.len()).filter(|&m| types.spec.members[m].1.is_some()).collect();
         let records: Vec<u16> = types.records().collect();

@@ -8,10 +8,10 @@ use Rattle.pieces.proofs.state.next_due.Statement.{statement}
 use Rattle.pieces.proofs.state.next_due.Tie as tie
 
 abbrev Inv-loop : tie.InvT-loop
-Inv-loop table a b passed k₀ k = Passing table a b passed k
+Inv-loop table begin a b passed first k₀ k = Passing table a b passed k
 
 abbrev μ-loop : tie.MeasureT-loop
-μ-loop table a b passed k₀ k = b - k
+μ-loop table begin a b passed first k₀ k = b - k
 
 pub next-due-spec : {M : Type 1} → statement M
 next-due-spec =
@@ -19,6 +19,7 @@ next-due-spec =
     (tie.spec
     Inv-loop
     μ-loop
+    (λ c κs. search needs)  -- members-at-requires
     (λ c. (omega arith, refl))  -- loop-holds
     (λ c. omega arith)  -- add-member-row
     (λ c κs. search needs)  -- member-row-requires

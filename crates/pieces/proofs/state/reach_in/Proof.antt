@@ -19,6 +19,7 @@ reach-in-spec =
     (λ c. search gone-below)  -- returns-3
     (λ c. search needs)  -- add-if4
     (λ c. search gone-past)  -- returns-4
+    (λ c κs. search needs)  -- members-at-requires
     (λ c κs. search needs)  -- member-row-requires
     (λ c. search gone-required)  -- returns-5
     (λ c. search gone-tag)  -- returns-6

@@ -17,6 +17,7 @@ forms-spec =
     (tie.spec
     Inv-loop
     μ-loop
+    (λ c κs. search needs)  -- types-at-requires
     (λ c κs. search needs)  -- fill-requires
     (λ c κs. search needs)  -- rows-requires
     (λ c. omega arith)  -- loop-holds

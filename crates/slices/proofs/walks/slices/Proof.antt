@@ -14,21 +14,21 @@ use Rattle.slices.proofs.walks.slices.Statement.{statement}
 use Rattle.slices.proofs.walks.slices.Tie as tie
 
 abbrev Inv-loop : tie.InvT-loop
-Inv-loop table shapes top m start out₀ stage pos count₀ optionals₀ skipped fst t has sliced a e from end n k begin stop at₀ least₀ row₀ more₀ out count optionals at least row more =
+Inv-loop table begin shapes top m start out₀ place stage pos count₀ optionals₀ skipped fst t has sliced a e from end n k opt stop at₀ least₀ row₀ more₀ out count optionals at least row more =
     (length out ≡ length out₀)
     × (sliceWalk table start (slices table top (drop start m))
     ≡ answerOf (amid table top m (stageOf stage) pos t sliced from end skipped fst at₀ least₀ count₀ optionals₀ more₀ out₀))
     × Inner table top m (amid table top m (stageOf stage) pos t sliced from end skipped fst at₀ least₀ count₀ optionals₀ more₀ out₀) stage pos t sliced from end skipped fst stop at least row count optionals more out
 
 abbrev μ-loop : tie.MeasureT-loop
-μ-loop table shapes top m start out₀ stage pos count₀ optionals₀ skipped fst t has sliced a e from end n k begin stop at₀ least₀ row₀ more₀ out count optionals at least row more = length m - at
+μ-loop table begin shapes top m start out₀ place stage pos count₀ optionals₀ skipped fst t has sliced a e from end n k opt stop at₀ least₀ row₀ more₀ out count optionals at least row more = length m - at
 
 abbrev Inv-slices : tie.InvT-slices
-Inv-slices table shapes top m start out₀ stage₀ pos₀ count₀ optionals₀ skipped₀ fst₀ out stage pos count optionals skipped fst =
+Inv-slices table begin shapes top m start out₀ place stage₀ pos₀ count₀ optionals₀ skipped₀ fst₀ out stage pos count optionals skipped fst =
     (length out ≡ length out₀) × Outer table top m (left table (seek first) start 0 0 0 0 out₀ (slices table top (drop start m))) stage pos count optionals skipped fst out
 
 abbrev μ-slices : tie.MeasureT-slices
-μ-slices table shapes top m start out₀ stage₀ pos₀ count₀ optionals₀ skipped₀ fst₀ out stage pos count optionals skipped fst = length m - pos
+μ-slices table begin shapes top m start out₀ place stage₀ pos₀ count₀ optionals₀ skipped₀ fst₀ out stage pos count optionals skipped fst = length m - pos
 
 -- the answers that take facts from before the slice
 loop-holds : tie.Need-loop-holds Inv-loop μ-loop Inv-slices μ-slices
@@ -80,6 +80,7 @@ slices-spec =
     μ-loop
     Inv-slices
     μ-slices
+    (λ c κs. search needs)  -- members-at-requires
     (λ c. (refl, outer-begin _ _ _ _ _ (search) (omega arith) (search needs)))  -- slices-holds
     (λ c. omega arith)  -- sub-opening
     (λ c. search needs)  -- part-opening-start
@@ -96,7 +97,7 @@ slices-spec =
     (λ c. search known-order)  -- sub-required
     (λ c. search (needs, known-order))  -- part-required-start
     (λ c. search (needs, known-within))  -- part-required-end
-    (λ c κs. (search needs, (search asks-place, search asks-count)))  -- required-requires
+    (λ c κs. (search needs, (search needs, (search asks-place, search asks-count))))  -- required-requires
     (λ c. search needs)  -- enum-known-members
     (λ c κs. search needs)  -- member-end-requires
     (λ c. search (needs, at-fits))  -- add-at
@@ -104,7 +105,7 @@ slices-spec =
     (λ c. omega arith)  -- sub-next
     (λ c. search needs)  -- part-next-start
     (λ c. search needs)  -- part-next-end
-    (λ c κs. (c .before .before .before .before .before .before .before .before .before .before .before .before .before .before .before .before .before .before .before .before .before .pre .1, search inner-bound))  -- next-requires
+    (λ c κs. (c .before .before .before .before .before .before .before .before .before .before .before .before .before .before .before .before .before .before .members-at .ensures, (c .before .before .before .before .before .before .before .before .before .before .before .before .before .before .before .before .before .before .before .before .before .before .pre .1 .1, search inner-bound)))  -- next-requires
     (λ c. search needs)  -- enum-told
     (λ c. search end-mark-fits)  -- add-at-2
     (λ c. search end-less)  -- loop-less
@@ -116,9 +117,9 @@ slices-spec =
     (λ c. search count-fits)  -- add-count
     (λ c. search next-fits)  -- add-at-3
     (λ c. search tag-fits)  -- add-least
-    (λ c κs. search member-few)  -- behind-requires
+    (λ c κs. (c .before .before .before .before .before .before .before .before .before .before .before .before .before .before .before .before .before .before .before .before .before .before .before .before .before .before .members-at .ensures, search member-few))  -- behind-requires
     (λ c. search known-less)  -- loop-less-2
-    (λ c. (search put-keeps, search needs, search inner-known))  -- loop-again-2
+    (λ c. (search put-keeps, search needs, search (inner-known, c .before .before .before .before .before .before .before .before .before .before .before .loop .inv .2, c .before .before .before .before .before .before .before .before .next .ensures, c .before .before .before .before .before .before .x .given .1, c .behind .ensures)))  -- loop-again-2
     (λ c. search needs)  -- enum-known-x-2
     (λ c. search skipped-count)  -- add-optionals
     (λ c. search skipped-fits)  -- add-at-4
@@ -131,7 +132,7 @@ slices-spec =
     (λ c κs. search needs)  -- left-over-requires
     (λ c. search size-place)  -- sub-t67
     (λ c κs. search needs)  -- first-of-requires
-    (λ c κs. search needs)  -- base-requires
+    (λ c κs. c .before .before .before .before .before .before .before .before .before .before .before .before .before .before .before .before .before .before .before .before .before .before .before .before .pre .0)  -- base-requires
     (λ c κs. search needs)  -- format-number-requires
     (λ c. omega arith)  -- slices-less-2
     slices-again-2

@@ -8,10 +8,10 @@ use Rattle.table.proofs.chain.behind.Statement.{statement}
 use Rattle.table.proofs.chain.behind.Tie as tie
 
 abbrev Inv-loop : tie.InvT-loop
-Inv-loop table from m tag first i₀ i = Passing table from m tag i
+Inv-loop table first from m tag i₀ i = Passing table from m tag i
 
 abbrev μ-loop : tie.MeasureT-loop
-μ-loop table from m tag first i₀ i = m - i
+μ-loop table first from m tag i₀ i = m - i
 
 pub behind-spec : {M : Type 1} → statement M
 behind-spec =
@@ -19,7 +19,6 @@ behind-spec =
     (tie.spec
     Inv-loop
     μ-loop
-    (λ c κs. search needs)  -- members-at-requires
     (λ c. search passing-begin)  -- loop-holds
     (λ c κs. (search needs, (search needs, omega arith)))  -- member-row-from-requires
     (λ c. search passing-here)  -- returns

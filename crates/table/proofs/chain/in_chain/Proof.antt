@@ -9,10 +9,10 @@ use Rattle.table.proofs.chain.in_chain.Statement.{statement}
 use Rattle.table.proofs.chain.in_chain.Tie as tie
 
 abbrev Inv-loop : tie.InvT-loop
-Inv-loop table t top o₀ o = any (λ r. eqb r top) (chain table t) ≡ any (λ r. eqb r top) (chain table o)
+Inv-loop table t top begin o₀ o = any (λ r. eqb r top) (chain table t) ≡ any (λ r. eqb r top) (chain table o)
 
 abbrev μ-loop : tie.MeasureT-loop
-μ-loop table t top o₀ o = o
+μ-loop table t top begin o₀ o = o
 
 pub in-chain-spec : {M : Type 1} → statement M
 in-chain-spec =
@@ -20,6 +20,7 @@ in-chain-spec =
     (tie.spec
     Inv-loop
     μ-loop
+    (λ c κs. search needs)  -- types-at-requires
     (λ c. refl)  -- loop-holds
     (λ c. search top-here)  -- returns
     (λ c κs. search needs)  -- base-requires

@@ -8,10 +8,10 @@ use Rattle.table.proofs.chain.of_chain.Statement.{statement}
 use Rattle.table.proofs.chain.of_chain.Tie as tie
 
 abbrev Inv-loop : tie.InvT-loop
-Inv-loop table t m o₀ o = any (λ r. takes table r m) (chain table t) ≡ any (λ r. takes table r m) (chain table o)
+Inv-loop table t m begin o₀ o = any (λ r. takes table r m) (chain table t) ≡ any (λ r. takes table r m) (chain table o)
 
 abbrev μ-loop : tie.MeasureT-loop
-μ-loop table t m o₀ o = o
+μ-loop table t m begin o₀ o = o
 
 pub of-chain-spec : {M : Type 1} → statement M
 of-chain-spec =
@@ -19,6 +19,7 @@ of-chain-spec =
     (tie.spec
     Inv-loop
     μ-loop
+    (λ c κs. search needs)  -- types-at-requires
     (λ c. refl)  -- loop-holds
     (λ c κs. search needs)  -- takes-requires
     (λ c. search owner-here)  -- returns

@@ -8,10 +8,10 @@ use Rattle.table.proofs.chain.tag_member.Statement.{statement}
 use Rattle.table.proofs.chain.tag_member.Tie as tie
 
 abbrev Inv-loop : tie.InvT-loop
-Inv-loop table end from tag first m₀ m = Optionals table end from tag m
+Inv-loop table first end from tag m₀ m = Optionals table end from tag m
 
 abbrev μ-loop : tie.MeasureT-loop
-μ-loop table end from tag first m₀ m = end - m
+μ-loop table first end from tag m₀ m = end - m
 
 pub tag-member-spec : {M : Type 1} → statement M
 tag-member-spec =
@@ -19,7 +19,6 @@ tag-member-spec =
     (tie.spec
     Inv-loop
     μ-loop
-    (λ c κs. search needs)  -- members-at-requires
     (λ c κs. search needs)  -- member-at-requires
     (λ c κs. (search needs, omega arith))  -- tag-member-in-requires
     (λ c. search needs)  -- returns

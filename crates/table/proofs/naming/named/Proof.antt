@@ -7,10 +7,10 @@ use Rattle.table.proofs.naming.named.Statement.{statement}
 use Rattle.table.proofs.naming.named.Tie as tie
 
 abbrev Inv-loop : tie.InvT-loop
-Inv-loop table name n t₀ t = Naming table name n t
+Inv-loop table name n begin t₀ t = Naming table name n t
 
 abbrev μ-loop : tie.MeasureT-loop
-μ-loop table name n t₀ t = n - t
+μ-loop table name n begin t₀ t = n - t
 
 pub named-spec : {M : Type 1} → statement M
 named-spec =
@@ -19,6 +19,7 @@ named-spec =
     Inv-loop
     μ-loop
     (λ c κs. search needs)  -- types-requires
+    (λ c κs. search needs)  -- types-at-requires
     (λ c. search naming-begin)  -- loop-holds
     (λ c κs. search needs)  -- is-record-named-requires
     (λ c. search naming-here)  -- returns

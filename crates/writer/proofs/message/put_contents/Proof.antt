@@ -8,6 +8,7 @@ pub put-contents-spec : {M : Type 1} → statement M
 put-contents-spec =
     tie.close
     (tie.spec
+    (λ c κs. search needs)  -- types-at-requires
     (λ c κs. search needs)  -- kind-requires
     (λ c κs. search needs)  -- put-rows-requires
     (λ c. search needs)  -- same-length

@@ -1,0 +1,16 @@
+-- An enum: its size, compared with the greatest, or the size's refusal. Assumes nothing.
+use borrow.Author.Needs.{needs}
+use Rattle.value.proofs.PlainLaws.{enum-upto, enum-above, enum-none}
+use Rattle.value.proofs.plain.upto.Statement.{statement}
+use Rattle.value.proofs.plain.upto.Tie as tie
+
+pub upto-spec : {M : Type 1} → statement M
+upto-spec =
+    tie.close
+    (tie.spec
+    (λ c κs. search needs)  -- read-size-requires
+    (λ c. search needs)  -- enum-known-z
+    (λ c. search needs)  -- enum-known-z-2
+    (λ c. search enum-upto)  -- returns
+    (λ c. search enum-above)  -- returns-2
+    (λ c. search enum-none))  -- returns-3

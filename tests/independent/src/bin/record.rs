@@ -1,0 +1,74 @@
+//! record DIRECTORY REPLAY: puts the recorded calls of a directory into the gate: the files `stdin` and `stdout` of REPLAY,
+//! which is crates/replay. First come the checks, the readings, every 40th of these once more with row records, the views
+//! and the writings of the directory's *.jsonl; then, as they are now, the calls that REPLAY has after its last writing:
+//! the cases of document 01 and the largest tables. Stops where this implementation answers otherwise than recorded.
+
+use independent::calls::{Answer, Call};
+use independent::replay::{self, Recorded};
+use std::path::Path;
+use std::{env, fs, process};
+
+/// One reading in so many is made with row records too.
+const EVERY: usize = 40;
+
+fn main() {
+    let words: Vec<String> = env::args().skip(1).collect();
+    let [directory, replay] = &words[..] else { stop("record DIRECTORY REPLAY") };
+    let (directory, replay) = (Path::new(directory), Path::new(replay));
+
+    let mut calls = vec![];
+    for name in ["check", "read", "view", "write"] {
+        let made = recorded(&directory.join(name).with_extension("jsonl"));
+        println!("{name}: {}", made.len());
+        calls.extend(made.iter().map(|(call, answer)| (Recorded::from(call.clone()), answer.clone())));
+        let readings = made.into_iter().filter(|(call, _)| matches!(call, Call::Read { .. }));
+        calls.extend(readings.step_by(EVERY).map(|(call, _)| with_records(call)));
+    }
+    let stdin = read(&replay.join("stdin"));
+    let Some(old) = replay::calls(&stdin) else { stop("REPLAY has no recorded calls") };
+    let last = old.iter().rposition(|old| matches!(old.call, Call::Write { .. })).map_or(0, |last| last + 1);
+    println!("kept: {}", old.len() - last);
+    calls.extend(old[last..].iter().map(|kept| (kept.clone(), kept.call.answer())));
+
+    let lines: String = calls.iter().map(|(recorded, answer)| recorded.line(answer) + "\n").collect();
+    let calls: Vec<_> = calls.into_iter().map(|(recorded, _)| recorded).collect();
+    println!(
+        "{} calls in all, {} with row records",
+        calls.len(),
+        calls.iter().filter(|call| call.is_of_records).count()
+    );
+    write(&replay.join("stdin"), &replay::stdin(&calls));
+    write(&replay.join("stdout"), lines.as_bytes());
+}
+
+/// The recorded calls of a file with their answers.
+fn recorded(file: &Path) -> Vec<(Call, Answer)> {
+    let text = String::from_utf8_lossy(&read(file)).into_owned();
+    let lines = text.lines().map(|line| match Call::parse(line) {
+        Some((call, answer)) if call.answer() == answer => (call, answer),
+        Some((call, _)) => stop(&format!("{}: {} is not {line}", file.display(), call.answer().json())),
+        None => stop(&format!("{}: no recorded call: {line}", file.display())),
+    });
+    lines.collect()
+}
+
+/// The same reading with eight row records.
+fn with_records(call: Call) -> (Recorded, Answer) {
+    let Call::Read { table, top, message, .. } = call else { unreachable!() };
+    let call = Call::Read { table, top, message, room: replay::RECORDS };
+    let answer = call.answer();
+    (Recorded { call, is_of_records: true }, answer)
+}
+
+fn read(file: &Path) -> Vec<u8> {
+    fs::read(file).unwrap_or_else(|error| stop(&format!("{}: {error}", file.display())))
+}
+
+fn write(file: &Path, bytes: &[u8]) {
+    fs::write(file, bytes).unwrap_or_else(|error| stop(&format!("{}: {error}", file.display())));
+}
+
+fn stop(why: &str) -> ! {
+    eprintln!("{why}");
+    process::exit(2)
+}
