@@ -7,6 +7,7 @@ ghost use Prim.Native.Nat.{ℕ};
 ghost use lib.ListN.{length};
 ghost use Rattle.encoding.specs.Result.{ok, must};
 ghost use Rattle.encoding.specs.Number.{byte};
+ghost use Rattle.encoding.specs.Table.{typesAt};
 ghost use Rattle.encoding.specs.Message.{Read, markerForm, body, rows};
 ghost use Rattle.wire.specs.Steps.{stepOf};
 ghost use Rattle.shapes.specs.Shapes.{shapesOf};
@@ -74,8 +75,16 @@ fn ended(w: Walk, len: usize) -> Walk
     }
 }
 
-// Reads a message under a prepared table and a top, and puts a row for each known member.
-pub fn body(table: &[u8], shapes: &[u8; 256], top: usize, m: &[u8], out: &mut [u8]) -> Walk
+// Reads a message under a prepared table and a top, and puts a row for each known member. `begin` is where the type rows begin.
+pub fn body(
+    table: &[u8],
+    begin: usize,
+    shapes: &[u8; 256],
+    top: usize,
+    m: &[u8],
+    out: &mut [u8],
+) -> Walk
+    requires { ⌜ begin ≡ typesAt (now table) ⌝ }
     requires { ⌜ now shapes ≡ shapesOf (now table) ⌝ }
     ensures { λ r. ⌜ r ≡ bodyWalk (now (table .entry)) top (body (now (table .entry)) top (now (m .entry))) ⌝ }
     ensures { λ _. ⌜ length (now (out .exit)) ≡ length (now (out .entry)) ⌝ }
@@ -84,7 +93,6 @@ pub fn body(table: &[u8], shapes: &[u8; 256], top: usize, m: &[u8], out: &mut [u
     let step = capsule(m);
     match step {
         Step::Took(n) => {
-            let begin = table::types_at(table);
             let k = table::kind(table, begin, top);
             if k == 15 {
                 return ended(lists::list(table, begin, shapes, top, m, 6, out), m.len());

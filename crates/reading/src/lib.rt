@@ -68,8 +68,9 @@ fn checked(table: &[u8], top: usize, message: &[u8], ready: bool, out: &mut [u8]
         Prepared::Refused(c, q) => Walk::Stop(c, q),
         Prepared::Ready => {
             let mut shapes = [0u8; 256];
-            shapes::fill(table, table::types_at(table), &mut shapes);
-            reader::body(table, &shapes, top, message, out)
+            let begin = table::types_at(table);
+            shapes::fill(table, begin, &mut shapes);
+            reader::body(table, begin, &shapes, top, message, out)
         }
     }
 }

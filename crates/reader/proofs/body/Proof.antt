@@ -10,7 +10,6 @@ body-spec =
     (tie.spec
     (λ c κs. search needs)  -- capsule-requires
     (λ c. search needs)  -- enum-known-step
-    (λ c κs. search needs)  -- types-at-requires
     (λ c κs. search needs)  -- kind-requires
     (λ c κs. search (needs, body-six))  -- list-requires
     (λ c κs. search needs)  -- ended-requires
