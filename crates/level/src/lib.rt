@@ -32,9 +32,10 @@ pub enum Optional {
     Wrong(usize, usize),
 }
 
-// Reads required member m, of type row t, and puts row k for it; its value is at place `at`.
+// Reads required member m, of type row t, and puts row k for it; its value is at place `at`. `begin` is where the type rows begin.
 fn put_member(
     table: &[u8],
+    begin: usize,
     shapes: &[u8; 256],
     t: usize,
     s: &[u8],
@@ -43,12 +44,13 @@ fn put_member(
     m: usize,
     out: &mut [u8],
 ) -> Step
+    requires { ⌜ begin ≡ typesAt (now table) ⌝ }
     requires { ⌜ now shapes ≡ shapesOf (now table) ⌝ }
     ensures { λ r. ⌜ r ≡ stepOf (value (tyOf (now (table .entry)) t) (now (s .entry))) ⌝ }
     ensures { λ _. ⌜ length (now (out .exit)) ≡ length (now (out .entry)) ⌝ }
     ensures { λ r. ⌜ ((n : ℕ) → r ≡ Took n → now (out .exit) ≡ put (12 * k) (rowBytes (record { member = m; place = at; len = n })) (now (out .entry))) ⌝ }
 {
-    let step = value::read_member(table, shapes, t, s);
+    let step = value::read_member(table, begin, shapes, t, s);
     match step {
         Step::Took(n) => {
             wire::rows::put_row(out, k, m, at, n);
@@ -58,7 +60,7 @@ fn put_member(
     }
 }
 
-// Reads the required members of owner t, as declared, and puts a row for each, from row `count` on; `at` is the place of the first. Gives the first optional row too. `begin` is where the type rows begin.
+// Reads the required members of owner t, as declared, and puts a row for each, from row `count` on; `at` is the place of the first. Gives the first optional row too.
 pub fn required(
     table: &[u8],
     begin: usize,
@@ -89,6 +91,7 @@ pub fn required(
         if row.mark == 0 {
             let step = put_member(
                 table,
+                begin,
                 shapes,
                 optional::type_of(all, m, row.of),
                 &s[pos..],

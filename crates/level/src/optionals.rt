@@ -3,7 +3,7 @@ ghost use mathlib.Core.Path.{_≡_};
 ghost use Prim.Native.Nat.{_≤_, _<_};
 ghost use Rattle.encoding.specs.Result.{bytes, inside};
 ghost use Rattle.encoding.specs.Value.{value};
-ghost use Rattle.encoding.specs.Table.{membersAt, tyOf};
+ghost use Rattle.encoding.specs.Table.{typesAt, membersAt, tyOf};
 ghost use Rattle.encoding.specs.Optional.{part, nextOptional};
 ghost use Rattle.shapes.specs.Shapes.{shapesOf};
 ghost use Rattle.table.specs.Tags.{optionalFrom};
@@ -17,7 +17,8 @@ use wire::Step;
 
 // A value of type row t in the declared bytes of the form of number f, which it uses up: how many bytes it has, and the bytes taken.
 // A string with its own size is read once; a value that may be any bytes needs as many as its type has.
-fn used_up(table: &[u8], shapes: &[u8; 256], t: usize, s: &[u8], f: usize) -> Sized
+fn used_up(table: &[u8], begin: usize, shapes: &[u8; 256], t: usize, s: &[u8], f: usize) -> Sized
+    requires { ⌜ begin ≡ typesAt (now table) ⌝ }
     requires { ⌜ now shapes ≡ shapesOf (now table) ⌝ }
     ensures { λ r. ⌜ r ≡ bytesOf (inside (part (formNamed f)) (bytes (value (tyOf (now (table .entry)) t))) (now (s .entry))) ⌝ }
 {
@@ -36,7 +37,7 @@ fn used_up(table: &[u8], shapes: &[u8; 256], t: usize, s: &[u8], f: usize) -> Si
                 }
             }
             let a = e - n;
-            let step = value::read_value(table, shapes, t, &s[a..e]);
+            let step = value::read_value(table, begin, shapes, t, &s[a..e]);
             match step {
                 Step::Took(m) => {
                     if m == n {
@@ -52,9 +53,10 @@ fn used_up(table: &[u8], shapes: &[u8; 256], t: usize, s: &[u8], f: usize) -> Si
     }
 }
 
-// The next optional: a known value in its declared bytes, or a skipped one. Its tag is at least `least`, and is looked up among the member rows from `from` up to `end`; `first` is where the member rows begin.
+// The next optional: a known value in its declared bytes, or a skipped one. Its tag is at least `least`, and is looked up among the member rows from `from` up to `end`; `begin` is where the type rows begin, `first` where the member rows do.
 pub fn optional(
     table: &[u8],
+    begin: usize,
     first: usize,
     shapes: &[u8; 256],
     end: usize,
@@ -62,6 +64,7 @@ pub fn optional(
     least: usize,
     s: &[u8],
 ) -> Optional
+    requires { ⌜ begin ≡ typesAt (now table) ⌝ }
     requires { ⌜ (first ≡ membersAt (now table)) × (first < 1048576) ⌝ }
     requires { ⌜ now shapes ≡ shapesOf (now table) ⌝ }
     requires { ⌜ end ≤ 131072 ⌝ }
@@ -70,7 +73,7 @@ pub fn optional(
     let h = optional::headers::header(table, first, shapes, end, from, least, s);
     match h {
         Head::Known(m, ty, tag, n, f) => {
-            let p = used_up(table, shapes, ty, &s[n..], f);
+            let p = used_up(table, begin, shapes, ty, &s[n..], f);
             match p {
                 Sized::Is(l, e) => Optional::Known(m, tag, n + (e - l), n + e),
                 Sized::Isnt(c, q) => Optional::Wrong(c, n + q),

@@ -59,12 +59,14 @@ fn put_length(out: &mut [u8], at: usize, form: usize, n: usize) -> usize
 // 20 if a row's part lies outside the buffer, 21 if it is not exactly a value of type row t, else 0. With `judged` it was checked before: 0.
 fn part_form(
     table: &[u8],
+    begin: usize,
     shapes: &[u8; 256],
     t: usize,
     judged: bool,
     row: RowNumbers,
     buffer: &[u8],
 ) -> usize
+    requires { ⌜ begin ≡ typesAt (now table) ⌝ }
     requires { ⌜ now shapes ≡ shapesOf (now table) ⌝ }
     requires { ⌜ length (now buffer) ≤ 65536 ⌝ }
     ensures { λ r. ⌜ r ≡ pick judged 0 (partForm (now (buffer .entry)) (asRow row) (tyOf (now (table .entry)) t)) ⌝ }
@@ -76,7 +78,7 @@ fn part_form(
     let len = row.len;
     if wire::fits(buffer.len(), place, len) {
         let e = place + len;
-        if value::exact_value(table, shapes, t, &buffer[place..e]) {
+        if value::exact_value(table, begin, shapes, t, &buffer[place..e]) {
             return 0;
         }
         return 21;
@@ -124,7 +126,7 @@ pub fn put_row(
     match r {
         Reach::Due(c) => {
             let t = table::type_of_member(table, begin, row.member);
-            let fault = part_form(table, shapes, t, judged, row, buffer);
+            let fault = part_form(table, begin, shapes, t, judged, row, buffer);
             if fault != 0 {
                 return Placed::Wrong(fault);
             }
@@ -133,7 +135,7 @@ pub fn put_row(
         }
         Reach::May(c) => {
             let t = table::type_of_member(table, begin, row.member);
-            let fault = part_form(table, shapes, t, judged, row, buffer);
+            let fault = part_form(table, begin, shapes, t, judged, row, buffer);
             if fault != 0 {
                 return Placed::Wrong(fault);
             }

@@ -44,6 +44,7 @@ pub fn list(
             while at < m.len() {
                 let o = level::optionals::optional(
                     table,
+                    begin,
                     first,
                     shapes,
                     stop,

@@ -51,9 +51,10 @@ fn opening(table: &[u8], top: usize, stage: Stage, s: &[u8]) -> Opening
     }
 }
 
-// Reads the next optional, or the end marker (14 if no optional came before it). A tag is looked up among the member rows from `row` to `stop`; `first` is where the member rows begin.
+// Reads the next optional, or the end marker (14 if no optional came before it). A tag is looked up among the member rows from `row` to `stop`; `begin` is where the type rows begin, `first` where the member rows do.
 fn next(
     table: &[u8],
+    begin: usize,
     first: usize,
     shapes: &[u8; 256],
     stop: usize,
@@ -61,6 +62,7 @@ fn next(
     least: usize,
     s: &[u8],
 ) -> Turn
+    requires { ⌜ begin ≡ typesAt (now table) ⌝ }
     requires { ⌜ (first ≡ membersAt (now table)) × (first < 1048576) ⌝ }
     requires { ⌜ now shapes ≡ shapesOf (now table) ⌝ }
     requires { ⌜ stop ≤ 131072 ⌝ }
@@ -72,7 +74,7 @@ fn next(
         }
         return Turn::End;
     }
-    let o = level::optionals::optional(table, first, shapes, stop, row, least, s);
+    let o = level::optionals::optional(table, begin, first, shapes, stop, row, least, s);
     match o {
         Optional::Known(m, tag, a, n) => Turn::Known(m, tag, a, n),
         Optional::Skipped(tag, n) => Turn::Skipped(tag, n),
@@ -173,7 +175,16 @@ pub fn slices(
                         let mut row = opt;
                         let mut more = has;
                         while more {
-                            let x = next(table, place, shapes, stop, row, least, &m[at..end]);
+                            let x = next(
+                                table,
+                                begin,
+                                place,
+                                shapes,
+                                stop,
+                                row,
+                                least,
+                                &m[at..end],
+                            );
                             match x {
                                 Turn::End => {
                                     at += 1;

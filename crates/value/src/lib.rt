@@ -3,12 +3,13 @@
 // The readers of values, structs, sequences and dictionaries are one cycle of calls. Each has a bound: a type is one of the rows
 // below it, any other row is broken. The bound falls with each part. `part` is small enough to be inlined into the loops that call it;
 // `value`, called from several places, is not.
+// Each is given `begin`, where the type rows begin.
 mod plain;
 
 ghost use mathlib.Core.Path.{_≡_};
 ghost use Rattle.encoding.specs.Result.{times};
 ghost use Rattle.encoding.specs.Types.{struct, seq, dict};
-ghost use Rattle.encoding.specs.Table.{field, tys, partTy, tyOf, memberTys, ownRows};
+ghost use Rattle.encoding.specs.Table.{typesAt, field, tys, partTy, tyOf, memberTys, ownRows};
 ghost use Rattle.encoding.specs.Value.{value, exact};
 ghost use Rattle.wire.specs.Steps.{stepOf};
 ghost use Rattle.shapes.specs.Shapes.{shapesOf, widthBelow};
@@ -17,14 +18,15 @@ use wire::Sized;
 use wire::Step;
 
 // A value of row e, where e is below t.
-fn value(table: &[u8], shapes: &[u8; 256], t: usize, e: usize, s: &[u8]) -> Step
+fn value(table: &[u8], begin: usize, shapes: &[u8; 256], t: usize, e: usize, s: &[u8]) -> Step
+    requires { ⌜ begin ≡ typesAt (now table) ⌝ }
     requires { ⌜ now shapes ≡ shapesOf (now table) ⌝ }
     ensures { λ r. ⌜ r ≡ stepOf (value (partTy (now (table .entry)) t e) (now (s .entry))) ⌝ }
 {
     if t <= e {
         return Step::Fault(4, 0);
     }
-    let kind = table::kind(table, table::types_at(table), e);
+    let kind = table::kind(table, begin, e);
     match kind {
         0 => plain::bool(s),
         1 => plain::skip(s, 1),
@@ -35,16 +37,17 @@ fn value(table: &[u8], shapes: &[u8; 256], t: usize, e: usize, s: &[u8]) -> Step
         6 => plain::skip(s, 8),
         7 => wire::read_text(s),
         8 => plain::enumerator(table, e, s),
-        9 => struct_value(table, shapes, e, s),
-        10 => sequence(table, shapes, e, s),
-        11 => dictionary(table, shapes, e, s),
+        9 => struct_value(table, begin, shapes, e, s),
+        10 => sequence(table, begin, shapes, e, s),
+        11 => dictionary(table, begin, shapes, e, s),
         12 => proxy::proxy(s),
         _ => Step::Fault(4, 0),
     }
 }
 
 // The same; a value that may be any bytes is taken at once. The answer is rebuilt, so that it stays in registers.
-fn part(table: &[u8], shapes: &[u8; 256], t: usize, e: usize, s: &[u8]) -> Step
+fn part(table: &[u8], begin: usize, shapes: &[u8; 256], t: usize, e: usize, s: &[u8]) -> Step
+    requires { ⌜ begin ≡ typesAt (now table) ⌝ }
     requires { ⌜ now shapes ≡ shapesOf (now table) ⌝ }
     ensures { λ r. ⌜ r ≡ stepOf (value (partTy (now (table .entry)) t e) (now (s .entry))) ⌝ }
 {
@@ -56,7 +59,7 @@ fn part(table: &[u8], shapes: &[u8; 256], t: usize, e: usize, s: &[u8]) -> Step
             }
         }
     }
-    let step = value(table, shapes, t, e, s);
+    let step = value(table, begin, shapes, t, e, s);
     match step {
         Step::Took(n) => Step::Took(n),
         Step::Fault(f, p) => Step::Fault(f, p),
@@ -64,11 +67,11 @@ fn part(table: &[u8], shapes: &[u8; 256], t: usize, e: usize, s: &[u8]) -> Step
 }
 
 // The members of struct row t, one after another.
-fn struct_value(table: &[u8], shapes: &[u8; 256], t: usize, s: &[u8]) -> Step
+fn struct_value(table: &[u8], begin: usize, shapes: &[u8; 256], t: usize, s: &[u8]) -> Step
+    requires { ⌜ begin ≡ typesAt (now table) ⌝ }
     requires { ⌜ now shapes ≡ shapesOf (now table) ⌝ }
     ensures { λ r. ⌜ r ≡ stepOf (value (struct (memberTys (now (table .entry)) (tys (now (table .entry)) t) (ownRows (now (table .entry)) t))) (now (s .entry))) ⌝ }
 {
-    let begin = table::types_at(table);
     let all = table::members(table);
     let first = table::members_at(table, begin);
     let owner = table::type_row(table, begin, t);
@@ -80,7 +83,7 @@ fn struct_value(table: &[u8], shapes: &[u8; 256], t: usize, s: &[u8]) -> Step
             return Step::Fault(4, at);
         }
         let row = table::member_row_from(table, first, m);
-        let step = part(table, shapes, t, row.of, &s[at..]);
+        let step = part(table, begin, shapes, t, row.of, &s[at..]);
         match step {
             Step::Took(n) => {
                 at += n;
@@ -106,21 +109,22 @@ fn is_text_below(shapes: &[u8; 256], t: usize, k: usize) -> bool
 }
 
 // The sequence of row t: a size, and as many elements; elements that may be any bytes are taken at once.
-fn sequence(table: &[u8], shapes: &[u8; 256], t: usize, s: &[u8]) -> Step
+fn sequence(table: &[u8], begin: usize, shapes: &[u8; 256], t: usize, s: &[u8]) -> Step
+    requires { ⌜ begin ≡ typesAt (now table) ⌝ }
     requires { ⌜ now shapes ≡ shapesOf (now table) ⌝ }
     ensures { λ r. ⌜ r ≡ stepOf (value (seq (partTy (now (table .entry)) t (field (now (table .entry)) t 0))) (now (s .entry))) ⌝ }
 {
     let z = wire::read_size(s);
     match z {
         Sized::Is(n, k) => {
-            let e = table::field_a(table, table::types_at(table), t);
+            let e = table::field_a(table, begin, t);
             let w = shapes::width_below(shapes, t, e);
             if 0 < w {
                 if n * w <= s.len() - k {
                     return Step::Took(k + n * w);
                 }
             }
-            let step = elements(table, shapes, t, e, n, &s[k..]);
+            let step = elements(table, begin, shapes, t, e, n, &s[k..]);
             match step {
                 Step::Took(m) => Step::Took(k + m),
                 Step::Fault(f, p) => Step::Fault(f, k + p),
@@ -131,7 +135,16 @@ fn sequence(table: &[u8], shapes: &[u8; 256], t: usize, s: &[u8]) -> Step
 }
 
 // n values of row e, where e is below t.
-fn elements(table: &[u8], shapes: &[u8; 256], t: usize, e: usize, n: usize, s: &[u8]) -> Step
+fn elements(
+    table: &[u8],
+    begin: usize,
+    shapes: &[u8; 256],
+    t: usize,
+    e: usize,
+    n: usize,
+    s: &[u8],
+) -> Step
+    requires { ⌜ begin ≡ typesAt (now table) ⌝ }
     requires { ⌜ now shapes ≡ shapesOf (now table) ⌝ }
     ensures { λ r. ⌜ r ≡ stepOf (times n (value (partTy (now (table .entry)) t e)) (now (s .entry))) ⌝ }
 {
@@ -143,7 +156,7 @@ fn elements(table: &[u8], shapes: &[u8; 256], t: usize, e: usize, n: usize, s: &
     let mut left = n;
     let mut at: usize = 0;
     while left > 0 {
-        let step = part(table, shapes, t, e, &s[at..]);
+        let step = part(table, begin, shapes, t, e, &s[at..]);
         match step {
             Step::Took(m) => {
                 at += m;
@@ -159,14 +172,15 @@ fn elements(table: &[u8], shapes: &[u8; 256], t: usize, e: usize, n: usize, s: &
 }
 
 // The dictionary of row t: a size, and as many pairs.
-fn dictionary(table: &[u8], shapes: &[u8; 256], t: usize, s: &[u8]) -> Step
+fn dictionary(table: &[u8], begin: usize, shapes: &[u8; 256], t: usize, s: &[u8]) -> Step
+    requires { ⌜ begin ≡ typesAt (now table) ⌝ }
     requires { ⌜ now shapes ≡ shapesOf (now table) ⌝ }
     ensures { λ r. ⌜ r ≡ stepOf (value (dict (partTy (now (table .entry)) t (field (now (table .entry)) t 0)) (partTy (now (table .entry)) t (field (now (table .entry)) t 1))) (now (s .entry))) ⌝ }
 {
     let z = wire::read_size(s);
     match z {
         Sized::Is(n, k) => {
-            let step = pairs(table, shapes, t, n, &s[k..]);
+            let step = pairs(table, begin, shapes, t, n, &s[k..]);
             match step {
                 Step::Took(m) => Step::Took(k + m),
                 Step::Fault(f, p) => Step::Fault(f, k + p),
@@ -177,11 +191,11 @@ fn dictionary(table: &[u8], shapes: &[u8; 256], t: usize, s: &[u8]) -> Step
 }
 
 // n pairs of dictionary row t.
-fn pairs(table: &[u8], shapes: &[u8; 256], t: usize, n: usize, s: &[u8]) -> Step
+fn pairs(table: &[u8], begin: usize, shapes: &[u8; 256], t: usize, n: usize, s: &[u8]) -> Step
+    requires { ⌜ begin ≡ typesAt (now table) ⌝ }
     requires { ⌜ now shapes ≡ shapesOf (now table) ⌝ }
     ensures { λ r. ⌜ r ≡ stepOf (times n (entry (partTy (now (table .entry)) t (field (now (table .entry)) t 0)) (partTy (now (table .entry)) t (field (now (table .entry)) t 1))) (now (s .entry))) ⌝ }
 {
-    let begin = table::types_at(table);
     let key = table::field_a(table, begin, t);
     let val = table::field_b(table, begin, t);
     let text = is_text_below(shapes, t, key);
@@ -189,7 +203,7 @@ fn pairs(table: &[u8], shapes: &[u8; 256], t: usize, n: usize, s: &[u8]) -> Step
     let mut left = n;
     let mut at: usize = 0;
     while left > 0 {
-        let step = pair(table, shapes, t, key, val, text, w, &s[at..]);
+        let step = pair(table, begin, shapes, t, key, val, text, w, &s[at..]);
         match step {
             Step::Took(m) => {
                 at += m;
@@ -204,7 +218,16 @@ fn pairs(table: &[u8], shapes: &[u8; 256], t: usize, n: usize, s: &[u8]) -> Step
 }
 
 // A value of row k, where k is below t; a string, if `text` says so, is read without a call.
-fn key(table: &[u8], shapes: &[u8; 256], t: usize, k: usize, text: bool, s: &[u8]) -> Step
+fn key(
+    table: &[u8],
+    begin: usize,
+    shapes: &[u8; 256],
+    t: usize,
+    k: usize,
+    text: bool,
+    s: &[u8],
+) -> Step
+    requires { ⌜ begin ≡ typesAt (now table) ⌝ }
     requires { ⌜ now shapes ≡ shapesOf (now table) ⌝ }
     requires { ⌜ text ≡ isTextBelow (now shapes) t k ⌝ }
     ensures { λ r. ⌜ r ≡ stepOf (value (partTy (now (table .entry)) t k) (now (s .entry))) ⌝ }
@@ -212,12 +235,13 @@ fn key(table: &[u8], shapes: &[u8; 256], t: usize, k: usize, text: bool, s: &[u8
     if text {
         return wire::read_text(s);
     }
-    part(table, shapes, t, k, s)
+    part(table, begin, shapes, t, k, s)
 }
 
 // A key of row k, then a value of row v, both below t; `text` and `w` come from their shapes, looked up once for all pairs.
 fn pair(
     table: &[u8],
+    begin: usize,
     shapes: &[u8; 256],
     t: usize,
     k: usize,
@@ -226,12 +250,13 @@ fn pair(
     w: usize,
     s: &[u8],
 ) -> Step
+    requires { ⌜ begin ≡ typesAt (now table) ⌝ }
     requires { ⌜ now shapes ≡ shapesOf (now table) ⌝ }
     requires { ⌜ text ≡ isTextBelow (now shapes) t k ⌝ }
     requires { ⌜ w ≡ widthBelow (now shapes) t v ⌝ }
     ensures { λ r. ⌜ r ≡ stepOf (entry (partTy (now (table .entry)) t k) (partTy (now (table .entry)) t v) (now (s .entry))) ⌝ }
 {
-    let first = key(table, shapes, t, k, text, s);
+    let first = key(table, begin, shapes, t, k, text, s);
     match first {
         Step::Took(n) => {
             if 0 < w {
@@ -239,7 +264,7 @@ fn pair(
                     return Step::Took(n + w);
                 }
             }
-            let step = value(table, shapes, t, v, &s[n..]);
+            let step = value(table, begin, shapes, t, v, &s[n..]);
             match step {
                 Step::Took(m) => Step::Took(n + m),
                 Step::Fault(f, p) => Step::Fault(f, n + p),
@@ -250,11 +275,12 @@ fn pair(
 }
 
 // A value of row t of the table; a row that has no tree is refused by 4 here.
-pub fn read_value(table: &[u8], shapes: &[u8; 256], t: usize, s: &[u8]) -> Step
+pub fn read_value(table: &[u8], begin: usize, shapes: &[u8; 256], t: usize, s: &[u8]) -> Step
+    requires { ⌜ begin ≡ typesAt (now table) ⌝ }
     requires { ⌜ now shapes ≡ shapesOf (now table) ⌝ }
     ensures { λ r. ⌜ r ≡ stepOf (value (tyOf (now (table .entry)) t) (now (s .entry))) ⌝ }
 {
-    let step = value(table, shapes, table::rows(table), t, s);
+    let step = value(table, begin, shapes, table::rows(table), t, s);
     match step {
         Step::Took(n) => Step::Took(n),
         Step::Fault(f, p) => Step::Fault(f, p),
@@ -262,7 +288,8 @@ pub fn read_value(table: &[u8], shapes: &[u8; 256], t: usize, s: &[u8]) -> Step
 }
 
 // The same; one that may be any bytes, a string, a bool and an enum without a list are taken without a call.
-pub fn read_member(table: &[u8], shapes: &[u8; 256], t: usize, s: &[u8]) -> Step
+pub fn read_member(table: &[u8], begin: usize, shapes: &[u8; 256], t: usize, s: &[u8]) -> Step
+    requires { ⌜ begin ≡ typesAt (now table) ⌝ }
     requires { ⌜ now shapes ≡ shapesOf (now table) ⌝ }
     ensures { λ r. ⌜ r ≡ stepOf (value (tyOf (now (table .entry)) t) (now (s .entry))) ⌝ }
 {
@@ -279,17 +306,17 @@ pub fn read_member(table: &[u8], shapes: &[u8; 256], t: usize, s: &[u8]) -> Step
         return plain::bool(s);
     }
     if shapes::is_enum(shapes, t) {
-        let begin = table::types_at(table);
         if !table::with_lists(table, begin) {
             let row = table::type_row(table, begin, t);
             return plain::upto(table::greatest(row), s);
         }
     }
-    read_value(table, shapes, t, s)
+    read_value(table, begin, shapes, t, s)
 }
 
 // The bytes are exactly one value of row t.
-pub fn exact_value(table: &[u8], shapes: &[u8; 256], t: usize, s: &[u8]) -> bool
+pub fn exact_value(table: &[u8], begin: usize, shapes: &[u8; 256], t: usize, s: &[u8]) -> bool
+    requires { ⌜ begin ≡ typesAt (now table) ⌝ }
     requires { ⌜ now shapes ≡ shapesOf (now table) ⌝ }
     ensures { λ r. ⌜ r ≡ exact (tyOf (now (table .entry)) t) (now (s .entry)) ⌝ }
 {
@@ -299,7 +326,7 @@ pub fn exact_value(table: &[u8], shapes: &[u8; 256], t: usize, s: &[u8]) -> bool
             return w == s.len();
         }
     }
-    let step = value(table, shapes, table::rows(table), t, s);
+    let step = value(table, begin, shapes, table::rows(table), t, s);
     match step {
         Step::Took(n) => n == s.len(),
         Step::Fault(f, p) => false,

@@ -53,7 +53,6 @@ use Rattle.shapes.proofs.is_text.Reads as is-text-reads
 use Rattle.shapes.proofs.width.Reads as width-reads
 use Rattle.shapes.proofs.width_below.Reads as width-below-reads
 use Rattle.table.proofs.type_row.Reads as type-row-reads
-use Rattle.table.proofs.types_at.Reads as types-at-reads
 use Rattle.value.proofs.is_text_below.Reads as is-text-below-reads
 use Rattle.value.proofs.plain.bool.Reads as bool-reads
 use Rattle.value.proofs.plain.enumerator.Reads as enumerator-reads
@@ -66,31 +65,31 @@ use Rattle.value.proofs.+dictionary+elements+key+pair+pairs+part+sequen
 use Rattle.value.proofs.+dictionary+elements+key+pair+pairs+part+sequence+struct_value+value.Tie.{close}
 
 abbrev μ-dictionary : Measures 3 dictionary-kinds.ps ℕ
-μ-dictionary κs a = 6 * a .1 .1 .0 + 5
+μ-dictionary κs a = 6 * a .1 .1 .1 .0 + 5
 
 abbrev μ-elements : Measures 3 elements-kinds.ps ℕ
-μ-elements κs a = 6 * a .1 .1 .0 + 2
+μ-elements κs a = 6 * a .1 .1 .1 .0 + 2
 
 abbrev μ-key : Measures 3 key-kinds.ps ℕ
-μ-key κs a = 6 * a .1 .1 .0 + 2
+μ-key κs a = 6 * a .1 .1 .1 .0 + 2
 
 abbrev μ-pair : Measures 3 pair-kinds.ps ℕ
-μ-pair κs a = 6 * a .1 .1 .0 + 3
+μ-pair κs a = 6 * a .1 .1 .1 .0 + 3
 
 abbrev μ-pairs : Measures 3 pairs-kinds.ps ℕ
-μ-pairs κs a = 6 * a .1 .1 .0 + 4
+μ-pairs κs a = 6 * a .1 .1 .1 .0 + 4
 
 abbrev μ-part : Measures 3 part-kinds.ps ℕ
-μ-part κs a = 6 * a .1 .1 .0 + 1
+μ-part κs a = 6 * a .1 .1 .1 .0 + 1
 
 abbrev μ-sequence : Measures 3 sequence-kinds.ps ℕ
-μ-sequence κs a = 6 * a .1 .1 .0 + 5
+μ-sequence κs a = 6 * a .1 .1 .1 .0 + 5
 
 abbrev μ-struct-value : Measures 3 struct-value-kinds.ps ℕ
-μ-struct-value κs a = 6 * a .1 .1 .0 + 5
+μ-struct-value κs a = 6 * a .1 .1 .1 .0 + 5
 
 abbrev μ-value : Measures 3 value-kinds.ps ℕ
-μ-value κs a = 6 * a .1 .1 .0
+μ-value κs a = 6 * a .1 .1 .1 .0
 
 abbrev dictionary-at : ℕ → In 3 dictionary-kinds.ps
 dictionary-at t = and 3 dictionary-kinds.ps (is 3 dictionary-kinds.ps μ-dictionary t) dictionary.Pre
@@ -159,37 +158,37 @@ abbrev pair-calls : ℕ → pair-lts.Claims
 pair-calls t = (key-below t, key.Post, value-below t, value.Post)
 
 abbrev pairs-calls : ℕ → pairs-lts.Claims
-pairs-calls t = (types-at-reads.Asked, types-at-reads.Learnt, field-a-reads.Asked, field-a-reads.Learnt, field-b-reads.Asked, field-b-reads.Learnt, is-text-below-reads.Asked, is-text-below-reads.Learnt, width-below-reads.Asked, width-below-reads.Learnt, pair-below t, pair.Post)
+pairs-calls t = (field-a-reads.Asked, field-a-reads.Learnt, field-b-reads.Asked, field-b-reads.Learnt, is-text-below-reads.Asked, is-text-below-reads.Learnt, width-below-reads.Asked, width-below-reads.Learnt, pair-below t, pair.Post)
 
 abbrev part-calls : ℕ → part-lts.Claims
 part-calls t = (width-reads.Asked, width-reads.Learnt, value-below t, value.Post)
 
 abbrev sequence-calls : ℕ → sequence-lts.Claims
-sequence-calls t = (read-size-reads.Asked, read-size-reads.Learnt, types-at-reads.Asked, types-at-reads.Learnt, field-a-reads.Asked, field-a-reads.Learnt, width-below-reads.Asked, width-below-reads.Learnt, elements-below t, elements.Post)
+sequence-calls t = (read-size-reads.Asked, read-size-reads.Learnt, field-a-reads.Asked, field-a-reads.Learnt, width-below-reads.Asked, width-below-reads.Learnt, elements-below t, elements.Post)
 
 abbrev struct-value-calls : ℕ → struct-value-lts.Claims
-struct-value-calls t = (types-at-reads.Asked, types-at-reads.Learnt, members-reads.Asked, members-reads.Learnt, members-at-reads.Asked, members-at-reads.Learnt, type-row-reads.Asked, type-row-reads.Learnt, member-row-from-reads.Asked, member-row-from-reads.Learnt, part-below t, part.Post)
+struct-value-calls t = (members-reads.Asked, members-reads.Learnt, members-at-reads.Asked, members-at-reads.Learnt, type-row-reads.Asked, type-row-reads.Learnt, member-row-from-reads.Asked, member-row-from-reads.Learnt, part-below t, part.Post)
 
 abbrev value-calls : ℕ → value-lts.Claims
-value-calls t = (types-at-reads.Asked, types-at-reads.Learnt, kind-reads.Asked, kind-reads.Learnt, bool-reads.Asked, bool-reads.Learnt, skip-reads.Asked, skip-reads.Learnt, read-text-reads.Asked, read-text-reads.Learnt, enumerator-reads.Asked, enumerator-reads.Learnt, struct-value-below t, struct-value.Post, sequence-below t, sequence.Post, dictionary-below t, dictionary.Post, proxy-reads.Asked, proxy-reads.Learnt)
+value-calls t = (kind-reads.Asked, kind-reads.Learnt, bool-reads.Asked, bool-reads.Learnt, skip-reads.Asked, skip-reads.Learnt, read-text-reads.Asked, read-text-reads.Learnt, enumerator-reads.Asked, enumerator-reads.Learnt, struct-value-below t, struct-value.Post, sequence-below t, sequence.Post, dictionary-below t, dictionary.Post, proxy-reads.Asked, proxy-reads.Learnt)
 
 abbrev elements-Inv-loop : elements-lts.InvT-loop
-elements-Inv-loop table shapes t e n s left₀ at₀ left at = Left s (stepOf (times n (value-of (partTy table t e)) s)) (times left (value-of (partTy table t e))) at
+elements-Inv-loop table begin shapes t e n s left₀ at₀ left at = Left s (stepOf (times n (value-of (partTy table t e)) s)) (times left (value-of (partTy table t e))) at
 
 abbrev elements-μ-loop : elements-lts.MeasureT-loop
-elements-μ-loop table shapes t e n s left₀ at₀ left at = left
+elements-μ-loop table begin shapes t e n s left₀ at₀ left at = left
 
 abbrev pairs-Inv-loop : pairs-lts.InvT-loop
-pairs-Inv-loop table shapes t n s begin key val text w left₀ at₀ left at = Left s (stepOf (times n (entry (partTy table t (field table t 0)) (partTy table t (field table t 1))) s)) (times left (entry (partTy table t key) (partTy table t val))) at
+pairs-Inv-loop table begin shapes t n s key val text w left₀ at₀ left at = Left s (stepOf (times n (entry (partTy table t (field table t 0)) (partTy table t (field table t 1))) s)) (times left (entry (partTy table t key) (partTy table t val))) at
 
 abbrev pairs-μ-loop : pairs-lts.MeasureT-loop
-pairs-μ-loop table shapes t n s begin key val text w left₀ at₀ left at = left
+pairs-μ-loop table begin shapes t n s key val text w left₀ at₀ left at = left
 
 abbrev struct-value-Inv-loop : struct-value-lts.InvT-loop
-struct-value-Inv-loop table shapes t s begin all first m₀ left₀ at₀ m left at = Left s (stepOf (value-of (struct (memberTys table (tys table t) (ownRows table t))) s)) (values (memberTys table (tys table t) (range m left))) at
+struct-value-Inv-loop table begin shapes t s all first m₀ left₀ at₀ m left at = Left s (stepOf (value-of (struct (memberTys table (tys table t) (ownRows table t))) s)) (values (memberTys table (tys table t) (range m left))) at
 
 abbrev struct-value-μ-loop : struct-value-lts.MeasureT-loop
-struct-value-μ-loop table shapes t s begin all first m₀ left₀ at₀ m left at = left
+struct-value-μ-loop table begin shapes t s all first m₀ left₀ at₀ m left at = left
 
 pub +dictionary+elements+key+pair+pairs+part+sequence+struct-value+value-spec : {M : Type 1} → statement M
 +dictionary+elements+key+pair+pairs+part+sequence+struct-value+value-spec =
@@ -251,7 +250,6 @@ pub +dictionary+elements+key+pair+pairs+part+sequence+struct-value+value-spec : 
     (λ c. search pair-bad)  -- returns-3
     (λ c. search pair-none))  -- returns-4
     (λ t. pairs-lts.spec (pairs-calls t) (pairs-at t) pairs.Post pairs-Inv-loop pairs-μ-loop
-    (λ c κs. search needs)  -- types-at-requires
     (λ c κs. search needs)  -- field-a-requires
     (λ c κs. search needs)  -- field-b-requires
     (λ c κs. search needs)  -- is-text-below-requires
@@ -281,7 +279,6 @@ pub +dictionary+elements+key+pair+pairs+part+sequence+struct-value+value-spec : 
     (λ t. sequence-lts.spec (sequence-calls t) (sequence-at t) sequence.Post
     (λ c κs. search needs)  -- read-size-requires
     (λ c. search needs)  -- enum-known-z
-    (λ c κs. search needs)  -- types-at-requires
     (λ c κs. search needs)  -- field-a-requires
     (λ c κs. search needs)  -- width-below-requires
     (λ c. search items-fits)  -- mul-if2
@@ -302,7 +299,6 @@ pub +dictionary+elements+key+pair+pairs+part+sequence+struct-value+value-spec : 
     (λ c. search seq-bad)  -- returns-3
     (λ c. search seq-none))  -- returns-4
     (λ t. struct-value-lts.spec (struct-value-calls t) (struct-value-at t) struct-value.Post struct-value-Inv-loop struct-value-μ-loop
-    (λ c κs. search needs)  -- types-at-requires
     (λ c κs. search needs)  -- members-requires
     (λ c κs. search needs)  -- members-at-requires
     (λ c κs. search needs)  -- type-row-requires
@@ -314,9 +310,9 @@ pub +dictionary+elements+key+pair+pairs+part+sequence+struct-value+value-spec : 
     (λ c. search needs)  -- part-part-end
     (λ c κs. search needs)  -- part-requires
     (λ c. search needs)  -- enum-known-step
-    (λ c. search (value-took-fits, c .before .before .before .before .before .before .before .before .before .before .before .before .before .before .before .good))  -- add-at
+    (λ c. search (value-took-fits, c .before .before .before .before .before .before .before .before .before .before .before .before .before .before .good))  -- add-at
     (λ c. search needs)  -- enum-known-step-2
-    (λ c. search (value-bad-fits, c .before .before .before .before .before .before .before .before .before .before .before .before .before .before .before .good))  -- add-t19
+    (λ c. search (value-bad-fits, c .before .before .before .before .before .before .before .before .before .before .before .before .before .before .good))  -- add-t19
     (λ c. search (member-fault, member-read))  -- returns-2
     (λ c. search needs)  -- add-m
     (λ c. omega arith)  -- sub-left
@@ -325,7 +321,6 @@ pub +dictionary+elements+key+pair+pairs+part+sequence+struct-value+value-spec : 
     (λ c. search member-done))  -- returns-3
     (λ t. value-lts.spec (value-calls t) (value-at t) value.Post
     (λ c. row-not _ _ _ _ (omega arith))  -- returns
-    (λ c κs. search needs)  -- types-at-requires
     (λ c κs. search needs)  -- kind-requires
     (λ c κs. search needs)  -- bool-requires
     (λ c κs. search needs)  -- skip-requires

@@ -17,7 +17,6 @@ read-member-spec =
     (λ c κs. search needs)  -- bool-requires
     (λ c. search row-bool)  -- returns-3
     (λ c κs. search needs)  -- is-enum-requires
-    (λ c κs. search needs)  -- types-at-requires
     (λ c κs. search needs)  -- with-lists-requires
     (λ c κs. search needs)  -- type-row-requires
     (λ c κs. search needs)  -- greatest-requires

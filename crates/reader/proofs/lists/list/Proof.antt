@@ -35,7 +35,7 @@ list-spec =
     (λ c. omega arith)  -- sub-optional
     (λ c. search needs)  -- part-optional-start
     (λ c. search needs)  -- part-optional-end
-    (λ c κs. (search needs, (search needs, search listing-bound)))  -- optional-requires
+    (λ c κs. (search needs, (search needs, (search needs, search listing-bound))))  -- optional-requires
     (λ c. search needs)  -- enum-known-o
     (λ c. search listing-place)  -- add-put-row
     (λ c. search listing-start)  -- sub-put-row

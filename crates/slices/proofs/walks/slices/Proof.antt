@@ -105,7 +105,7 @@ slices-spec =
     (λ c. omega arith)  -- sub-next
     (λ c. search needs)  -- part-next-start
     (λ c. search needs)  -- part-next-end
-    (λ c κs. (c .before .before .before .before .before .before .before .before .before .before .before .before .before .before .before .before .before .before .members-at .ensures, (c .before .before .before .before .before .before .before .before .before .before .before .before .before .before .before .before .before .before .before .before .before .before .pre .1 .1, search inner-bound)))  -- next-requires
+    (λ c κs. (c .before .before .before .before .before .before .before .before .before .before .before .before .before .before .before .before .before .before .before .before .before .before .pre .0, (c .before .before .before .before .before .before .before .before .before .before .before .before .before .before .before .before .before .before .members-at .ensures, (c .before .before .before .before .before .before .before .before .before .before .before .before .before .before .before .before .before .before .before .before .before .before .pre .1 .1, search inner-bound))))  -- next-requires
     (λ c. search needs)  -- enum-told
     (λ c. search end-mark-fits)  -- add-at-2
     (λ c. search end-less)  -- loop-less
