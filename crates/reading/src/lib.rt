@@ -116,7 +116,7 @@ fn walk_more(table: &[u8], top: usize, message: &[u8], rows: &mut [u8]) -> Walk
 }
 
 // The reader: the answer, and the rows in the lent list, 12 bytes each; bytes after the rows stay, and on a refusal all of them.
-// Wrong and ruled out: a reader that writes the list on a refusal; one that takes the bytes of the list for its rows.
+// Wrong and ruled out: a reader that writes the list on a refusal; one that answers the same for every list.
 pub fn read(table: &[u8], top: u32, message: &[u8], rows: &mut [u8]) -> Reading
     ensures { λ r. ⌜ r ≡ readingOf (reading (now (table .entry)) top (now (message .entry)) (length (now (rows .entry)))) ⌝ }
     ensures { λ _. ⌜ now (rows .exit) ≡ listed (reading (now (table .entry)) top (now (message .entry)) (length (now (rows .entry)))) (now (rows .entry)) ⌝ }
@@ -129,7 +129,7 @@ pub fn read(table: &[u8], top: u32, message: &[u8], rows: &mut [u8]) -> Reading
 }
 
 // The reader's answer with a lent list of `room` bytes; no list is touched.
-// Wrong and ruled out: an answer that is the same for every room; one that takes the bytes of the list for its rows.
+// Wrong and ruled out: an answer that is the same for every room; one that exchanges optionals and slices skipped.
 pub fn answer(table: &[u8], top: u32, message: &[u8], room: usize) -> Reading
     ensures { λ r. ⌜ r ≡ readingOf (reading (now (table .entry)) top (now (message .entry)) room) ⌝ }
 {
