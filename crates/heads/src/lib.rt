@@ -2,7 +2,7 @@
 ghost use mathlib.Core.Path.{_≡_};
 ghost use mathlib.Core.Bool.{_&&_, not};
 ghost use Rattle.encoding.specs.Result.{must, sameBytes};
-ghost use Rattle.encoding.specs.Table.{nameOf};
+ghost use Rattle.encoding.specs.Table.{typesAt, nameOf};
 ghost use Rattle.encoding.specs.Slice.{formatOfFlags, mixed, due, flagForm, head, standOf, idForm, wrongLast, meaning, meaningForm};
 ghost use Rattle.wire.specs.Steps.{bytesOf};
 ghost use Rattle.heads.specs.Stages.{stageOf, idText, seekHeading, followHeading, heading, headAnswer};
@@ -80,15 +80,24 @@ fn id_text(due: bool, s: &[u8]) -> Sized
     Sized::Is(0, 0)
 }
 
-// Bit 5 (the last slice) is set on a row with a base, or not set on one without.
-fn wrong_last(table: &[u8], t: usize, last: bool) -> bool
+// Bit 5 (the last slice) is set on a row with a base, or not set on one without. Here and below, `begin` is where the type rows begin.
+fn wrong_last(table: &[u8], begin: usize, t: usize, last: bool) -> bool
+    requires { ⌜ begin ≡ typesAt (now table) ⌝ }
     ensures { λ r. ⌜ r ≡ wrongLast (now (table .entry)) t last ⌝ }
 {
-    last != (table::chain::base(table, table::types_at(table), t) == 0)
+    last != (table::chain::base(table, begin, t) == 0)
 }
 
 // An ID before the first known slice. Unknown: skipped, or 15, or 16. Known: the top or below it, or 17.
-fn seek_heading(table: &[u8], top: usize, flags: usize, id: &[u8], n: usize) -> Heading
+fn seek_heading(
+    table: &[u8],
+    begin: usize,
+    top: usize,
+    flags: usize,
+    id: &[u8],
+    n: usize,
+) -> Heading
+    requires { ⌜ begin ≡ typesAt (now table) ⌝ }
     ensures { λ r. ⌜ r ≡ seekHeading (now (table .entry)) top flags (now (id .entry)) n ⌝ }
 {
     let size = wire::has_size(flags);
@@ -97,7 +106,7 @@ fn seek_heading(table: &[u8], top: usize, flags: usize, id: &[u8], n: usize) -> 
     match found {
         Found::At(t) => {
             if table::chain::in_chain(table, t, top) {
-                if wrong_last(table, t, last) {
+                if wrong_last(table, begin, t, last) {
                     return Heading::Wrong(17, 0);
                 }
                 return Heading::Known(t, wire::has_optionals(flags), size, n);
@@ -117,11 +126,12 @@ fn seek_heading(table: &[u8], top: usize, flags: usize, id: &[u8], n: usize) -> 
 }
 
 // There is an ID, and it is not the name of row t.
-fn other_id(table: &[u8], sliced: bool, t: usize, id: &[u8]) -> bool
+fn other_id(table: &[u8], begin: usize, sliced: bool, t: usize, id: &[u8]) -> bool
+    requires { ⌜ begin ≡ typesAt (now table) ⌝ }
     ensures { λ r. ⌜ r ≡ sliced && not (sameBytes (now (id .entry)) (nameOf (now (table .entry)) t)) ⌝ }
 {
     if sliced {
-        return !table::naming::is_named(table, table::types_at(table), t, id);
+        return !table::naming::is_named(table, begin, t, id);
     }
     false
 }
@@ -129,38 +139,50 @@ fn other_id(table: &[u8], sliced: bool, t: usize, id: &[u8]) -> bool
 // An ID after a known slice: that of its base row, b - 1, or 17.
 fn follow_heading(
     table: &[u8],
+    begin: usize,
     sliced: bool,
     b: usize,
     flags: usize,
     id: &[u8],
     n: usize,
 ) -> Heading
+    requires { ⌜ begin ≡ typesAt (now table) ⌝ }
     ensures { λ r. ⌜ r ≡ followHeading (now (table .entry)) sliced b flags (now (id .entry)) n ⌝ }
 {
     if b == 0 {
         return Heading::Wrong(17, 0);
     }
-    if other_id(table, sliced, b - 1, id) {
+    if other_id(table, begin, sliced, b - 1, id) {
         return Heading::Wrong(17, 0);
     }
-    if wrong_last(table, b - 1, wire::is_last(flags)) {
+    if wrong_last(table, begin, b - 1, wire::is_last(flags)) {
         return Heading::Wrong(17, 0);
     }
     Heading::Known(b - 1, wire::has_optionals(flags), wire::has_size(flags), n)
 }
 
 // What flags and ID mean at this stage, n bytes taken.
-fn heading_at(table: &[u8], top: usize, stage: Stage, flags: usize, id: &[u8], n: usize) -> Heading
+fn heading_at(
+    table: &[u8],
+    begin: usize,
+    top: usize,
+    stage: Stage,
+    flags: usize,
+    id: &[u8],
+    n: usize,
+) -> Heading
+    requires { ⌜ begin ≡ typesAt (now table) ⌝ }
     ensures { λ r. ⌜ r ≡ heading (now (table .entry)) top stage flags (now (id .entry)) n ⌝ }
 {
     match stage {
-        Stage::Following(sliced, b) => follow_heading(table, sliced, b, flags, id, n),
-        _ => seek_heading(table, top, flags, id, n),
+        Stage::Following(sliced, b) => follow_heading(table, begin, sliced, b, flags, id, n),
+        _ => seek_heading(table, begin, top, flags, id, n),
     }
 }
 
 // Reads flags and type ID of the next slice: 14 and 13 for the flags, then the ID, then 15 to 17.
-pub fn slice_head(table: &[u8], top: usize, stage: Stage, s: &[u8]) -> Heading
+pub fn slice_head(table: &[u8], begin: usize, top: usize, stage: Stage, s: &[u8]) -> Heading
+    requires { ⌜ begin ≡ typesAt (now table) ⌝ }
     ensures { λ r. ⌜ r ≡ headAnswer (now (table .entry)) top (stageOf stage) (must (λ h. meaningForm (meaning (now (table .entry)) top (stageOf stage) h)) (head (standOf (stageOf stage)) (idForm (now (table .entry)) (stageOf stage))) (now (s .entry))) ⌝ }
 {
     if s.len() < 1 {
@@ -176,7 +198,7 @@ pub fn slice_head(table: &[u8], top: usize, stage: Stage, s: &[u8]) -> Heading
         Sized::Is(l, n) => {
             let e = 1 + n;
             let a = e - l;
-            heading_at(table, top, stage, flags, &s[a..e], e)
+            heading_at(table, begin, top, stage, flags, &s[a..e], e)
         }
         Sized::Isnt(d, p) => Heading::Wrong(d, 1 + p),
     }

@@ -23,11 +23,12 @@ use level::Members;
 use level::Optional;
 use wire::Step;
 
-// The next slice up to its data: skipped whole, or of a known row with the part that its data lie in.
-fn opening(table: &[u8], top: usize, stage: Stage, s: &[u8]) -> Opening
+// The next slice up to its data: skipped whole, or of a known row with the part that its data lie in. `begin` is where the type rows begin.
+fn opening(table: &[u8], begin: usize, top: usize, stage: Stage, s: &[u8]) -> Opening
+    requires { ⌜ begin ≡ typesAt (now table) ⌝ }
     ensures { λ r. ⌜ r ≡ opening (now (table .entry)) top (stageOf stage) (now (s .entry)) ⌝ }
 {
-    let head = heads::slice_head(table, top, stage, s);
+    let head = heads::slice_head(table, begin, top, stage, s);
     match head {
         Heading::Skip(n) => {
             let step = wire::read_declared(&s[n..], 4, 4);
@@ -146,7 +147,7 @@ pub fn slices(
     let mut first = 0;
     let mut answer = Walk::Stop(4, start);
     'slices: loop {
-        let o = opening(table, top, stage, &m[pos..]);
+        let o = opening(table, begin, top, stage, &m[pos..]);
         match o {
             Opening::Skip(n) => {
                 stage = Stage::Seeking;

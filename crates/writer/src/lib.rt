@@ -1,12 +1,13 @@
 // The whole message from its rows. Each function equals its definition on any table, rows, buffer and output.
 // One pass checks the rows and puts the message. On a second pass `judged` is true: the bytes of the rows were checked before and are not checked again.
-// slice.rt puts the rows of an owner and its slice, message.rt the slices of all owners.
+// slice.rt puts the rows of an owner and its slice, message.rt the slices of all owners. Each is given `begin`, where the table's type rows begin.
 pub mod message;
 pub mod slice;
 
 ghost use mathlib.Core.Path.{_≡_};
 ghost use Prim.Native.Nat.{_≤_, _<_};
 ghost use lib.ListN.{length};
+ghost use Rattle.encoding.specs.Table.{typesAt};
 ghost use Rattle.encoding.specs.Write.{output};
 ghost use Rattle.shapes.specs.Shapes.{shapesOf};
 ghost use Rattle.writer.specs.Messages.{written, outcomeOf};
@@ -35,6 +36,7 @@ pub enum Outcome {
 // A message that fits there is copied to the output; a longer one is put again, its parts not checked again.
 fn write_by_draft(
     table: &[u8],
+    begin: usize,
     shapes: &[u8; 256],
     top: usize,
     format: usize,
@@ -44,6 +46,7 @@ fn write_by_draft(
     draft: &mut [u8],
     out: &mut [u8],
 ) -> Outcome
+    requires { ⌜ begin ≡ typesAt (now table) ⌝ }
     requires { ⌜ now shapes ≡ shapesOf (now table) ⌝ }
     requires { ⌜ (top < 65536) × (count ≤ 4294967296) × (length (now buffer) ≤ 65536) ⌝ }
     ensures { λ r. ⌜ (r ≡ outcomeOf (written (now (table .entry)) top format count (now (rows .entry)) (now (buffer .entry)) (length (now (out .entry))))) × (now (out .exit) ≡ output (written (now (table .entry)) top format count (now (rows .entry)) (now (buffer .entry)) (length (now (out .entry)))) (now (out .entry))) ⌝ }
@@ -54,6 +57,7 @@ fn write_by_draft(
     let sliced = format != 0;
     let put = message::put_message(
         table,
+        begin,
         shapes,
         draft,
         top,
@@ -76,7 +80,18 @@ fn write_by_draft(
                 wire::put_part(out, 0, draft, 0, n);
                 return Outcome::Made(n);
             }
-            message::put_message(table, shapes, out, top, sliced, true, count, rows, buffer);
+            message::put_message(
+                table,
+                begin,
+                shapes,
+                out,
+                top,
+                sliced,
+                true,
+                count,
+                rows,
+                buffer,
+            );
             Outcome::Made(n)
         }
     }
@@ -86,6 +101,7 @@ fn write_by_draft(
 // The draft has 256 bytes if the buffer is short, else 1,024: a shorter one takes less time to clear.
 pub fn write_rows(
     table: &[u8],
+    begin: usize,
     shapes: &[u8; 256],
     top: usize,
     format: usize,
@@ -94,6 +110,7 @@ pub fn write_rows(
     buffer: &[u8],
     out: &mut [u8],
 ) -> Outcome
+    requires { ⌜ begin ≡ typesAt (now table) ⌝ }
     requires { ⌜ now shapes ≡ shapesOf (now table) ⌝ }
     requires { ⌜ (top < 65536) × (count ≤ 4294967296) × (length (now buffer) ≤ 65536) ⌝ }
     ensures { λ r. ⌜ (r ≡ outcomeOf (written (now (table .entry)) top format count (now (rows .entry)) (now (buffer .entry)) (length (now (out .entry))))) × (now (out .exit) ≡ output (written (now (table .entry)) top format count (now (rows .entry)) (now (buffer .entry)) (length (now (out .entry)))) (now (out .entry))) ⌝ }
@@ -102,6 +119,7 @@ pub fn write_rows(
         let mut few = [0u8; 256];
         return write_by_draft(
             table,
+            begin,
             shapes,
             top,
             format,
@@ -115,6 +133,7 @@ pub fn write_rows(
     let mut more = [0u8; 1024];
     write_by_draft(
         table,
+        begin,
         shapes,
         top,
         format,

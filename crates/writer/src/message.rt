@@ -4,7 +4,7 @@ use crate::slice;
 ghost use mathlib.Core.Path.{_≡_};
 ghost use Prim.Native.Nat.{_≤_, _<_};
 ghost use lib.ListN.{length};
-ghost use Rattle.encoding.specs.Table.{chain};
+ghost use Rattle.encoding.specs.Table.{typesAt, chain};
 ghost use Rattle.encoding.specs.Slice.{first, slicesBytes};
 ghost use Rattle.encoding.specs.Message.{encapsulate};
 ghost use Rattle.shapes.specs.Shapes.{shapesOf};
@@ -14,6 +14,7 @@ ghost use Rattle.writer.specs.Messages.{contentsOf, AllPut};
 // Checks the rows and puts the slices of row t and its bases.
 fn put_slices(
     table: &[u8],
+    begin: usize,
     shapes: &[u8; 256],
     out: &mut [u8],
     start: usize,
@@ -24,11 +25,11 @@ fn put_slices(
     rows: &[u8],
     buffer: &[u8],
 ) -> Put
+    requires { ⌜ begin ≡ typesAt (now table) ⌝ }
     requires { ⌜ now shapes ≡ shapesOf (now table) ⌝ }
     requires { ⌜ (start ≤ 7) × (t < 65536) × (count ≤ 4294967296) × (length (now buffer) ≤ 65536) ⌝ }
     ensures { λ r. ⌜ AllPut (now (table .entry)) (now (rows .entry)) (now (buffer .entry)) judged count t start (slicesBytes (formatBy sliced) first (slicesFrom (now (table .entry)) (now (rows .entry)) (now (buffer .entry)) count 0 (chain (now (table .entry)) t))) (now (out .entry)) (now (out .exit)) r ⌝ }
 {
-    let begin = table::types_at(table);
     let mut at = start;
     let mut o = t;
     let mut id = true;
@@ -37,6 +38,7 @@ fn put_slices(
         let up = table::chain::base(table, begin, o);
         let d = slice::put_slice(
             table,
+            begin,
             shapes,
             out,
             at,
@@ -69,6 +71,7 @@ fn put_slices(
 // Checks the rows and puts the data of an encapsulation: a parameter list, a class instance after its marker, or an exception.
 fn put_contents(
     table: &[u8],
+    begin: usize,
     shapes: &[u8; 256],
     out: &mut [u8],
     t: usize,
@@ -78,13 +81,26 @@ fn put_contents(
     rows: &[u8],
     buffer: &[u8],
 ) -> Put
+    requires { ⌜ begin ≡ typesAt (now table) ⌝ }
     requires { ⌜ now shapes ≡ shapesOf (now table) ⌝ }
     requires { ⌜ (t < 65536) × (count ≤ 4294967296) × (length (now buffer) ≤ 65536) ⌝ }
     ensures { λ r. ⌜ AllPut (now (table .entry)) (now (rows .entry)) (now (buffer .entry)) judged count t 6 (contentsOf (now (table .entry)) (now (rows .entry)) (now (buffer .entry)) count (formatBy sliced) t) (now (out .entry)) (now (out .exit)) r ⌝ }
 {
-    let k = table::kind(table, table::types_at(table), t);
+    let k = table::kind(table, begin, t);
     if k == 15 {
-        let d = slice::put_rows(table, shapes, out, 6, t, 0, judged, count, rows, buffer);
+        let d = slice::put_rows(
+            table,
+            begin,
+            shapes,
+            out,
+            6,
+            t,
+            0,
+            judged,
+            count,
+            rows,
+            buffer,
+        );
         if d.fault != 0 {
             return Put::Wrong(d.fault, d.row);
         }
@@ -97,6 +113,7 @@ fn put_contents(
         wire::put_number(out, 6, 1, 1);
         return put_slices(
             table,
+            begin,
             shapes,
             out,
             7,
@@ -110,6 +127,7 @@ fn put_contents(
     }
     put_slices(
         table,
+        begin,
         shapes,
         out,
         6,
@@ -125,6 +143,7 @@ fn put_contents(
 // Checks the rows and puts the message: the data, then the size and the version before them.
 pub fn put_message(
     table: &[u8],
+    begin: usize,
     shapes: &[u8; 256],
     out: &mut [u8],
     t: usize,
@@ -134,11 +153,23 @@ pub fn put_message(
     rows: &[u8],
     buffer: &[u8],
 ) -> Put
+    requires { ⌜ begin ≡ typesAt (now table) ⌝ }
     requires { ⌜ now shapes ≡ shapesOf (now table) ⌝ }
     requires { ⌜ (t < 65536) × (count ≤ 4294967296) × (length (now buffer) ≤ 65536) ⌝ }
     ensures { λ r. ⌜ AllPut (now (table .entry)) (now (rows .entry)) (now (buffer .entry)) judged count t 0 (encapsulate (contentsOf (now (table .entry)) (now (rows .entry)) (now (buffer .entry)) count (formatBy sliced) t)) (now (out .entry)) (now (out .exit)) r ⌝ }
 {
-    let put = put_contents(table, shapes, out, t, sliced, judged, count, rows, buffer);
+    let put = put_contents(
+        table,
+        begin,
+        shapes,
+        out,
+        t,
+        sliced,
+        judged,
+        count,
+        rows,
+        buffer,
+    );
     match put {
         Put::Made(n) => {
             wire::put_number(out, 0, 4, n);

@@ -8,6 +8,7 @@ ghost use mathlib.Core.Path.{_≡_};
 ghost use Prim.Native.Nat.{_+_, _≤_};
 ghost use lib.ListN.{length};
 ghost use Rattle.encoding.specs.Result.{pick};
+ghost use Rattle.encoding.specs.Table.{typesAt};
 ghost use Rattle.shapes.specs.Shapes.{shapesOf};
 ghost use Rattle.pieces.specs.Puts.{Puts};
 ghost use Rattle.writer.specs.Slices.{formatBy, idField, frontField, RowsPut, DataPut, SlicePut};
@@ -15,6 +16,7 @@ ghost use Rattle.writer.specs.Slices.{formatBy, idField, frontField, Row
 // Checks and puts the rows of owner o from row `first` on.
 pub fn put_rows(
     table: &[u8],
+    begin: usize,
     shapes: &[u8; 256],
     out: &mut [u8],
     start: usize,
@@ -25,11 +27,11 @@ pub fn put_rows(
     rows: &[u8],
     buffer: &[u8],
 ) -> Laid
+    requires { ⌜ begin ≡ typesAt (now table) ⌝ }
     requires { ⌜ now shapes ≡ shapesOf (now table) ⌝ }
     requires { ⌜ (start ≤ 576460752303423488) × (first ≤ count) × (count ≤ 4294967296) × (length (now buffer) ≤ 65536) ⌝ }
     ensures { λ r. ⌜ RowsPut (now (table .entry)) (now (rows .entry)) (now (buffer .entry)) judged count o first start (now (out .entry)) (now (out .exit)) r ⌝ }
 {
-    let begin = table::types_at(table);
     let mut from = Cursor {
         owner: o,
         passed: 0,
@@ -82,23 +84,24 @@ pub fn put_rows(
 }
 
 // How many bytes the type ID of owner o takes, if it is due.
-fn id_len(table: &[u8], o: usize, id: bool) -> usize
+fn id_len(table: &[u8], begin: usize, o: usize, id: bool) -> usize
+    requires { ⌜ begin ≡ typesAt (now table) ⌝ }
     ensures { λ r. ⌜ (r ≡ length (idField (now (table .entry)) o id)) × (r ≤ 65540) ⌝ }
 {
     if id {
-        let n = table::naming::name_length(table, table::types_at(table), o);
+        let n = table::naming::name_length(table, begin, o);
         return wire::size_len(n) + n;
     }
     0
 }
 
 // Puts the type ID of owner o, if it is due, and returns its end.
-fn put_id(table: &[u8], out: &mut [u8], at: usize, o: usize, id: bool) -> usize
+fn put_id(table: &[u8], begin: usize, out: &mut [u8], at: usize, o: usize, id: bool) -> usize
+    requires { ⌜ begin ≡ typesAt (now table) ⌝ }
     requires { ⌜ at ≤ 1152921504606846976 ⌝ }
     ensures { λ r. ⌜ Puts at (idField (now (table .entry)) o id) (now (out .entry)) (now (out .exit)) r × (r ≤ at + 65540) ⌝ }
 {
     if id {
-        let begin = table::types_at(table);
         let n = table::naming::name_length(table, begin, o);
         let name = table::naming::name_start(table, begin, o);
         let k = wire::size_len(n);
@@ -112,6 +115,7 @@ fn put_id(table: &[u8], out: &mut [u8], at: usize, o: usize, id: bool) -> usize
 // Checks the rows of owner o and puts a slice's data: the rows and, after optionals, byte 255.
 fn put_data(
     table: &[u8],
+    begin: usize,
     shapes: &[u8; 256],
     out: &mut [u8],
     start: usize,
@@ -122,12 +126,14 @@ fn put_data(
     rows: &[u8],
     buffer: &[u8],
 ) -> Laid
+    requires { ⌜ begin ≡ typesAt (now table) ⌝ }
     requires { ⌜ now shapes ≡ shapesOf (now table) ⌝ }
     requires { ⌜ (start ≤ 576460752303423488) × (first ≤ count) × (count ≤ 4294967296) × (length (now buffer) ≤ 65536) ⌝ }
     ensures { λ r. ⌜ DataPut (now (table .entry)) (now (rows .entry)) (now (buffer .entry)) judged count o first start (now (out .entry)) (now (out .exit)) r ⌝ }
 {
     let d = put_rows(
         table,
+        begin,
         shapes,
         out,
         start,
@@ -154,10 +160,11 @@ fn put_data(
 }
 
 // How many bytes come before a slice's data: flags, type ID, size.
-fn front_len(table: &[u8], o: usize, id: bool, sliced: bool) -> usize
+fn front_len(table: &[u8], begin: usize, o: usize, id: bool, sliced: bool) -> usize
+    requires { ⌜ begin ≡ typesAt (now table) ⌝ }
     ensures { λ r. ⌜ (r ≡ 1 + length (idField (now (table .entry)) o id) + pick sliced 4 0) × (r ≤ 65545) ⌝ }
 {
-    let n = 1 + id_len(table, o, id);
+    let n = 1 + id_len(table, begin, o, id);
     if sliced {
         return n + 4;
     }
@@ -167,6 +174,7 @@ fn front_len(table: &[u8], o: usize, id: bool, sliced: bool) -> usize
 // Puts what comes before a slice's data of n bytes and returns its end.
 fn put_front(
     table: &[u8],
+    begin: usize,
     out: &mut [u8],
     at: usize,
     o: usize,
@@ -176,11 +184,12 @@ fn put_front(
     last: bool,
     n: usize,
 ) -> usize
+    requires { ⌜ begin ≡ typesAt (now table) ⌝ }
     requires { ⌜ (at ≤ 576460752303423488) × (n ≤ 576460752303423488) ⌝ }
     ensures { λ r. ⌜ Puts at (frontField (now (table .entry)) o (formatBy sliced) id optionals last n) (now (out .entry)) (now (out .exit)) r ⌝ }
 {
     wire::put_number(out, at, 1, wire::slice_flags(id, optionals, sliced, last));
-    let a = put_id(table, out, at + 1, o, id);
+    let a = put_id(table, begin, out, at + 1, o, id);
     if sliced {
         wire::put_number(out, a, 4, 4 + n);
         return a + 4;
@@ -191,6 +200,7 @@ fn put_front(
 // Checks the rows of owner o and puts its slice: the data first, then what comes before them.
 pub fn put_slice(
     table: &[u8],
+    begin: usize,
     shapes: &[u8; 256],
     out: &mut [u8],
     at: usize,
@@ -204,13 +214,15 @@ pub fn put_slice(
     rows: &[u8],
     buffer: &[u8],
 ) -> Laid
+    requires { ⌜ begin ≡ typesAt (now table) ⌝ }
     requires { ⌜ now shapes ≡ shapesOf (now table) ⌝ }
     requires { ⌜ (at ≤ 288230376151711744) × (first ≤ count) × (count ≤ 4294967296) × (length (now buffer) ≤ 65536) ⌝ }
     ensures { λ r. ⌜ SlicePut (now (table .entry)) (now (rows .entry)) (now (buffer .entry)) judged count (formatBy sliced) id last o first at (now (out .entry)) (now (out .exit)) r ⌝ }
 {
-    let start = at + front_len(table, o, id, sliced);
+    let start = at + front_len(table, begin, o, id, sliced);
     let d = put_data(
         table,
+        begin,
         shapes,
         out,
         start,
@@ -225,6 +237,6 @@ pub fn put_slice(
         return d;
     }
     let n = d.end - start;
-    put_front(table, out, at, o, id, sliced, d.optionals, last, n);
+    put_front(table, begin, out, at, o, id, sliced, d.optionals, last, n);
     d
 }

@@ -28,8 +28,9 @@ fn checked(
         Prepared::Refused(c, q) => Outcome::Stopped(c, q),
         Prepared::Ready => {
             let mut shapes = [0u8; 256];
-            shapes::fill(table, table::types_at(table), &mut shapes);
-            writer::write_rows(table, &shapes, top, format, count, rows, buffer, out)
+            let begin = table::types_at(table);
+            shapes::fill(table, begin, &mut shapes);
+            writer::write_rows(table, begin, &shapes, top, format, count, rows, buffer, out)
         }
     }
 }

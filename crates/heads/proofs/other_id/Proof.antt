@@ -8,7 +8,6 @@ pub other-id-spec : {M : Type 1} → statement M
 other-id-spec =
     tie.close
     (tie.spec
-    (λ c κs. search needs)  -- types-at-requires
     (λ c κs. search needs)  -- is-named-requires
     (λ c. search other-named)  -- returns
     (λ c. search other-bare))  -- returns-2

@@ -8,6 +8,5 @@ pub wrong-last-spec : {M : Type 1} → statement M
 wrong-last-spec =
     tie.close
     (tie.spec
-    (λ c κs. search needs)  -- types-at-requires
     (λ c κs. search needs)  -- base-requires
     (λ c. last-wrong _ _ _ _ (c .base .ensures .0)))  -- returns

@@ -7,7 +7,7 @@ use Rattle.writing.proofs.checked.Statement.{statement}
 use Rattle.writing.proofs.checked.Tie as tie
 
 write-rows-requires : tie.Need-write-rows-requires
-write-rows-requires c κs = (search needs, (search ready-top, omega arith, search ready-short))
+write-rows-requires c κs = (search needs, (search needs, (search ready-top, omega arith, search ready-short)))
 
 returns : tie.Need-returns
 returns c = ((search refused-outcome, search refused-fits), search refused-output)

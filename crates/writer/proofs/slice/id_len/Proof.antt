@@ -8,7 +8,6 @@ pub id-len-spec : {M : Type 1} → statement M
 id-len-spec =
     tie.close
     (tie.spec
-    (λ c κs. search needs)  -- types-at-requires
     (λ c κs. search needs)  -- name-length-requires
     (λ c κs. search needs)  -- size-len-requires
     (λ c. search needs)  -- add-result
