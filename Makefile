@@ -49,6 +49,8 @@ run: $(TOOL)
 	@$(TOOL) show samples/fault.table ::Guard::Fault samples/fault-damaged.message || [ $$? -eq 1 ]
 	@echo && echo '--- a valve state that is not on its list'
 	@$(TOOL) show samples/valve.table 3 samples/valve-between.message || [ $$? -eq 1 ]
+	@echo && echo '--- an owner'\''s name that is no text'
+	@$(TOOL) show samples/owner.table 1 samples/owner-latin.message || [ $$? -eq 1 ]
 
 ## test: the gate: prove every crate from nothing, try the wrong edits, run the programs, then `make callers`
 test:

@@ -51,6 +51,11 @@ enum {
  * header and length field; a string, sequence or dictionary begins with its own size, also where that size serves as
  * the length field (an optional string, or sequence of bool or byte). */
 
+/* Every string of an accepted message is text: well-formed UTF-8 as RFC 3629 has it, with the shortest form of each
+ * character, no surrogates, nothing above U+10FFFF. So are type IDs, and the names of a table's records. A string may be
+ * empty, may hold U+0000 and has no zero byte at its end: its length is its size. What is skipped is not judged:
+ * optionals and slices that the table does not know. Nor are the bytes of an endpoint. */
+
 /* The format of a record. A parameter list has ICEHUB_SLICED. */
 enum icehub_format {
     ICEHUB_COMPACT = 0, /* only the first slice has a type ID, none has a size */
@@ -111,6 +116,8 @@ enum icehub_refusal {
     ICEHUB_OUTPUT_TOO_LONG = 22,
     /* the format is not 0 or 1, or is 0 for a parameter list. Place: 0. */
     ICEHUB_BAD_FORMAT = 23,
+    /* a string is not well-formed UTF-8. Place: its size. */
+    ICEHUB_BAD_TEXT = 24,
     /* 31 to 39: the table breaks a rule, the first of this order that its first broken row breaks. Lists of enumerators
      * (39) are judged after all type rows. */
     /* the table's header is wrong, or its length is not what the header says. Place: 0. */
@@ -128,8 +135,8 @@ enum icehub_refusal {
     ICEHUB_BAD_TABLE_MEMBERS = 35,
     /* a struct of the table has no member, or a member's mark is wrong. Place: the row's first byte, in the table. */
     ICEHUB_BAD_TABLE_MARK = 36,
-    /* a record's name lies outside the table's name bytes, is not 1 to 255 bytes long, or is another record's.
-     * Place: the row's first byte, in the table. */
+    /* a record's name lies outside the table's name bytes, is not 1 to 255 bytes long, is not well-formed UTF-8, or is
+     * another record's. Place: the row's first byte, in the table. */
     ICEHUB_BAD_TABLE_NAME = 37,
     /* a tag or an enum's greatest enumerator is over 2,147,483,647, or an owner has a tag twice. Place: the row's
      * first byte, in the table. */
@@ -372,6 +379,7 @@ static inline const char *icehub_refusal_name(uint32_t refusal)
     case ICEHUB_BAD_ROW_BYTES: return "BAD_ROW_BYTES";
     case ICEHUB_OUTPUT_TOO_LONG: return "OUTPUT_TOO_LONG";
     case ICEHUB_BAD_FORMAT: return "BAD_FORMAT";
+    case ICEHUB_BAD_TEXT: return "BAD_TEXT";
     case ICEHUB_BAD_TABLE_HEADER: return "BAD_TABLE_HEADER";
     case ICEHUB_BAD_TABLE_ZEROS: return "BAD_TABLE_ZEROS";
     case ICEHUB_BAD_TABLE_KIND: return "BAD_TABLE_KIND";
@@ -420,6 +428,7 @@ static inline const char *icehub_refusal_text(uint32_t refusal)
     case ICEHUB_BAD_ROW_BYTES: return "writer: the bytes are not exactly a value of the member's type";
     case ICEHUB_OUTPUT_TOO_LONG: return "the output is longer than its room or 65,536 bytes";
     case ICEHUB_BAD_FORMAT: return "the format is not 0 or 1, or is 0 for a parameter list";
+    case ICEHUB_BAD_TEXT: return "a string is not well-formed UTF-8";
     case ICEHUB_BAD_TABLE_HEADER: return "the table's header is wrong, or its length is not what the header says";
     case ICEHUB_BAD_TABLE_ZEROS:
         return "in a row of the table a zero byte or an unused field is not 0, or a required member has a "
@@ -430,8 +439,8 @@ static inline const char *icehub_refusal_text(uint32_t refusal)
     case ICEHUB_BAD_TABLE_MEMBERS: return "the table's member rows are not taken in turn, or not all taken";
     case ICEHUB_BAD_TABLE_MARK: return "a struct of the table has no member, or a member's mark is wrong";
     case ICEHUB_BAD_TABLE_NAME:
-        return "a record's name lies outside the table's name bytes, is not 1 to 255 bytes long, or is "
-               "another record's";
+        return "a record's name lies outside the table's name bytes, is not 1 to 255 bytes long, is not "
+               "well-formed UTF-8, or is another record's";
     case ICEHUB_BAD_TABLE_TAG:
         return "a tag or an enum's greatest enumerator is over 2,147,483,647, or an owner has a tag twice";
     case ICEHUB_BAD_TABLE_ENUMERATORS:

@@ -159,7 +159,7 @@ getters! {
     as_f32 -> f32;
     /// A double or a float.
     as_f64 -> f64;
-    /// A string, if it is UTF-8.
+    /// A string.
     as_str -> &'a str;
     /// The bytes of a string or of a sequence of bytes, without its size.
     as_bytes -> &'a [u8];

@@ -130,6 +130,7 @@ reasons! {
     OutputTooLong = 22, "OUTPUT_TOO_LONG": "the output is longer than its room or 65,536 bytes",
         "the number of bytes needed";
     BadFormat = 23, "BAD_FORMAT": "the format is not 0 or 1, or is 0 for a parameter list", "0";
+    BadText = 24, "BAD_TEXT": "a string is not well-formed UTF-8", "its size";
     BadTableHeader = 31, "BAD_TABLE_HEADER": "the table's header is wrong, or its length is not what the header says",
         "0";
     BadTableZeros = 32, "BAD_TABLE_ZEROS":
@@ -145,7 +146,8 @@ reasons! {
     BadTableMark = 36, "BAD_TABLE_MARK": "a struct of the table has no member, or a member's mark is wrong",
         "the row's first byte, in the table";
     BadTableName = 37, "BAD_TABLE_NAME":
-        "a record's name lies outside the table's name bytes, is not 1 to 255 bytes long, or is another record's",
+        "a record's name lies outside the table's name bytes, is not 1 to 255 bytes long, is not well-formed UTF-8, or \
+        is another record's",
         "the row's first byte, in the table";
     BadTableTag = 38, "BAD_TABLE_TAG":
         "a tag or an enum's greatest enumerator is over 2,147,483,647, or an owner has a tag twice",
@@ -221,12 +223,12 @@ mod tests {
     fn numbers() {
         assert_eq!(
             Reason::ALL.iter().map(|reason| reason.number()).collect::<Vec<_>>(),
-            (2..=23).chain(31..=39).collect::<Vec<_>>()
+            (2..=24).chain(31..=39).collect::<Vec<_>>()
         );
         for reason in Reason::ALL {
             assert_eq!(Reason::from_number(reason.number()), Some(*reason));
         }
-        assert!([0, 1, 24, 30, 40].into_iter().all(|number| Reason::from_number(number).is_none()));
+        assert!([0, 1, 25, 30, 40].into_iter().all(|number| Reason::from_number(number).is_none()));
     }
 
     #[test]

@@ -25,7 +25,7 @@ pub enum Kind {
     Float = 5,
     /// 6: a floating-point number of eight bytes.
     Double = 6,
-    /// 7: a size and that many bytes.
+    /// 7: a size and that many bytes of UTF-8.
     String = 7,
     /// 8: a size, one of the numbers that the enum allows.
     Enum = 8,
@@ -183,7 +183,7 @@ impl<'a> Table<'a> {
     }
 
     /// The exception or class of this name.
-    pub fn named(self, name: &[u8]) -> Option<TypeRow<'a>> {
+    pub fn named(self, name: &str) -> Option<TypeRow<'a>> {
         self.type_rows().find(|row| row.name() == Some(name))
     }
 
@@ -276,11 +276,12 @@ impl<'a> TypeRow<'a> {
     }
 
     /// The name of an exception or a class: its type ID.
-    pub fn name(self) -> Option<&'a [u8]> {
+    pub fn name(self) -> Option<&'a str> {
         if !self.kind().is_record() {
             return None;
         }
-        self.table.names().get(usize::from(self.field(3))..)?.get(..usize::from(self.field(4)))
+        let name = self.table.names().get(usize::from(self.field(3))..)?.get(..usize::from(self.field(4)))?;
+        core::str::from_utf8(name).ok()
     }
 
     /// The greatest enumerator of an enum.

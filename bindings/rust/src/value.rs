@@ -1,6 +1,7 @@
 //! The values of members, from their bytes.
 //!
-//! The library has judged these bytes; this module takes them apart and decides nothing.
+//! The library has judged these bytes; this module takes them apart. It checks again only what safe Rust needs: that they
+//! are there, and that a string is UTF-8. So a wrong library, or an older one that judges no text, cannot make a bad `str`.
 
 use crate::{Kind, TypeRow};
 use core::iter::FusedIterator;
@@ -23,8 +24,8 @@ pub enum Value<'a> {
     Float(f32),
     /// A double.
     Double(f64),
-    /// The bytes of a string, without its size. Whether they are text is not judged.
-    String(&'a [u8]),
+    /// A string, without its size.
+    String(&'a str),
     /// An enumerator's number.
     Enum(u32),
     /// The members of a struct.
@@ -45,7 +46,8 @@ impl<'a> Value<'a> {
         (length == bytes.len()).then_some(value)
     }
 
-    /// The value of a type at the start of these bytes, and its length; none where they run out before it ends.
+    /// The value of a type at the start of these bytes, and its length; none where they run out before it ends, or where
+    /// a string in it is not UTF-8.
     ///
     /// Nothing else is judged: a bool of 2 is true, an enumerator may be any number.
     pub fn at_front(of: TypeRow<'a>, bytes: &'a [u8]) -> Option<(Value<'a>, usize)> {
@@ -110,10 +112,10 @@ impl<'a> Value<'a> {
         }
     }
 
-    /// A string, if it is UTF-8.
+    /// A string.
     pub fn as_str(&self) -> Option<&'a str> {
         match self {
-            Value::String(bytes) => core::str::from_utf8(bytes).ok(),
+            Value::String(text) => Some(text),
             _ => None,
         }
     }
@@ -121,7 +123,7 @@ impl<'a> Value<'a> {
     /// The bytes of a string or of a sequence of bytes, without its size.
     pub fn as_bytes(&self) -> Option<&'a [u8]> {
         match self {
-            Value::String(bytes) => Some(bytes),
+            Value::String(text) => Some(text.as_bytes()),
             Value::Sequence(elements) if elements.of.kind() == Kind::Byte => Some(elements.rest.0),
             _ => None,
         }
@@ -258,15 +260,15 @@ impl<'a> Iterator for Entries<'a> {
     }
 }
 
-/// A proxy that is not nil. Its strings are bytes: whether they are text is not judged.
+/// A proxy that is not nil.
 #[derive(Clone, Debug)]
 pub struct Proxy<'a> {
     /// The name of the identity.
-    pub name: &'a [u8],
+    pub name: &'a str,
     /// The category of the identity.
-    pub category: &'a [u8],
+    pub category: &'a str,
     /// The facet, if it is not the default one.
-    pub facet: Option<&'a [u8]>,
+    pub facet: Option<&'a str>,
     /// 0 twoway, 1 oneway, 2 batch oneway, 3 datagram, 4 batch datagram.
     pub mode: u8,
     /// Whether secure endpoints are required.
@@ -278,7 +280,7 @@ pub struct Proxy<'a> {
     /// The endpoints.
     pub endpoints: Endpoints<'a>,
     /// The object adapter, of a proxy without endpoints.
-    pub adapter: Option<&'a [u8]>,
+    pub adapter: Option<&'a str>,
 }
 
 /// The endpoints of a proxy, in order.
@@ -348,9 +350,9 @@ impl<'a> Rest<'a> {
         }
     }
 
-    fn string(&mut self) -> Option<&'a [u8]> {
+    fn string(&mut self) -> Option<&'a str> {
         let size = self.size()?;
-        self.take(size as usize)
+        core::str::from_utf8(self.take(size as usize)?).ok()
     }
 
     fn value(&mut self, of: TypeRow<'a>) -> Option<Value<'a>> {

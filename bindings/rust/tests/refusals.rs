@@ -85,6 +85,19 @@ fn values() {
     assert_eq!(one((PROXY, None), "00 01 41"), (Reason::BadProxy, 6));
 }
 
+/// A string that is no text: at its size; 21 in the writer.
+#[test]
+fn text() {
+    assert_eq!(one((STRING, None), "03 ED A0 80"), (Reason::BadText, 6));
+    assert_eq!(one((STRING, Some(1)), "0D 01 FF"), (Reason::BadText, 7));
+    assert_eq!(one((STRINGS, None), "02 00 02 C0 80"), (Reason::BadText, 8));
+    assert_eq!(one((PROXY, None), "00 01 FF"), (Reason::BadText, 7));
+    assert_eq!(exception("31 01 FF 04 00 00 00"), (Reason::BadText, 7));
+    let row = row((0, 0, 2)).to_bytes();
+    let refusal = write(&table(&[(STRING, None)]), LIST, Format::Sliced, &row, &[1, 0xFF], &mut [0; 16]).unwrap_err();
+    assert_eq!(told(refusal), (Reason::BadRowBytes, 0));
+}
+
 #[test]
 fn optionals() {
     assert_eq!(one((STRINGS, Some(1)), "0E 00 00 00 00"), (Reason::BadLength, 7));

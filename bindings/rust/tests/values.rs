@@ -20,7 +20,7 @@ fn every_kind() {
     assert_eq!(member(10).as_str(), Some("Kjøkken, 21 °C"));
     assert_eq!(member(13).as_f32(), Some(-21.3));
     assert_eq!(member(14).as_f64(), Some(1013.25));
-    assert_eq!(member(15).as_bytes(), Some(&b"\0\x1B[2J"[..]));
+    assert_eq!((member(15).as_str(), member(15).as_bytes()), (Some("\0\x1B[2J"), Some(&b"\0\x1B[2J"[..])));
     assert_eq!(member(17).as_bytes(), Some(&(0..20).collect::<Vec<u8>>()[..]));
 
     let fields: Vec<_> = member(11).as_struct().unwrap().collect();
@@ -32,9 +32,9 @@ fn every_kind() {
     let entries: Vec<_> = entries.map(|(key, value)| (key.as_str().unwrap(), value.as_i32().unwrap())).collect();
     assert_eq!(entries, [("pipe", -500), ("room", 1800)]);
     let proxy = member(9).as_proxy().unwrap();
-    assert_eq!((proxy.name, proxy.category, proxy.facet), (&b"guard"[..], &b""[..], None));
+    assert_eq!((proxy.name, proxy.category, proxy.facet), ("guard", "", None));
     assert_eq!((proxy.mode, proxy.secure, proxy.protocol, proxy.encoding), (0, false, (1, 0), (1, 1)));
-    assert_eq!((proxy.endpoints.len(), proxy.adapter), (0, Some(&b"hub"[..])));
+    assert_eq!((proxy.endpoints.len(), proxy.adapter), (0, Some("hub")));
 }
 
 /// A getter of another type gives none: no long is taken for an int. A wider number takes a narrower one.
@@ -59,7 +59,7 @@ fn endpoints() {
     let bytes = b"\x01n\x01c\x01\x01f\x04\x01\x01\x00\x01\x01\x02\x01\x00\x07\x00\x00\x00\x01\x01\xAA\xFE\xFF\x06\x00\x00\x00\x01\x00";
     let value = Value::new(table.type_row(13).unwrap(), bytes).unwrap();
     let proxy = value.as_proxy().unwrap();
-    assert_eq!((proxy.category, proxy.facet, proxy.mode, proxy.secure), (&b"c"[..], Some(&b"f"[..]), 4, true));
+    assert_eq!((proxy.category, proxy.facet, proxy.mode, proxy.secure), ("c", Some("f"), 4, true));
     let endpoints: Vec<_> = proxy.endpoints.map(|one| (one.of, one.encoding, one.bytes.len())).collect();
     assert_eq!((endpoints, proxy.adapter), (vec![(1, (1, 1), 9), (-2, (1, 0), 8)], None));
     assert!(matches!(Value::new(table.type_row(13).unwrap(), &[0, 0]), Some(Value::Proxy(None))));
@@ -78,13 +78,28 @@ fn no_value() {
     assert_eq!(Value::at_front(row(10), b"\x01\x01\x00\x09").unwrap().1, 3);
 }
 
+/// Bytes that the library has not judged: a string that is not UTF-8 makes no value, wherever it is in it.
+#[test]
+fn no_text() {
+    let table = Table::new(TABLE).unwrap();
+    let value = |number, bytes| Value::new(table.type_row(number).unwrap(), bytes);
+    assert_eq!(value(7, "\x03\u{20AC}".as_bytes()).unwrap().as_str(), Some("\u{20AC}"));
+    for bytes in [&b"\x01\xFF"[..], b"\x02\xE2\x82", b"\x02\xC0\x80", b"\x03\xED\xA0\x80", b"\x04\xF4\x90\x80\x80"] {
+        assert!(value(7, bytes).is_none(), "{bytes:02X?}");
+    }
+    assert!(value(12, b"\x01\x01k\0\0\0\0").is_some() && value(12, b"\x01\x01\xFF\0\0\0\0").is_none());
+    let (proxy, name) = (b"\x01n\0\0\0\0\x01\0\x01\x01\0\0", b"\x01\xFF\0\0\0\0\x01\0\x01\x01\0\0");
+    assert!(value(13, proxy).is_some() && value(13, name).is_none());
+    assert_eq!(value(11, b"\x01\xFF").unwrap().as_bytes(), Some(&[0xFF][..]));
+}
+
 #[test]
 fn rows_of_a_table() {
     let table = Table::new(TABLE).unwrap();
     assert_eq!((table.version(), table.types(), table.members(), table.names().len()), (1, 16, 19, 29));
-    let report = table.named(b"::Guard::Report").unwrap();
+    let report = table.named("::Guard::Report").unwrap();
     assert_eq!((report.number(), report.kind(), report.members(), report.place()), (15, Kind::Class, 10..19, 192));
-    assert_eq!(report.base().unwrap().name(), Some(&b"::Guard::State"[..]));
+    assert_eq!(report.base().unwrap().name(), Some("::Guard::State"));
     assert_eq!(report.base().unwrap().base(), None);
     let last = table.member_row(18).unwrap();
     assert_eq!(
@@ -125,5 +140,9 @@ fn a_broken_table() {
     bytes[108] = 99;
     let refusal = Table::new(&bytes).unwrap_err();
     assert_eq!((refusal.reason(), refusal.place), (Some(Reason::BadTableKind), 108));
+    let mut bytes = TABLE.to_vec();
+    bytes[356] = 0xFF;
+    let refusal = Table::new(&bytes).unwrap_err();
+    assert_eq!((refusal.reason(), refusal.place), (Some(Reason::BadTableName), 180));
     assert_eq!(Table::new(&[]).unwrap_err().place, 0);
 }

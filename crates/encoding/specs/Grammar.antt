@@ -23,6 +23,7 @@ use mathlib.Core.Path.{_≡_}
 use mathlib.Core.List.{List, [], _∷_, _++_}
 use Prim.Native.Nat.{ℕ, zero, suc, _+_, _≤_, _<_}
 use lib.ListN.{length, getD}
+use Rattle.encoding.specs.Utf8.{Utf8}
 use Rattle.encoding.specs.Number.{val, Short}
 use Rattle.encoding.specs.Types.{Allowed, upto, only, Num, short, int, long, float, double, Ty, Tys, nil, cons, broken, bool, byte, string, proxy, num, enum, struct, seq, dict, Bits, f1, f2, f4, f8, size, vsize, fsize, class}
 
@@ -65,9 +66,10 @@ pub data Counted (P : List ℕ → Type 0) : List ℕ → Type 0 where
 
 -- ---- strings and proxies
 
--- any content, as long as a size can say
+-- text, as long as a size can say
 pub record InString (t : List ℕ) : Type 0 where
   pub length-short : Short (length t)
+  pub is-text : Utf8 t
 
 -- its size, then its bytes
 pub data IsString (t : List ℕ) : List ℕ → Type 0 where

@@ -18,7 +18,7 @@ use borrow.Author.Tests.{ltb-true, ltb-false, lt-ltb}
 use Rattle.encoding.specs.Result.{ok, Parser, pick, _>>=_, pure, fail, chunk, skip, item, must, mapc, times}
 use Rattle.encoding.specs.ResultLaws.{ok≢bad, pick-true, Bound, bind-ok, bind-take, bind-written, pure-ok, chunk-ok, chunk-written, item-ok, item-step, must-ok, must-step, mapc-ok, mapc-step}
 use Rattle.encoding.specs.Number.{Short, val, number, byte, sizeForm, sizeTail, size, lengthForm, declared, Content, string}
-use Rattle.encoding.specs.NumberLaws.{byte-written, byte-canonical, sizeForm-ok, sizeForm-step, lengthForm-ok, lengthForm-step}
+use Rattle.encoding.specs.NumberLaws.{content-ok, content-step, byte-written, byte-canonical, sizeForm-ok, sizeForm-step, lengthForm-ok, lengthForm-step}
 use Rattle.encoding.specs.Grammar.{_⨾_, both, Repeats, none, more, Counted, counted, AnyBytes, ByteBelow, below, IsInt, IsSize, one-byte, with-int, IsString, spelt}
 
 pub record Reads {A : Type 0} (p : Parser A) (P : A → List ℕ → Type 0) : Type 0 where
@@ -248,15 +248,15 @@ reads-declared least own o =
     back {d} (after-int l i) = (own + length d, both (l, i) (refl, omega arith))
 
 pub reads-string : Reads string IsString
-unfolding string Content
-reads-string = reads-as (λ t b w. onward (w .1)) (λ t b w. back w) (reads-must Content reads-sized)
+unfolding string
+reads-string = reads-as (λ t b w. onward (w .0) (w .1)) (λ t b w. back w) (reads-must Content reads-sized)
   where
     size-short : {n : ℕ} {b : List ℕ} → IsSize n b → Short n
     size-short (one-byte l) = omega arith
     size-short (with-int g k i) = i .short
 
-    onward : {t b : List ℕ} → SizeThen t b → IsString t b
-    onward (after-size s) = spelt s (record { length-short = size-short s })
+    onward : {t b : List ℕ} → Content t ≡ 0 → SizeThen t b → IsString t b
+    onward {t} c (after-size s) = spelt s (record { length-short = size-short s; is-text = content-ok t c })
 
     back : {t b : List ℕ} → IsString t b → (Content t ≡ 0) × SizeThen t b
-    back (spelt s i) = (refl, after-size s)
+    back {t} (spelt s i) = (content-step t (i .is-text), after-size s)

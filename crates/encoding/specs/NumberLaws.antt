@@ -3,6 +3,7 @@
 --   val-leBytes, leBytes-val      a number written is the number read, and the other way round, of any width
 --   size-short, size-long         what a size is written as
 --   -written, -canonical          what the encoder makes is read back; what was read is what the encoder makes
+--   content-ok, -step             what a string may hold is text
 --   closed-                       each reader has every property that all ways of joining readers keep; framed- and held- are the frame and the extent
 --   eats-, starved-, ends-        of each reader, the last of those that deliver bytes
 use mathlib.Core.Path.{_≡_, refl, sym, ap, _∙_, subst}
@@ -16,7 +17,9 @@ use lib.Dec.{ltb}
 use borrow.Author.Tests.{leb-false, ltb-true, ltb-false, lt-leb, lt-ltb, le-ltb}
 use mathlib.Core.Option.{Option}
 use Rattle.encoding.specs.Result.{Parser, ok, pick, _>>=_, pure, chunk, item, must, firstOf}
-use Rattle.encoding.specs.ResultLaws.{Closed, by-pick, held, pick-judges, firstOf-judges, none-judges, Bound, bind-ok, bind-step, bind-take, bind-written, pure-ok, chunk-ok, chunk-written, item-ok, item-step, must-ok, must-step, firstOf-ok, Held, Ends, ends-chunk, ends-item, ends-bind, Eats, eats-chunk, eats-first, eats-item, eats-must, eats-mapc, Starved, starved-chunk}
+use Rattle.encoding.specs.ResultLaws.{Closed, by-pick, held, pick-true, pick-judges, firstOf-judges, none-judges, Bound, bind-ok, bind-step, bind-take, bind-written, pure-ok, chunk-ok, chunk-written, item-ok, item-step, must-ok, must-step, firstOf-ok, Held, Ends, ends-chunk, ends-item, ends-bind, Eats, eats-chunk, eats-first, eats-item, eats-must, eats-mapc, Starved, starved-chunk}
+use Rattle.encoding.specs.Utf8.{isUtf8, Utf8}
+use Rattle.encoding.specs.Utf8Laws.{utf8-ok, utf8-step}
 use Rattle.encoding.specs.Number.{Bytes, val, leBytes, negative, number, byte, boolForm, bool, sizeForm, sizeTail, size, sizeBytes, lengthForm, declared, Content, string, stringBytes}
 
 -- ---- bytes
@@ -119,7 +122,7 @@ module _ {P : (A : Type 0) → Parser A → Type 0} {Stops : (List ℕ → Optio
 
   pub closed-string : P (List ℕ) string
   unfolding string Content
-  closed-string = C .by-must _ (C .by-item _ (C .by-bind size _ closed-size (λ n. C .by-chunk n (λ b. b)))) Content (λ b. refl)
+  closed-string = C .by-must _ (C .by-item _ (C .by-bind size _ closed-size (λ n. C .by-chunk n (λ b. b)))) Content (λ b. pick-judges (isUtf8 b) 0 24 refl refl)
 
 pub held-byte : Held byte
 held-byte = closed-byte held
@@ -286,6 +289,14 @@ declared-canonical least own xs b o {d} {n} h = go (bind-ok (must (lengthForm le
         )
 
 -- ---- strings
+
+pub content-ok : (b : List ℕ) → Content b ≡ 0 → Utf8 b
+unfolding Content
+content-ok b h = utf8-ok b (pick-true (isUtf8 b) 23 h)
+
+pub content-step : (b : List ℕ) → Utf8 b → Content b ≡ 0
+unfolding Content
+content-step b u = rw (utf8-step b u)
 
 pub eats-string : Eats string
 unfolding string

@@ -1,12 +1,12 @@
--- Each refusal of a reader or a writer, 2 to 23, by a call on a few bytes for each of its reasons in document 01: its number and its place.
+-- Each refusal of a reader or a writer, 2 to 24, by a call on a few bytes for each of its reasons in document 01: its number and its place.
 -- Only 22 of a message above 65,536 bytes has no case here: `TooLong` promises it of all messages.
--- It fixes which number a reason has: a promise about all messages says of 7 to 18 only that they come inside the encapsulation.
+-- It fixes which number a reason has: a promise about all messages says of 7 to 18 and 24 only that they come inside the encapsulation.
 --
 --   records                                  a table of two exceptions and a class
 --   lone r, loneOptional r                   tables of a parameter list with one member
---   readerCases, reader-refuses              2 and 4 to 18, in the order of document 01's table
+--   readerCases, reader-refuses              2 and 4 to 18, in the order of document 01's table, then 24
 --   short-list                               19
---   writerCases, writer-refuses              2 and 20 to 23
+--   writerCases, writer-refuses              2 and 20 to 23; wrong-text: 21 for a string that is no text
 --   record-written                           a record that is written, byte by byte
 --   long-message, long-buffer                3, one byte above the limit
 --   longest-message, longest-buffer          at the limit there is no 3
@@ -135,10 +135,30 @@ readerCases =
     ∷ refuses records 1 (17 ∷ 1 ∷ 68 ∷ 4 ∷ 0 ∷ 0 ∷ 0 ∷ 17 ∷ 1 ∷ 68 ∷ 4 ∷ 0 ∷ 0 ∷ 0 ∷ []) 17 13  -- D where its base is due
     ∷ refuses records 1 (1 ∷ 1 ∷ 68 ∷ 0 ∷ 7 ∷ []) 17 9  -- no bit 5 on the base B
     ∷ refuses records 1 (33 ∷ 1 ∷ 66 ∷ 7 ∷ 0 ∷ []) 18 10  -- 18: a byte after the record
+    ∷ refuses (lone (basic 7)) 1 (1 ∷ 0x80 ∷ []) 24 6  -- 24: a later byte without its first
+    ∷ refuses (lone (basic 7)) 1 (3 ∷ 65 ∷ 0xE2 ∷ 0x82 ∷ []) 24 6  -- a character cut off
+    ∷ refuses (lone (basic 7)) 1 (2 ∷ 0xC1 ∷ 0xBF ∷ []) 24 6  -- two bytes where one is enough
+    ∷ refuses (lone (basic 7)) 1 (3 ∷ 0xE0 ∷ 0x9F ∷ 0xBF ∷ []) 24 6  -- three where two are enough
+    ∷ refuses (lone (basic 7)) 1 (4 ∷ 0xF0 ∷ 0x8F ∷ 0xBF ∷ 0xBF ∷ []) 24 6  -- four where three are enough
+    ∷ refuses (lone (basic 7)) 1 (3 ∷ 0xED ∷ 0xA0 ∷ 0x80 ∷ []) 24 6  -- a surrogate
+    ∷ refuses (lone (basic 7)) 1 (4 ∷ 0xF4 ∷ 0x90 ∷ 0x80 ∷ 0x80 ∷ []) 24 6  -- a value above 10FFFF
+    ∷ refuses (lone (basic 7)) 1 (2 ∷ 0x80 ∷ []) 4 6  -- after 4 of that string
+    ∷ refuses (lone (basic 7)) 1 (255 ∷ 1 ∷ 0 ∷ 0 ∷ 0 ∷ 0x80 ∷ []) 7 6  -- after 7
+    ∷ refuses (loneOptional (basic 7)) 1 (13 ∷ 1 ∷ 0x80 ∷ []) 24 7  -- an optional string, at its size
+    ∷ refuses (lone (basic 12)) 1 (1 ∷ 0x80 ∷ 1 ∷ []) 24 6  -- an identity's name, before the category is read
+    ∷ refuses (lone (basic 12)) 1 (0 ∷ 1 ∷ 0x80 ∷ []) 24 7  -- a category, before 10
+    ∷ refuses (lone (basic 12)) 1 (1 ∷ 97 ∷ 0 ∷ 1 ∷ 1 ∷ 0x80 ∷ []) 24 10  -- a facet
+    ∷ refuses (lone (basic 12)) 1 (1 ∷ 97 ∷ 0 ∷ 0 ∷ 0 ∷ 0 ∷ 1 ∷ 0 ∷ 1 ∷ 1 ∷ 0 ∷ 1 ∷ 0x80 ∷ []) 24 17  -- an adapter
+    ∷ refuses records 1 (33 ∷ 1 ∷ 0x80 ∷ []) 24 7  -- an unknown type ID, before 15
+    ∷ refuses records 1 (17 ∷ 1 ∷ 0x80 ∷ 4 ∷ 0 ∷ 0 ∷ 0 ∷ []) 24 7  -- of a slice that would be skipped
+    ∷ refuses records 1 (1 ∷ 1 ∷ 68 ∷ 96 ∷ 1 ∷ 0x80 ∷ []) 14 9  -- after 14 of the flags
     ∷ accepts records 1 (5 ∷ 1 ∷ 68 ∷ 8 ∷ 9 ∷ 255 ∷ 32 ∷ 7 ∷ []) (0 ∷ 0 ∷ 2 ∷ 0 ∷ 2 ∷ 0 ∷ 0 ∷ 1 ∷ 10 ∷ 1 ∷ 0 ∷ 13 ∷ 1 ∷ [])  -- none: D, compact
     ∷ accepts records 1 (17 ∷ 1 ∷ 88 ∷ 4 ∷ 0 ∷ 0 ∷ 0 ∷ 49 ∷ 1 ∷ 66 ∷ 5 ∷ 0 ∷ 0 ∷ 0 ∷ 7 ∷ []) (0 ∷ 0 ∷ 1 ∷ 1 ∷ 1 ∷ 0 ∷ 1 ∷ 0 ∷ 20 ∷ 1 ∷ [])  -- an unknown slice, then B
     ∷ accepts records 3 (1 ∷ 33 ∷ 1 ∷ 67 ∷ []) (0 ∷ 0 ∷ 3 ∷ 0 ∷ 0 ∷ 0 ∷ 0 ∷ [])  -- C
     ∷ accepts (loneOptional (basic 12)) 1 (14 ∷ 2 ∷ 0 ∷ 0 ∷ 0 ∷ 0 ∷ 0 ∷ []) (0 ∷ 0 ∷ 1 ∷ 1 ∷ 1 ∷ 0 ∷ 0 ∷ 0 ∷ 11 ∷ 2 ∷ [])  -- an optional proxy
+    ∷ accepts (lone (basic 7)) 1 (10 ∷ 0 ∷ 0xC2 ∷ 0x80 ∷ 0xED ∷ 0x9F ∷ 0xBF ∷ 0xF4 ∷ 0x8F ∷ 0xBF ∷ 0xBF ∷ []) (0 ∷ 0 ∷ 1 ∷ 1 ∷ 1 ∷ 0 ∷ 0 ∷ 0 ∷ 6 ∷ 11 ∷ [])  -- text: 0, 80, D7FF, 10FFFF
+    ∷ accepts (loneOptional (basic 7)) 1 (21 ∷ 1 ∷ 0x80 ∷ []) (0 ∷ 0 ∷ 1 ∷ 1 ∷ 0 ∷ 1 ∷ 0 ∷ [])  -- an unknown optional is not read
+    ∷ accepts records 1 (17 ∷ 1 ∷ 88 ∷ 5 ∷ 0 ∷ 0 ∷ 0 ∷ 0x80 ∷ 49 ∷ 1 ∷ 66 ∷ 5 ∷ 0 ∷ 0 ∷ 0 ∷ 7 ∷ []) (0 ∷ 0 ∷ 1 ∷ 1 ∷ 1 ∷ 0 ∷ 1 ∷ 0 ∷ 21 ∷ 1 ∷ [])  -- nor is a skipped slice
     ∷ []
 
 pub reader-refuses : map (λ c. asked (c .asks)) readerCases ≡ map (λ c. c .gives) readerCases
@@ -204,6 +224,11 @@ writer-refuses = refl
 pub record-written : Write.writing records 2 1 2 (row 1 0 1 ++ row 0 1 1) (9 ∷ 7 ∷ []) 24 ≡ Write.out (sent (21 ∷ 1 ∷ 68 ∷ 7 ∷ 0 ∷ 0 ∷ 0 ∷ 8 ∷ 9 ∷ 255 ∷ 49 ∷ 1 ∷ 66 ∷ 5 ∷ 0 ∷ 0 ∷ 0 ∷ 7 ∷ []))
 unfolding computed writerComputed
 record-written = refl
+
+-- 21 for a row whose bytes are no text
+pub wrong-text : Write.writing (lone (basic 7)) 1 1 1 (row 0 0 2) (1 ∷ 0x80 ∷ []) 8 ≡ Write.stop 21 0
+unfolding computed writerComputed
+wrong-text = refl
 
 -- ---- the limit
 

@@ -1,4 +1,4 @@
--- Every refusal in what an encapsulation holds is one of document 01's table for it: 4 or 7 to 18.
+-- Every refusal in what an encapsulation holds is one of those for it: 4, 7 to 18 or 24.
 --
 --   Told r             r is no refusal, or one of these
 --   Refuses p          each refusal of p is one of these

@@ -720,9 +720,9 @@ atMark-looks = record { fits = fits; ends = ends; goes = goes }
 
 -- ---- a property that each way of joining readers keeps
 
--- the refusal numbers of what an encapsulation holds: 4 and 7 to 18
+-- the refusal numbers of what an encapsulation holds: 4, 7 to 18 and 24
 abbrev pub ofContents : ℕ → Bool
-ofContents c = eqb c 4 || (leb 7 c && leb c 18)
+ofContents c = eqb c 4 || (leb 7 c && leb c 18) || eqb c 24
 
 -- a judgement gives 0 or one of them
 abbrev pub Judges : ℕ → Type 0

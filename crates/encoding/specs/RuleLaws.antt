@@ -12,7 +12,7 @@
 --   base-right                     a base is a smaller row of the same kind
 --   AboveRecord, base-record       the base of a record, as a row + 1, is none or a record
 --   named-ok, named-at             the record of a name is a record of that name; a record is the one of its name
---   named-short                    a record's name is at most 255 bytes long
+--   named-short, named-text        a record's name is at most 255 bytes long, and text; name-text: by its row
 --   names-differ                   records of one name are one
 --   climb-enough, chain-node       a chain is the row, then the chain of its base
 --   Own, own-later, required-own, optional-own  the place of a member among the rows of its owner
@@ -39,6 +39,8 @@ use lib.Dec.{eqb, leb, ltb}
 use borrow.Author.Tests.{eqb-true, eqb-false, leb-true, leb-false, ltb-true, ltb-false, le-leb, lt-ltb, eq-eqb, not-false}
 use Rattle.encoding.specs.Result.{pick, firstOf, sameBytes}
 use Rattle.encoding.specs.ResultLaws.{both-true, both-false, either-false, sameBytes-ok, sameBytes-same}
+use Rattle.encoding.specs.Utf8.{isUtf8, Utf8}
+use Rattle.encoding.specs.Utf8Laws.{utf8-ok}
 use Rattle.encoding.specs.Types.{Ty}
 use Rattle.encoding.specs.Table.{types, members, entries, kind, field, mark, tag, isRecord, owns, takes, range, namesAt, nameOf, Fault, fine, fault, orElse, faultAt, any, headerTests, headerRules, takenBy, taken, noBase, alike, typeRules, entriesTaken, allowedRules, entriesRules, sumRules, ownerOf, tagAlike, memberRules, rowAt, memberAt, pass, passes, faults, search, named, base, upward, climb, chain, Member, memberTy, lookup, requiredsIn, optionalsIn, requiredMembers, optionalMembers, ownRows, trees}
 use Rattle.encoding.specs.TableLaws.{header-most}
@@ -470,6 +472,10 @@ module _ (T : List ℕ) (right : faults T ≡ fine) where
         let b = ltb-false 255 (field T t 4) (either-false (eqb (field T t 4) 0) (ltb 255 (field T t 4)) a .1) in
         omega (arith, b, length-take (field T t 4) (drop (namesAt T + field T t 3) T))
 
+    pub name-text : Utf8 (nameOf T t)
+    unfolding typeRules
+    name-text = utf8-ok (nameOf T t) (not-false (isUtf8 (nameOf T t)) (both-false (isRecord (kind T t)) _ (type-test t below 11) rec))
+
     earlier-differ : (r : ℕ) → r < t → isRecord (kind T r) ≡ true → nameOf T r ≡ nameOf T t → ⊥
     unfolding typeRules alike
     earlier-differ r l e n =
@@ -501,6 +507,9 @@ module _ (T : List ℕ) (right : faults T ≡ fine) where
 
   pub named-short : (nm : List ℕ) (t : ℕ) → named T nm ≡ some t → length nm ≤ 255
   named-short nm t e = let n = named-ok T nm t e in subst (λ (l : List ℕ). length l ≤ 255) (sym (n .2)) (name-short t (n .0) (n .1))
+
+  pub named-text : (nm : List ℕ) (t : ℕ) → named T nm ≡ some t → Utf8 nm
+  named-text nm t e = let n = named-ok T nm t e in subst Utf8 (sym (n .2)) (name-text t (n .0) (n .1))
 
   pub taken-at : (t : ℕ) → t < types T → owns (kind T t) ≡ true → field T t 0 ≡ taken T t
   taken-at t l = row-begins T t (type-right t l)

@@ -29,6 +29,7 @@ use lib.Dec.{eqb, leb, ltb}
 use Rattle.encoding.specs.declared.Verdict.{Verdict}
 use Rattle.encoding.specs.declared.Verdict.the-variants.{Sound, Broken}
 use Rattle.encoding.specs.Result.{pick, firstOf, sameBytes}
+use Rattle.encoding.specs.Utf8.{isUtf8}
 use Rattle.encoding.specs.Number.{val, negative}
 use Rattle.encoding.specs.Types.{Allowed, upto, allowedOf, short, int, long, float, double, Ty, Tys, nil, cons, broken, bool, byte, string, proxy, num, enum, struct, seq, dict}
 
@@ -176,7 +177,7 @@ any f (i ∷ l) = f i || any f l
 -- Rules are judgements with their rule class, which is the refusal's number; each test is true where the rule is broken:
 --   31  header and lengths                                  35  member rows not taken in turn, or their sum wrong
 --   32  unused or zero bytes, a required tag not 0          36  empty structs, wrong marks
---   33  unknown kind (its fields unjudged)                  37  names outside, of bad length or alike
+--   33  unknown kind (its fields unjudged)                  37  names outside, of bad length, alike or no text
 --   34  a reference not smaller or of the wrong kind        38  tags or enumerators too great, tags alike
 --                                                           39  lists of allowed enumerators
 -- A row that breaks several has the first class of this order.
@@ -244,6 +245,7 @@ typeRules T t =
     ∷ (37, isRecord k && (eqb (field T t 4) 0 || ltb 255 (field T t 4)))
     ∷ (37, isRecord k && ltb (names T) (field T t 3 + field T t 4))
     ∷ (37, isRecord k && alike T t)
+    ∷ (37, isRecord k && not (isUtf8 (nameOf T t)))
     ∷ (38, eqb k 8 && great (greatest T t))
     ∷ []
 

@@ -145,6 +145,7 @@ changes =
     ∷ change 179 1 37 168  -- a name of 260 bytes
     ∷ change 214 8 37 204  -- a name that ends after the name bytes
     ∷ change 188 1 37 180  -- a class with the name of an exception before it
+    ∷ change 283 0x80 37 168  -- a name that is no text
     ∷ change 113 128 38 108  -- an enumerator above 2^31 - 1
     ∷ change 219 1 32 216  -- zero byte of member 0
     ∷ change 220 1 32 216  -- a required member with a tag

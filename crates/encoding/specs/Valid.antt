@@ -19,6 +19,7 @@ use mathlib.Core.Path.{_≡_}
 use mathlib.Core.List.{List, [], _∷_}
 use Prim.Native.Nat.{ℕ, suc, _+_, _*_, _^_, _≤_, _<_}
 use lib.ListN.{length, take}
+use Rattle.encoding.specs.Utf8.{Utf8}
 use Rattle.encoding.specs.Table.{at, version, types, members, names, entries, rowAt, memberAt, listEntry, kind, field, memberType, mark, tag, nameOf}
 
 -- ---- kinds
@@ -126,12 +127,13 @@ TypeTurn T t = OwnerKind (kind T t) → TakenBefore T t (field T t 0)
 abbrev pub TypeFilled : List ℕ → ℕ → Type 0
 TypeFilled T t = kind T t ≡ 9 → 1 ≤ field T t 1
 
--- a name is 1..255 bytes long, lies within the name bytes, and no earlier record has it
+-- a name is 1..255 bytes long, lies within the name bytes, no earlier record has it, and it is text
 pub record TypeName (T : List ℕ) (t : ℕ) : Type 0 where
   pub some : 1 ≤ field T t 4
   pub most : field T t 4 ≤ 255
   pub inside : field T t 3 + field T t 4 ≤ names T
   pub new : (r : ℕ) → r < t → RecordKind (kind T r) → nameOf T r ≡ nameOf T t → ⊥
+  pub is-text : Utf8 (nameOf T t)
 
 -- 37: a record has a name like this
 abbrev pub TypeNamed : List ℕ → ℕ → Type 0

@@ -75,7 +75,7 @@ fn id_text(due: bool, s: &[u8]) -> Sized
     ensures { λ r. ⌜ r ≡ bytesOf (idText due (now (s .entry))) ⌝ }
 {
     if due {
-        return wire::read_string(s);
+        return text::read_string(s);
     }
     Sized::Is(0, 0)
 }

@@ -8,6 +8,7 @@
 --   TableFault     the number and the place of a broken rule: 31 to 39 by what is wrong with the first row that is not valid; its first byte, or 0
 --   ReaderRefuses  demand 1: each refusal of the reader has its number and place of document 01's table; every other number is 0 and no lent byte changes
 --   NumbersTold    the numbers of the public calls are those of the reader's answer
+--   ExactUtf8      text by the ranges of its bytes is text by its scalar values
 --   Exact          demand 2, first sentence: a message is accepted exactly when it is the encoding of pieces that conform, and those are read
 --   Reads          the reader's answer: accepted exactly if some pieces follow and their rows have room, and then the answer is theirs
 --   ExactRows      each listed row lies in the message, and its bytes are exactly one value of its member's type
@@ -50,6 +51,7 @@ use Prim.Native.Nat.{ℕ, suc, _+_, _*_, _≤_, _<_}
 use lib.ListN.{length, take, drop, getD}
 use lib.Dec.{eqb}
 use Rattle.encoding.specs.Result.{ok, bad, concat}
+use Rattle.encoding.specs.Utf8.{isUtf8, Utf8}
 use Rattle.encoding.specs.Number.{Bytes, val}
 use Rattle.encoding.specs.Types.{Ty, Form, formOf, Bits}
 use Rattle.encoding.specs.OptionalForm.{HasForm}
@@ -111,6 +113,7 @@ pub data Refusal (T : List ℕ) (top : ℕ) (m : List ℕ) : ℕ → ℕ → Typ
   wrong-version : Sized T top m → (take 2 (drop 4 m) ≡ 1 ∷ 1 ∷ [] → ⊥) → Refusal T top m 6 4
   cut-off : {p : ℕ} → Sized T top m → 6 ≤ p → p ≤ length m → Refusal T top m 4 p
   misread : {n p : ℕ} → Sized T top m → 7 ≤ n → n ≤ 18 → 6 ≤ p → p ≤ length m → Refusal T top m n p
+  no-text : {p : ℕ} → Sized T top m → 6 ≤ p → p ≤ length m → Refusal T top m 24 p
 
 -- a refusal by the reader with a lent list of so many bytes: 19 comes last, at the rows needed
 pub data ReaderRefusal (T : List ℕ) (top : ℕ) (m : List ℕ) (bytes : ℕ) : ℕ → ℕ → Type 0 where
@@ -138,6 +141,12 @@ abbrev pub NumbersTold : Type 0
 NumbersTold =
     (T : List ℕ) (top : ℕ) (m : List ℕ) (bytes : ℕ)
     → readingNumbers (readingOf (reading T top m bytes)) ≡ numbers (reading T top m bytes)
+
+-- ---- text
+
+-- Rules out a range that is too wide or too narrow: bytes pass exactly if they are the encoding of scalar values, each in its shortest form.
+abbrev pub ExactUtf8 : Type 0
+ExactUtf8 = (b : List ℕ) → (isUtf8 b ≡ true → Utf8 b) × (Utf8 b → isUtf8 b ≡ true)
 
 -- ---- demand 2: what is accepted
 

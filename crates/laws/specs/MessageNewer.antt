@@ -16,9 +16,10 @@ use borrow.Author.Tests.{le-leb, lt-leb, le-ltb}
 use Rattle.encoding.specs.Result.{Res, ok, bad, Parser, shift, must, made, mapc}
 use Rattle.encoding.specs.ResultLaws.{bind-bad, bind-next, must-step}
 use Rattle.encoding.specs.Number.{Short, byte, stringBytes}
+use Rattle.encoding.specs.Grammar.{InString}
 use Rattle.encoding.specs.NumberLaws.{byte-written}
 use Rattle.encoding.specs.Table.{types, kind, isRecord, named}
-use Rattle.encoding.specs.RuleLaws.{record-kind, named-short}
+use Rattle.encoding.specs.RuleLaws.{record-kind, named-short, named-text}
 use Rattle.encoding.specs.Optional.{Piece}
 use Rattle.encoding.specs.Slice.{Format, compact, sliced, Slice, known, passed, first, later, due, seek, standOf, finished, isNone, idForm, slice, Chain, unlessFinished, walk, slices, anyOptional, hasOptionals, idOf, dataBytes, flagBits, sliceFront, isLast, slicesBytes}
 use Rattle.encoding.specs.WalkLaws.{head-ok, head-refused, slice-refused}
@@ -112,14 +113,14 @@ newer-read = understood
 -- ---- the old table refuses: compact, and the first type ID is unknown to it
 
 -- 15 at the type ID, after the flags
-slices-refused : (T : List ℕ) (top : ℕ) (o : List ℕ) → named T o ≡ none → Short (length o) → (ps : List Piece) (ss : List Slice)
+slices-refused : (T : List ℕ) (top : ℕ) (o : List ℕ) → named T o ≡ none → InString o → (ps : List Piece) (ss : List Slice)
     → slices T top (slicesBytes compact first (known o ps ∷ ss)) ≡ bad 15 1
 unfolding slices slicesBytes sliceFront walk unlessFinished finished standOf due idForm isNone idOf hasOptionals
-slices-refused T top o unknown short ps ss =
+slices-refused T top o unknown id ps ss =
     let d : List ℕ = dataBytes (known o ps) in
     let w : List ℕ = slicesBytes compact (later compact) ss in
     let xs : List ℕ = flagBits compact true (anyOptional ps) (isLast ss) ∷ (stringBytes o ++ (d ++ w)) in
-    let H = head-written first (λ _ _. 0) compact (anyOptional ps) (isLast ss) o (d ++ w) tt (record { length-short = short }, refl) in
+    let H = head-written first (λ _ _. 0) compact (anyOptional ps) (isLast ss) o (d ++ w) tt (id, refl) in
     let R = head-refused first (idForm T (seek first)) xs _ _ (head-ok first (λ _ _. 0) xs _ _ H .0) 14 refl (rw unknown) in
     let spelt : stringBytes o ++ [] ++ d ++ w ≡ stringBytes o ++ (d ++ w) = rw (append-nil (stringBytes o)) (append-assoc (stringBytes o) d w) in
     bind-bad (slice T top (seek first)) _ _
@@ -136,7 +137,8 @@ first-refused : (old new : List ℕ) → Extends old new → (top top′ : ℕ) 
 unfolding firstId idOf
 first-refused old new X top top′ [] C z = absurd C
 first-refused old new X top top′ (passed b nm d ∷ ss) C z = let e = C .0 .format in let u : _≡_ {A = ℕ} 0 1 = cc in absurd (omega arith)
-first-refused old new X top top′ (known o ps ∷ ss) C z = slices-refused old top o z (omega (arith, named-short new (X .new-right) o (C .row) (C .known))) ps ss
+first-refused old new X top top′ (known o ps ∷ ss) C z =
+    slices-refused old top o z (record { length-short = omega (arith, named-short new (X .new-right) o (C .row) (C .known)); is-text = named-text new (X .new-right) o (C .row) (C .known) }) ps ss
 
 module _ (T : List ℕ) (top : ℕ) (ss : List Slice) (refused : slices T top (slicesBytes compact first ss) ≡ bad 15 1) where
   exception-refused : kind T top ≡ 13 → contents T top (encode compact (exception ss)) ≡ bad 15 1

@@ -2,8 +2,9 @@
 use mathlib.Core.Path.{subst}
 use Rattle.encoding.specs.OptionalForm.{HasForm}
 use Rattle.encoding.specs.OptionalFormLaws.{form-has, is-form}
+use Rattle.encoding.specs.Utf8Laws.{utf8-ok, utf8-step}
 use Rattle.encoding.specs.ExactLaws.{exact-is, is-exact, extent-is, is-extent}
-use Rattle.laws.specs.Demands.{ExactTable, OneOwner, TableFault, ReaderRefuses, NumbersTold, Exact, Reads, ExactRows, ListedRows, RowsApart, RowsRight, RowsOnce, Unambiguous, ExactCounts, ExactValues, TypesRise, ExactEnums, EqualSets, ExactExtents, ExactForms, Viewed, ReadBack, ReadBackReading, WriteAgain, WriteSame, OneMessage, EarlyRefused, RightLists, WrongBytes, RightMakes, TooLong, RightWritten, WriterRefuses, WritingNumbersTold, ListFilled, OutputFilled, NewerRead, NewerRefused, NewerReading, NewerRefusedReading, OneCounterpart, NewerThere}
+use Rattle.laws.specs.Demands.{ExactTable, OneOwner, TableFault, ReaderRefuses, NumbersTold, ExactUtf8, Exact, Reads, ExactRows, ListedRows, RowsApart, RowsRight, RowsOnce, Unambiguous, ExactCounts, ExactValues, TypesRise, ExactEnums, EqualSets, ExactExtents, ExactForms, Viewed, ReadBack, ReadBackReading, WriteAgain, WriteSame, OneMessage, EarlyRefused, RightLists, WrongBytes, RightMakes, TooLong, RightWritten, WriterRefuses, WritingNumbersTold, ListFilled, OutputFilled, NewerRead, NewerRefused, NewerReading, NewerRefusedReading, OneCounterpart, NewerThere}
 use Rattle.laws.specs.TableExact.{exact-table, one-owner}
 use Rattle.laws.specs.TableFault.{table-fault}
 use Rattle.laws.specs.SetsExact.{types-rise, exact-enums}
@@ -31,6 +32,7 @@ pub record Promises : Type 0 where
   pub fault : TableFault
   pub refuses : ReaderRefuses
   pub numbers : NumbersTold
+  pub text : ExactUtf8
   pub exact : Exact
   pub reads : Reads
   pub rows : ExactRows
@@ -76,6 +78,7 @@ promises = record {
   fault = table-fault;
   refuses = reader-refuses;
   numbers = numbers-told;
+  text = λ b. (utf8-ok b, utf8-step b);
   exact = exact-message;
   reads = reads;
   rows = exact-rows;

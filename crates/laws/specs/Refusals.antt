@@ -8,7 +8,7 @@
 --   reader-refuses               demand 1
 --   reader-number, numbers-told  a refusal's number is not 0, so the numbers of the public calls are the answer's
 use mathlib.Core.Path.{_≡_, refl, sym, ap, subst}
-use mathlib.Core.Bool.{Bool, true, false, _||_, not}
+use mathlib.Core.Bool.{Bool, true, false, _&&_, _||_, not, false≢true}
 use mathlib.Core.List.{List, [], _∷_}
 use Prim.Native.Nat.{ℕ, _+_, _*_, _/_, _≤_, _<_}
 use native.Mathlib.Omega.{arith}
@@ -24,16 +24,18 @@ use Rattle.encoding.specs.RuleLaws.{fault-place}
 use Rattle.encoding.specs.Message.{Read, contents, ended, outerForm, versionForm, body, noTop, limit, afterRules, refusedFirst, rules, rows, greatestRefusal, Answer, numbers, refused, accepted, answer, room, within, reading, listed, readingOf, readingNumbers}
 use Rattle.encoding.specs.MessageLaws.{held-rest}
 use Rattle.encoding.specs.RefusalLaws.{Told, refuses-rest}
-use Rattle.laws.specs.Demands.{Admissible, Sized, Refusal, broken-table, no-top, too-great, no-size, wrong-size, wrong-version, cut-off, misread, ReaderRefusal, by-rules, short-list, NothingElse, ReaderRefuses, NumbersTold}
+use Rattle.laws.specs.Demands.{Admissible, Sized, Refusal, broken-table, no-top, too-great, no-size, wrong-size, wrong-version, cut-off, misread, no-text, ReaderRefusal, by-rules, short-list, NothingElse, ReaderRefuses, NumbersTold}
 use Rattle.laws.specs.TableFault.{table-fault, broken-class}
 
 -- ---- what the encapsulation holds
 
--- 4, or one from 7 to 18
-contents-number : (c : ℕ) → ofContents c ≡ true → (c ≡ 4 → ⊥) → (7 ≤ c) × (c ≤ 18)
-contents-number c h n =
-    let b = both-true (leb 7 c) (leb c 18) (rw (ne-eqb c 4 n) at h) in
-    (leb-true 7 c (b .0), leb-true c 18 (b .1))
+-- neither 4 nor 24: one from 7 to 18
+contents-number : (c : ℕ) → ofContents c ≡ true → (c ≡ 4 → ⊥) → (c ≡ 24 → ⊥) → (7 ≤ c) × (c ≤ 18)
+contents-number c h n t = go (leb 7 c && leb c 18) refl (rw (ne-eqb c 4 n, ne-eqb c 24 t) at h)
+  where
+    go : (q : Bool) → leb 7 c && leb c 18 ≡ q → q || false ≡ true → (7 ≤ c) × (c ≤ 18)
+    go true e z = let b = both-true (leb 7 c) (leb c 18) e in (leb-true 7 c (b .0), leb-true c 18 (b .1))
+    go false e z = absurd (false≢true z)
 
 module _ (T : List ℕ) (top : ℕ) (m : List ℕ) where
   -- a refusal is the one that it is equal to
@@ -46,7 +48,10 @@ module _ (T : List ℕ) (top : ℕ) (m : List ℕ) where
   in-contents : Sized T top m → (c q : ℕ) → ofContents c ≡ true → 6 ≤ q → q ≤ length m → Refusal T top m c q
   in-contents S c q t a b = elim (ℕ-discrete c 4) [
     | yes e ↦ subst (λ (i : ℕ). Refusal T top m i q) (sym e) (cut-off S a b)
-    | no e ↦ (let w = contents-number c t e in misread S (w .0) (w .1) a b)
+    | no e ↦ elim (ℕ-discrete c 24) [
+      | yes f ↦ subst (λ (i : ℕ). Refusal T top m i q) (sym f) (no-text S a b)
+      | no f ↦ (let w = contents-number c t e f in misread S (w .0) (w .1) a b)
+    ]
   ]
 
   body-refused : Admissible T top m → {n p : ℕ} → body T top m ≡ bad n p → Refusal T top m n p
@@ -121,6 +126,7 @@ refusal-numbered (wrong-size A l e) = numbered (omega arith) (omega arith) (omeg
 refusal-numbered (wrong-version S e) = numbered (omega arith) (omega arith) (omega arith)
 refusal-numbered (cut-off S a b) = numbered (omega arith) (omega arith) (omega (arith, S .admissible .short))
 refusal-numbered (misread S l h a b) = numbered (omega arith) (omega arith) (omega (arith, S .admissible .short))
+refusal-numbered (no-text S a b) = numbered (omega arith) (omega arith) (omega (arith, S .admissible .short))
 
 -- ---- the reader
 

@@ -21,10 +21,11 @@ use lib.Dec.{eqb, ltb}
 use borrow.Author.Tests.{not-true, not-false, eqb-false, ltb-false, ne-eqb}
 use Rattle.encoding.specs.Result.{ok, Parser, pick, pure, fail, must, mapc, inside, firstOf, sameBytes}
 use Rattle.encoding.specs.ResultLaws.{ok≢bad, some≢none, both-true, both-false, either-false, sameBytes-ok, sameBytes-same, bind-step, bind-written, pure-ok, must-step, mapc-ok, mapc-step, inside-ok, inside-step, firstOf-ok}
-use Rattle.encoding.specs.Number.{Bytes, Short, byte, declared, leBytes, sizeBytes, Content, string, stringBytes}
-use Rattle.encoding.specs.NumberLaws.{bytes-end, bytes-take, bytes-drop, byte-written, byte-canonical, length-leBytes, declared-written, declared-canonical, string-written, string-canonical}
-use Rattle.encoding.specs.Table.{nameOf, named, base, upward, chain, any, fine, faults}
-use Rattle.encoding.specs.RuleLaws.{named-ok, chain-node}
+use Rattle.encoding.specs.Utf8.{Utf8}
+use Rattle.encoding.specs.Number.{Bytes, Short, byte, declared, leBytes, sizeBytes, string, stringBytes}
+use Rattle.encoding.specs.NumberLaws.{bytes-end, bytes-take, bytes-drop, byte-written, byte-canonical, length-leBytes, declared-written, declared-canonical, content-ok, content-step, string-written, string-canonical}
+use Rattle.encoding.specs.Table.{types, kind, isRecord, nameOf, named, base, upward, chain, any, fine, faults}
+use Rattle.encoding.specs.RuleLaws.{AboveRecord, base-record, named-ok, name-text, chain-node}
 use Rattle.encoding.specs.Optional.{Piece}
 use Rattle.encoding.specs.Slice.{Format, compact, sliced, isSliced, Slice, known, passed, bit, formatOfFlags, Stand, first, later, mixed, due, flagForm, Head, head, fields, knownData, wrongLast, Stage, seek, follow, standOf, finished, Meaning, skip, row, wrong, knownMeaning, seekMeaning, meaning, isNone, idForm, meaningForm, enterSlice, slice, Chain, ahead, walk, slices, anyOptional, worth, hasOptionals, idOf, dataBytes, flagBits, sliceFront, isLast, slicesBytes}
 use Rattle.encoding.specs.SliceLaws.{walk-ended, walk-on}
@@ -125,10 +126,6 @@ front g s opt last nm = flagBits g (due s g) opt last ∷ pick (due s g) (string
 abbrev headOf : Format → Bool → Bool → List ℕ → Head
 headOf g opt last nm = record { format = g; optionals = opt; last = last; id = nm }
 
-content-any : (nm : List ℕ) → Content nm ≡ 0
-unfolding Content
-content-any nm = refl
-
 -- a type ID where one is due
 abbrev pub Given : Bool → (List ℕ → ℕ) → List ℕ → Type 0
 Given true form nm = InString nm × (form nm ≡ 0)
@@ -141,7 +138,7 @@ module _ (s : Stand) (form : Format → List ℕ → ℕ) where
 
   id-written : (q : Bool) (g : Format) (nm r : List ℕ) → Given q (form g) nm → pick q (must (form g) string) (pure []) (pick q (stringBytes nm) [] ++ r) ≡ ok (pick q nm []) (length (pick q (stringBytes nm) []))
   unfolding pure
-  id-written true g nm r G = must-step string (stringBytes nm ++ r) (form g) (string-written nm r (content-any nm) (G .0 .length-short)) (G .1)
+  id-written true g nm r G = must-step string (stringBytes nm ++ r) (form g) (string-written nm r (content-step nm (G .0 .is-text)) (G .0 .length-short)) (G .1)
   id-written false g nm r G = refl
 
   pub head-written : (g : Format) (opt last : Bool) (nm r : List ℕ) → Agrees s g → Given (due s g) (form g) nm
@@ -164,7 +161,7 @@ module _ (s : Stand) (form : Format → List ℕ → ℕ) where
 
   id-canonical : (q : Bool) (g : Format) (xs : List ℕ) → Bytes xs → {nm : List ℕ} {n : ℕ} → pick q string (pure []) xs ≡ ok nm n → (q ≡ true → form g nm ≡ 0)
       → (take n xs ≡ pick q (stringBytes nm) []) × Given q (form g) nm
-  id-canonical true g xs y h j = let S = string-canonical xs y h in (S .0, (record { length-short = S .2 }, j refl))
+  id-canonical true g xs y {nm} h j = let S = string-canonical xs y h in (S .0, (record { length-short = S .2; is-text = content-ok nm (S .1) }, j refl))
   id-canonical false g xs y h j = (ap (λ (i : ℕ). take i xs) (pure-ok [] xs h .1), tt)
 
   pub head-canonical : (xs : List ℕ) → Bytes xs → {h : Head} {n : ℕ} → head s form xs ≡ ok h n → Fronted h (take n xs)
@@ -254,25 +251,27 @@ Taken T top z (follow g zero) sl next = ⊥
 Taken T top z (follow g (suc t)) (known o ps) next = Knows T t g (later g) o ps z next
 Taken T top z (follow g (suc t)) (passed b nm d) next = ⊥
 
--- the stages that a walk reaches: after a skipped slice the format is sliced
-abbrev pub Ready : Stage → Type 0
-Ready (seek first) = Unit {0}
-Ready (seek (later compact)) = ⊥
-Ready (seek (later sliced)) = Unit {0}
-Ready (follow g b) = Unit {0}
+-- the stages that a walk reaches: after a skipped slice the format is sliced, above a known one is a record or nothing
+abbrev pub Ready : List ℕ → Stage → Type 0
+Ready T (seek first) = Unit {0}
+Ready T (seek (later compact)) = ⊥
+Ready T (seek (later sliced)) = Unit {0}
+Ready T (follow g b) = AboveRecord T b
 
-taken-ready : (T : List ℕ) (top : ℕ) (z : List ℕ) (st : Stage) (sl : Slice) (next : Stage) → Taken T top z st sl next → Ready next
-taken-ready T top z (seek s) (known o ps) next K = subst Ready (sym (K .knows .behind)) tt
-taken-ready T top z (seek s) (passed b nm d) next K = subst Ready (sym (K .behind)) tt
-taken-ready T top z (follow g zero) sl next K = absurd K
-taken-ready T top z (follow g (suc t)) (known o ps) next K = subst Ready (sym (K .behind)) tt
-taken-ready T top z (follow g (suc t)) (passed b nm d) next K = absurd K
+taken-ready : (T : List ℕ) → faults T ≡ fine → (top : ℕ) (z : List ℕ) (st : Stage) (sl : Slice) (next : Stage) → Ready T st → Taken T top z st sl next → Ready T next
+taken-ready T right top z (seek s) (known o ps) next R K =
+    let n = named-ok T o (K .row) (K .found) in
+    subst (Ready T) (sym (K .knows .behind)) (base-record T right (K .row) (n .0, n .1) _ refl .1)
+taken-ready T right top z (seek s) (passed b nm d) next R K = subst (Ready T) (sym (K .behind)) tt
+taken-ready T right top z (follow g zero) sl next R K = absurd K
+taken-ready T right top z (follow g (suc t)) (known o ps) next R K = subst (Ready T) (sym (K .behind)) (base-record T right t R _ refl .1)
+taken-ready T right top z (follow g (suc t)) (passed b nm d) next R K = absurd K
 
-ready-due : (s : Stand) (g : Format) → Ready (seek s) → Agrees s g → due s g ≡ true
+ready-due : (T : List ℕ) (s : Stand) (g : Format) → Ready T (seek s) → Agrees s g → due s g ≡ true
 unfolding due
-ready-due first g R a = refl
-ready-due (later compact) g R a = absurd R
-ready-due (later sliced) g R a = ap isSliced (sym a)
+ready-due T first g R a = refl
+ready-due T (later compact) g R a = absurd R
+ready-due T (later sliced) g R a = ap isSliced (sym a)
 
 -- ---- one slice, as read
 
@@ -315,28 +314,28 @@ module _ (T : List ℕ) (right : faults T ≡ fine) (top : ℕ) (xs : List ℕ) 
       )
 
   -- an unknown type ID is in sliced format
-  passed-format : (s : Stand) (g : Format) (nm : List ℕ) → Ready (seek s) → Agrees s g → Given (due s g) (idForm T (seek s) g) nm → named T nm ≡ none → g ≡ sliced
+  passed-format : (s : Stand) (g : Format) (nm : List ℕ) → Ready T (seek s) → Agrees s g → Given (due s g) (idForm T (seek s) g) nm → named T nm ≡ none → g ≡ sliced
   unfolding idForm isNone
-  passed-format s g nm R a G e = go s R a (subst (λ (q : Bool). Given q (idForm T (seek s) g) nm) (ready-due s g R a) G .1)
+  passed-format s g nm R a G e = go s R a (subst (λ (q : Bool). Given q (idForm T (seek s) g) nm) (ready-due T s g R a) G .1)
     where
       form : (g : Format) (q : Bool) → q ≡ true → _≡_ {A = ℕ} (pick (not (isSliced g) && q) 15 0) 0 → g ≡ sliced
       form compact true e h = absurd (omega arith)
       form compact false e h = absurd (false≢true e)
       form sliced q e h = refl
 
-      go : (s : Stand) → Ready (seek s) → Agrees s g → _≡_ {A = ℕ} (pick (not (isSliced g) && isNone (named T nm)) 15 0) 0 → g ≡ sliced
+      go : (s : Stand) → Ready T (seek s) → Agrees s g → _≡_ {A = ℕ} (pick (not (isSliced g) && isNone (named T nm)) 15 0) 0 → g ≡ sliced
       go first R a h = form g (isNone (named T nm)) (ap isNone e) h
       go (later compact) R a h = absurd R
       go (later sliced) R a h = sym a
 
-  skip-canonical : (s : Stand) (h : Head) (k m : ℕ) (r : Slice × Stage) → Ready (seek s) → Fronted s (idForm T (seek s)) h (take k xs) → named T (h .id) ≡ none → h .last ≡ false
+  skip-canonical : (s : Stand) (h : Head) (k m : ℕ) (r : Slice × Stage) → Ready T (seek s) → Fronted s (idForm T (seek s)) h (take k xs) → named T (h .id) ≡ none → h .last ≡ false
       → enterSlice T h skip (drop k xs) ≡ ok r m → Taken T top (take k xs ++ take m (drop k xs)) (seek s) (r .0) (r .1)
   unfolding enterSlice hasOptionals idOf dataBytes
   skip-canonical s h k m r R F e last j =
       let M = mapc-ok (declared 4 4) (drop k xs) (λ d _. (passed (h .optionals) (h .id) d, seek (later sliced))) j in
       let D = declared-canonical 4 4 (drop k xs) (bytes-drop k xs y) (omega arith) (M .1) in
       let fm : h .format ≡ sliced = passed-format s (h .format) (h .id) R (F .agrees) (F .given) e in
-      let G = subst (λ (q : Bool). Given q (idForm T (seek s) (h .format)) (h .id)) (ready-due s (h .format) R (F .agrees)) (F .given) in
+      let G = subst (λ (q : Bool). Given q (idForm T (seek s) (h .format)) (h .id)) (ready-due T s (h .format) R (F .agrees)) (F .given) in
       subst (λ (r : Slice × Stage). Taken T top (take k xs ++ take m (drop k xs)) (seek s) (r .0) (r .1)) (sym (M .2)) (record {
         agrees = subst (Agrees s) fm (F .agrees);
         unknown = record { format = refl; unknown = e; id = G .0; data-short = omega (arith, D .2) };
@@ -345,7 +344,7 @@ module _ (T : List ℕ) (right : faults T ≡ fine) (top : ℕ) (xs : List ℕ) 
         behind = refl;
       })
 
-  seek-canonical : (s : Stand) (h : Head) (k m : ℕ) (r : Slice × Stage) → Ready (seek s) → Fronted s (idForm T (seek s)) h (take k xs) → (o : Option ℕ) → named T (h .id) ≡ o
+  seek-canonical : (s : Stand) (h : Head) (k m : ℕ) (r : Slice × Stage) → Ready T (seek s) → Fronted s (idForm T (seek s)) h (take k xs) → (o : Option ℕ) → named T (h .id) ≡ o
       → enterSlice T h (seekMeaning T top (h .last) o) (drop k xs) ≡ ok r m → Taken T top (take k xs ++ take m (drop k xs)) (seek s) (r .0) (r .1)
   unfolding seekMeaning knownMeaning wrongLast
   seek-canonical s h k m r R F none e j = go (h .last) refl j
@@ -390,11 +389,11 @@ module _ (T : List ℕ) (right : faults T ≡ fine) (top : ℕ) (xs : List ℕ) 
           subst (λ (r : Slice × Stage). Taken T top (take k xs ++ take m (drop k xs)) (follow g (suc t)) (r .0) (r .1)) (sym (K .1))
           (subst (λ (f : Format). Knows T t f (later g) (nameOf T t) (K .0) (take k xs ++ take m (drop k xs)) (follow (h .format) (base T t))) (sym (F .agrees)) (K .2))
 
-  pub slice-canonical : (st : Stage) → Ready st → {r : Slice × Stage} {n : ℕ} → slice T top st xs ≡ ok r n → Taken T top (take n xs) st (r .0) (r .1)
+  pub slice-canonical : (st : Stage) → Ready T st → {r : Slice × Stage} {n : ℕ} → slice T top st xs ≡ ok r n → Taken T top (take n xs) st (r .0) (r .1)
   unfolding meaning standOf
   slice-canonical st R {r} {n} e = top′ (slice-ok T top st xs r n e)
     where
-      go : (st : Stage) → Ready st → (U : Sliced T top st xs r n) → Taken T top (take (U .headBytes) xs ++ take (U .dataSize) (drop (U .headBytes) xs)) st (r .0) (r .1)
+      go : (st : Stage) → Ready T st → (U : Sliced T top st xs r n) → Taken T top (take (U .headBytes) xs ++ take (U .dataSize) (drop (U .headBytes) xs)) st (r .0) (r .1)
       go (seek s) R U = seek-canonical s (U .h) (U .headBytes) (U .dataSize) r R (head-canonical s (idForm T (seek s)) xs y (U .heads)) (named T (U .h .id)) refl (U .read)
       go (follow g zero) R U = absurd (enter-wrong (U .h) 17 (drop (U .headBytes) xs) (U .read))
       go (follow g (suc t)) R U = follow-canonical g (U .h) (U .headBytes) (U .dataSize) t r (head-canonical (later g) (idForm T (follow g (suc t))) xs y (U .heads)) (U .read)
@@ -404,12 +403,12 @@ module _ (T : List ℕ) (right : faults T ≡ fine) (top : ℕ) (xs : List ℕ) 
 
 -- ---- one slice, as encoded
 
--- a type ID in bytes that an int can count is one
-given-short : (q : Bool) (form : List ℕ → ℕ) (nm w : List ℕ) (f : ℕ) → Short (length ((f ∷ pick q (stringBytes nm) []) ++ w)) → form nm ≡ 0 → Given q form nm
+-- a type ID that is text, in bytes that an int can count, is one
+given-short : (q : Bool) (form : List ℕ → ℕ) (nm w : List ℕ) (f : ℕ) → Utf8 nm → Short (length ((f ∷ pick q (stringBytes nm) []) ++ w)) → form nm ≡ 0 → Given q form nm
 unfolding stringBytes
-given-short true form nm w f sh z =
-    (record { length-short = omega (arith, length-append (sizeBytes (length nm) ++ nm) w, length-append (sizeBytes (length nm)) nm) }, z)
-given-short false form nm w f sh z = tt
+given-short true form nm w f u sh z =
+    (record { length-short = omega (arith, length-append (sizeBytes (length nm) ++ nm) w, length-append (sizeBytes (length nm)) nm); is-text = u }, z)
+given-short false form nm w f u sh z = tt
 
 module _ (T : List ℕ) (top : ℕ) where
   -- a slice by the meaning of its head
@@ -432,18 +431,18 @@ module _ (T : List ℕ) (top : ℕ) where
       mapc-step _ (d ++ r) (λ s _. (s, follow g (base T t))) (mapc-step (dataP T t g (anyOptional ps)) (d ++ r) (λ ps _. known (nameOf T t) ps) (data-written T t right o g ps r (K .owned) sh))
       ∙ ap₂ (λ (o : List ℕ) (st : Stage). ok (known o ps, st) (length d)) (sym (K .owner)) (sym (K .behind))
 
-  knows-written : faults T ≡ fine → (st : Stage) (t : ℕ) (g : Format) (o : List ℕ) (ps : List Piece) (z r : List ℕ) (next : Stage) → Knows T t g (standOf st) o ps z next → Agrees (standOf st) g → Short (length z)
+  knows-written : faults T ≡ fine → (st : Stage) (t : ℕ) (g : Format) (o : List ℕ) (ps : List Piece) (z r : List ℕ) (next : Stage) → t < types T → isRecord (kind T t) ≡ true → Knows T t g (standOf st) o ps z next → Agrees (standOf st) g → Short (length z)
       → idForm T st g o ≡ 0 → meaning T top st (headOf g (anyOptional ps) (eqb (base T t) 0) (pick (due (standOf st) g) o [])) ≡ row t
       → slice T top st (z ++ r) ≡ ok (known o ps, next) (length z)
   unfolding hasOptionals idOf meaningForm
-  knows-written right st t g o ps z r next K A sh i e =
+  knows-written right st t g o ps z r next l q K A sh i e =
       let s : Stand = standOf st in
       let last : Bool = eqb (base T t) 0 in
       let v : List ℕ = sized g (dataBytes (known o ps)) in
       let u : List ℕ = front g s (anyOptional ps) last o in
       let es : z ≡ u ++ v = K .spelt ∙ slice-bytes g s last (known o ps) in
       let sh′ : Short (length (u ++ v)) = subst (λ (z : List ℕ). Short (length z)) es sh in
-      let G = given-short (due s g) (idForm T st g) o v (flagBits g (due s g) (anyOptional ps) last) sh′ i in
+      let G = given-short (due s g) (idForm T st g) o v (flagBits g (due s g) (anyOptional ps) last) (subst Utf8 (sym (K .owner)) (name-text T right t l q)) sh′ i in
       let R = slice-front st g (anyOptional ps) last o v r (row t) A G e refl (row-written right t g s o (pick (due s g) o []) ps z r next K (omega (arith, length-append u v))) in
       subst (λ (z : List ℕ). slice T top st (z ++ r) ≡ ok (known o ps, next) (length z)) (sym es) R
 
@@ -505,18 +504,19 @@ module _ (T : List ℕ) (top : ℕ) where
 
       all : slice T top (seek s) (u ++ v ++ r) ≡ ok (passed b nm d, next) (length (u ++ v))
       all =
-          slice-front (seek s) sliced b false nm v r skip (K .agrees) (given-short (due s sliced) (idForm T (seek s) sliced) nm v (flagBits sliced (due s sliced) b false) sh′ refl)
+          slice-front (seek s) sliced b false nm v r skip (K .agrees) (given-short (due s sliced) (idForm T (seek s) sliced) nm v (flagBits sliced (due s sliced) b false) (K .unknown .id .is-text) sh′ refl)
           (skips-meaning s sliced nm b (due-sliced s) (K .unknown .unknown)) refl entered
 
-  pub slice-written : faults T ≡ fine → (st : Stage) (sl : Slice) (z r : List ℕ) (next : Stage) → Ready st → Taken T top z st sl next → Short (length z) → slice T top st (z ++ r) ≡ ok (sl, next) (length z)
+  pub slice-written : faults T ≡ fine → (st : Stage) (sl : Slice) (z r : List ℕ) (next : Stage) → Ready T st → Taken T top z st sl next → Short (length z) → slice T top st (z ++ r) ≡ ok (sl, next) (length z)
   unfolding standOf idForm
   slice-written right (seek s) (known o ps) z r next R K sh =
-      knows-written right (seek s) (K .row) (K .format) o ps z r next (K .knows) (K .agrees) sh (found-form s (K .format) o (K .row) (K .found))
-      (finds-meaning s (K .format) (K .row) o (anyOptional ps) (ready-due s (K .format) R (K .agrees)) (K .found) (K .descends))
+      let n = named-ok T o (K .row) (K .found) in
+      knows-written right (seek s) (K .row) (K .format) o ps z r next (n .0) (n .1) (K .knows) (K .agrees) sh (found-form s (K .format) o (K .row) (K .found))
+      (finds-meaning s (K .format) (K .row) o (anyOptional ps) (ready-due T s (K .format) R (K .agrees)) (K .found) (K .descends))
   slice-written right (seek s) (passed b nm d) z r next R K sh = skips-written s b nm d z r next K sh
   slice-written right (follow g zero) sl z r next R K sh = absurd K
   slice-written right (follow g (suc t)) (known o ps) z r next R K sh =
-      knows-written right (follow g (suc t)) t g o ps z r next K refl sh refl (follow-meaning g t o (anyOptional ps) (K .owner))
+      knows-written right (follow g (suc t)) t g o ps z r next (R .0) (R .1) K refl sh refl (follow-meaning g t o (anyOptional ps) (K .owner))
   slice-written right (follow g (suc t)) (passed b nm d) z r next R K sh = absurd K
 
 -- ---- the walk
@@ -584,17 +584,17 @@ module _ (T : List ℕ) (top : ℕ) where
   fits-done (follow h zero) g e = (cc, tt)
   fits-done (follow h (suc t)) g e = absurd (some≢none e refl)
 
-  walked : faults T ≡ fine → {f : ℕ} {st : Stage} {xs : List ℕ} {c : Chain} {n : ℕ} → Walk T top f st xs c n → Ready st → Bytes xs → Short (length xs)
+  walked : faults T ≡ fine → {f : ℕ} {st : Stage} {xs : List ℕ} {c : Chain} {n : ℕ} → Walk T top f st xs c n → Ready T st → Bytes xs → Short (length xs)
       → Fits T top st (c .format) (c .list) × (take n xs ≡ slicesBytes (c .format) (standOf st) (c .list))
   unfolding slicesBytes ahead
   walked right (WalkLaws.done {st = st} {g = g} e) R y sh = (fits-done st g e, refl)
   walked right (WalkLaws.next {st = st} {xs = xs} {sl = sl} {st′ = st′} {k = k} {c = c} {m = m} d e w) R y sh =
       let K = slice-canonical T right top xs y sh st R e in
-      let I = walked right w (taken-ready T top (take k xs) st sl st′ K) (bytes-drop k xs y) (omega (arith, length-drop k xs)) in
+      let I = walked right w (taken-ready T right top (take k xs) st sl st′ R K) (bytes-drop k xs y) (omega (arith, length-drop k xs)) in
       let A = fits-ahead st sl st′ (c .format) (c .list) (take k xs) (take m (drop k xs)) K (I .0) (I .1) in
       (A .0, take-add k m xs ∙ A .1)
 
-  pub walk-canonical : faults T ≡ fine → (f : ℕ) (st : Stage) → Ready st → (xs : List ℕ) → Bytes xs → Short (length xs) → {c : Chain} {n : ℕ} → walk T top f st xs ≡ ok c n
+  pub walk-canonical : faults T ≡ fine → (f : ℕ) (st : Stage) → Ready T st → (xs : List ℕ) → Bytes xs → Short (length xs) → {c : Chain} {n : ℕ} → walk T top f st xs ≡ ok c n
       → Fits T top st (c .format) (c .list) × (take n xs ≡ slicesBytes (c .format) (standOf st) (c .list))
   walk-canonical right f st R xs y sh h = walked right (walk-of T top f st xs h) R y sh
 
@@ -666,12 +666,12 @@ module _ (T : List ℕ) (top : ℕ) where
       }
   fits-next (follow h (suc t)) g (passed b nm d) ss F = absurd (subst (λ (l : List ℕ). Follow T l (passed b nm d ∷ ss)) (chain-node T t) (F .1))
 
-  pub walk-written : faults T ≡ fine → (ss : List Slice) (f : ℕ) (st : Stage) (g : Format) (r : List ℕ) → Ready st → Fits T top st g ss → length ss ≤ f → Short (length (slicesBytes g (standOf st) ss))
+  pub walk-written : faults T ≡ fine → (ss : List Slice) (f : ℕ) (st : Stage) (g : Format) (r : List ℕ) → Ready T st → Fits T top st g ss → length ss ≤ f → Short (length (slicesBytes g (standOf st) ss))
       → walk T top f st (slicesBytes g (standOf st) ss ++ r) ≡ ok (record { format = g; list = ss }) (length (slicesBytes g (standOf st) ss))
   unfolding slicesBytes ahead pure
   walk-written right [] f st g r R F l sh = ap (λ (p : Parser Chain). p r) (walk-ended T top f st (fits-end st g F))
   walk-written right (sl ∷ ss) zero st g r R F l sh = absurd (omega arith)
-  walk-written right (sl ∷ ss) (suc f) st g r R F l sh = go (fits-next st g sl ss F) (λ (next : Stage) (R : Ready next) (F : Fits T top next g ss) (sh : Short (length (slicesBytes g (standOf next) ss))). walk-written right ss f next g r R F (omega arith) sh)
+  walk-written right (sl ∷ ss) (suc f) st g r R F l sh = go (fits-next st g sl ss F) (λ (next : Stage) (R : Ready T next) (F : Fits T top next g ss) (sh : Short (length (slicesBytes g (standOf next) ss))). walk-written right ss f next g r R F (omega arith) sh)
     where
       z : List ℕ
       z = sliceFront g (standOf st) (isLast ss) sl ++ dataBytes sl
@@ -680,7 +680,7 @@ module _ (T : List ℕ) (top : ℕ) where
       w = slicesBytes g (later g) ss
 
       go : Next st g sl ss
-          → ((next : Stage) → Ready next → Fits T top next g ss → Short (length (slicesBytes g (standOf next) ss))
+          → ((next : Stage) → Ready T next → Fits T top next g ss → Short (length (slicesBytes g (standOf next) ss))
           → walk T top f next (slicesBytes g (standOf next) ss ++ r) ≡ ok (record { format = g; list = ss }) (length (slicesBytes g (standOf next) ss)))
           → walk T top (suc f) st (z ++ w ++ r) ≡ ok (record { format = g; list = sl ∷ ss }) (length (z ++ w))
       go N ih =
@@ -689,7 +689,7 @@ module _ (T : List ℕ) (top : ℕ) where
           let s₂ : Short (length z) = omega (arith, length-append z w) in
           let I : walk T top f next (w ++ r) ≡ ok (record { format = g; list = ss }) (length w) =
           subst (λ (s : Stand). Short (length (slicesBytes g s ss)) → walk T top f next (slicesBytes g s ss ++ r) ≡ ok (record { format = g; list = ss }) (length (slicesBytes g s ss))) (N .stands)
-          (ih next (taken-ready T top z st sl next (N .taken)) (N .rest)) s₁ in
+          (ih next (taken-ready T right top z st sl next R (N .taken)) (N .rest)) s₁ in
           ap (λ (p : Parser Chain). p (z ++ w ++ r)) (walk-on T top f st (N .turn))
           ∙ bind-written (slice T top st) (λ (r : Slice × Stage). mapc (λ c _. ahead (r .0) c) (walk T top f (r .1))) z w r
           (slice-written T top right st sl z (w ++ r) next R (N .taken) s₂)

@@ -12,7 +12,7 @@ use lib.ListN.{length, length-append}
 use Rattle.encoding.specs.ResultLaws.{some≢none}
 use Rattle.encoding.specs.Number.{Short}
 use Rattle.encoding.specs.Table.{types, kind, isRecord, nameOf, named, base, upward, chain}
-use Rattle.encoding.specs.RuleLaws.{base-right, named-short, named-ok, named-at, chain-node}
+use Rattle.encoding.specs.RuleLaws.{base-right, named-short, named-text, named-ok, named-at, chain-node}
 use Rattle.encoding.specs.Slice.{Format, sliced, Slice, known, passed, Stand, later, idOf, dataBytes, sliceFront, isLast, slicesBytes}
 use Rattle.encoding.specs.Conform.{Follow, Slices}
 use Rattle.encoding.specs.Extends.{Extends}
@@ -75,8 +75,13 @@ module _ (old new : List ℕ) (X : Extends old new) where
             go₂ (here q) = absurd (some≢none (ap (named old) (G .0) ∙ ap (λ (v : ℕ). named old (nameOf new v)) q ∙ pair-named old new X top top′ tops) e)
             go₂ (above v q w) =
                 let W = base-right new (X .new-right) u l r v q in
-                let i = named-short new (X .new-right) o u (ap (named new) (G .0) ∙ named-at new (X .new-right) u l r) in (
-                  record { format = fit e; unknown = e; id = record { length-short = omega (arith, i) }; data-short = short .0 },
+                let i : named new o ≡ some u = ap (named new) (G .0) ∙ named-at new (X .new-right) u l r in (
+                  record {
+                    format = fit e;
+                    unknown = e;
+                    id = record { length-short = omega (arith, named-short new (X .new-right) o u i); is-text = named-text new (X .new-right) o u i };
+                    data-short = short .0;
+                  },
                   ih v (omega (arith, W .0)) (ap (λ (k : ℕ). isRecord k) (W .1) ∙ r) w (subst (λ (c : ℕ). Follow new (upward (chain new) c) ss) q (G .2)) (short .1) (λ z. fit e),
                 )
 

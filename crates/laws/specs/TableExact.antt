@@ -30,6 +30,7 @@ use Rattle.encoding.specs.Table.{at, version, withLists, types, members, names,
 use Rattle.encoding.specs.RuleLaws.{any-none, record-kind, owns-record, takenBy-next, taken-rises, taken-next, turn-apart, turn-owner, header-test, list-test, row-begins, header-right, type-right, list-right, entries-whole, taken-whole, member-right}
 use Rattle.encoding.specs.ListLaws.{length-entries, entry-at, Reaches, rises-ok, rises-step}
 use Rattle.laws.specs.Demands.{ExactTable, OneOwner}
+use Rattle.encoding.specs.Utf8Laws.{utf8-ok, utf8-step}
 use Rattle.encoding.specs.Valid.{RecordKind, is-exception, is-class, OwnerKind, is-struct, is-record, is-parameters, Uses, of-basic, of-enum, of-listed, of-struct, of-sequence, of-dictionary, of-proxy, of-record, of-parameters, ValuePart, NoneFrom, EndsBefore, none-before, last-before, TakenBefore, HasList, EntriesBefore, Owner, ValidVersion, version-1, version-2, ValidHeader, TypeZeros, TypeKnown, TypeReferences, TypeTurn, TypeFilled, TypeName, TypeNamed, TypeEnumerator, ValidType, BrokenType, wrong-zeros, unknown-kind, wrong-reference, out-of-turn, empty-struct, wrong-name, great-enumerator, ValidList, TypeList, MemberZeros, MemberReference, MemberMark, MemberTag, ValidMember, BrokenMember, wrong-spare, wrong-type, wrong-mark, wrong-tag, Valid}
 
 -- ---- kinds
@@ -321,23 +322,24 @@ module _ (T : List ℕ) where
 -- ---- a type row, where the owners before it are in turn
 
 -- tests of one class are one test
-type-merged : (a b c d e f g h i j k l : Bool)
-    → firstOf ((32, a) ∷ (32, b) ∷ (33, c) ∷ (34, d) ∷ (34, e) ∷ (34, f) ∷ (35, g) ∷ (36, h) ∷ (37, i) ∷ (37, j) ∷ (37, k) ∷ (38, l) ∷ [])
-    ≡ firstOf ((32, a || b) ∷ (33, c) ∷ (34, d || (e || f)) ∷ (35, g) ∷ (36, h) ∷ (37, i || (j || k)) ∷ (38, l) ∷ [])
+type-merged : (a b c d e f g h i j k l m : Bool)
+    → firstOf ((32, a) ∷ (32, b) ∷ (33, c) ∷ (34, d) ∷ (34, e) ∷ (34, f) ∷ (35, g) ∷ (36, h) ∷ (37, i) ∷ (37, j) ∷ (37, k) ∷ (37, l) ∷ (38, m) ∷ [])
+    ≡ firstOf ((32, a || b) ∷ (33, c) ∷ (34, d || (e || f)) ∷ (35, g) ∷ (36, h) ∷ (37, i || (j || (k || l))) ∷ (38, m) ∷ [])
 unfolding firstOf
-type-merged true b c d e f g h i j k l = refl
-type-merged false true c d e f g h i j k l = refl
-type-merged false false true d e f g h i j k l = refl
-type-merged false false false true e f g h i j k l = refl
-type-merged false false false false true f g h i j k l = refl
-type-merged false false false false false true g h i j k l = refl
-type-merged false false false false false false true h i j k l = refl
-type-merged false false false false false false false true i j k l = refl
-type-merged false false false false false false false false true j k l = refl
-type-merged false false false false false false false false false true k l = refl
-type-merged false false false false false false false false false false true l = refl
-type-merged false false false false false false false false false false false true = refl
-type-merged false false false false false false false false false false false false = refl
+type-merged true b c d e f g h i j k l m = refl
+type-merged false true c d e f g h i j k l m = refl
+type-merged false false true d e f g h i j k l m = refl
+type-merged false false false true e f g h i j k l m = refl
+type-merged false false false false true f g h i j k l m = refl
+type-merged false false false false false true g h i j k l m = refl
+type-merged false false false false false false true h i j k l m = refl
+type-merged false false false false false false false true i j k l m = refl
+type-merged false false false false false false false false true j k l m = refl
+type-merged false false false false false false false false false true k l m = refl
+type-merged false false false false false false false false false false true l m = refl
+type-merged false false false false false false false false false false false true m = refl
+type-merged false false false false false false false false false false false false true = refl
+type-merged false false false false false false false false false false false false false = refl
 
 module _ (T : List ℕ) (t : ℕ) (turn : InTurn T t) where
   -- test i of the row
@@ -406,14 +408,15 @@ module _ (T : List ℕ) (t : ℕ) (turn : InTurn T t) where
     strict = λ P. where-true (eqb (kind T t) 9) _ (λ e. ne-eqb (field T t 1) 0 (λ z. omega (arith, P (eqb-true (kind T t) 9 e))));
   }
 
-  named : Tells (test 8 || (test 9 || test 10)) (TypeNamed T t)
+  named : Tells (test 8 || (test 9 || (test 10 || test 11))) (TypeNamed T t)
   unfolding typeRules alike
   named = record { fair = fair; strict = strict }
     where
-      fair : test 8 || (test 9 || test 10) ≡ false → TypeNamed T t
+      fair : test 8 || (test 9 || (test 10 || test 11)) ≡ false → TypeNamed T t
       fair h k =
-          let a : (test 8 ≡ false) × (test 9 || test 10 ≡ false) = either-false _ _ h in
-          let b : (test 9 ≡ false) × (test 10 ≡ false) = either-false _ _ (a .1) in
+          let a : (test 8 ≡ false) × (test 9 || (test 10 || test 11) ≡ false) = either-false _ _ h in
+          let b : (test 9 ≡ false) × (test 10 || test 11 ≡ false) = either-false _ _ (a .1) in
+          let c : (test 10 ≡ false) × (test 11 ≡ false) = either-false _ _ (b .1) in
           let r = record-step (kind T t) k in
           let len = either-false (eqb (field T t 4) 0) (ltb 255 (field T t 4)) (both-false (isRecord (kind T t)) _ (a .0) r) in
           record {
@@ -421,8 +424,9 @@ module _ (T : List ℕ) (t : ℕ) (turn : InTurn T t) where
             most = ltb-false 255 (field T t 4) (len .1);
             inside = ltb-false (names T) (field T t 3 + field T t 4) (both-false (isRecord (kind T t)) _ (b .0) r);
             new = λ s l q e.
-                let a = any-none (λ r. isRecord (kind T r) && sameBytes (nameOf T r) (nameOf T t)) 0 t (both-false (isRecord (kind T t)) _ (b .1) r) s (omega arith) (omega arith) in
+                let a = any-none (λ r. isRecord (kind T r) && sameBytes (nameOf T r) (nameOf T t)) 0 t (both-false (isRecord (kind T t)) _ (c .0) r) s (omega arith) (omega arith) in
                 true≢false (sym (sameBytes-same (nameOf T s) (nameOf T t) e) ∙ both-false (isRecord (kind T s)) _ a (record-step (kind T s) q));
+            is-text = utf8-ok (nameOf T t) (not-false _ (both-false (isRecord (kind T t)) _ (c .1) r));
           }
 
       name-new : TypeName T t → alike T t ≡ false
@@ -430,14 +434,15 @@ module _ (T : List ℕ) (t : ℕ) (turn : InTurn T t) where
           any-step (λ r. isRecord (kind T r) && sameBytes (nameOf T r) (nameOf T t)) 0 t (λ r a b.
           where-true (isRecord (kind T r)) _ (λ e. bytes-differ (nameOf T r) (nameOf T t) (N .new r (omega arith) (record-ok (kind T r) e))))
 
-      strict : TypeNamed T t → test 8 || (test 9 || test 10) ≡ false
+      strict : TypeNamed T t → test 8 || (test 9 || (test 10 || test 11)) ≡ false
       strict P =
           let name : isRecord (kind T t) ≡ true → TypeName T t = λ e. P (record-ok (kind T t) e) in
           neither _ _ (where-true (isRecord (kind T t)) _ (λ e. neither _ _ (ne-eqb (field T t 4) 0 (λ z. omega (arith, name e .some))) (le-ltb 255 (field T t 4) (name e .most))))
           (neither _ _ (where-true (isRecord (kind T t)) _ (λ e. le-ltb (names T) (field T t 3 + field T t 4) (name e .inside)))
-          (where-true (isRecord (kind T t)) _ (λ e. name-new (name e))))
+          (neither _ _ (where-true (isRecord (kind T t)) _ (λ e. name-new (name e)))
+          (where-true (isRecord (kind T t)) _ (λ e. ap not (utf8-step (nameOf T t) (name e .is-text))))))
 
-  enumerator : Tells (test 11) (TypeEnumerator T t)
+  enumerator : Tells (test 12) (TypeEnumerator T t)
   unfolding typeRules greatest negative
   enumerator = record {
     fair = λ h e. leb-false (2 ^ 31) (field T t 0 + 65536 * field T t 1) (both-false (eqb (kind T t) 8) _ h (rw e));
@@ -445,9 +450,9 @@ module _ (T : List ℕ) (t : ℕ) (turn : InTurn T t) where
   }
 
   -- the class that the rules give a row
-  type-class : firstOf (typeRules T t) ≡ firstOf ((32, test 0 || test 1) ∷ (33, test 2) ∷ (34, test 3 || (test 4 || test 5)) ∷ (35, test 6) ∷ (36, test 7) ∷ (37, test 8 || (test 9 || test 10)) ∷ (38, test 11) ∷ [])
+  type-class : firstOf (typeRules T t) ≡ firstOf ((32, test 0 || test 1) ∷ (33, test 2) ∷ (34, test 3 || (test 4 || test 5)) ∷ (35, test 6) ∷ (36, test 7) ∷ (37, test 8 || (test 9 || (test 10 || test 11))) ∷ (38, test 12) ∷ [])
   unfolding typeRules
-  type-class = type-merged _ _ _ _ _ _ _ _ _ _ _ _
+  type-class = type-merged _ _ _ _ _ _ _ _ _ _ _ _ _
 
   -- what a row is that gets class n, or 0
   abbrev TypeJudged : ℕ → Type 0
@@ -456,10 +461,10 @@ module _ (T : List ℕ) (t : ℕ) (turn : InTurn T t) where
 
   type-judged : (n : ℕ) → firstOf (typeRules T t) ≡ n → TypeJudged n
   unfolding firstOf
-  type-judged n h = go (test 0 || test 1) refl (test 2) refl (test 3 || (test 4 || test 5)) refl (test 6) refl (test 7) refl (test 8 || (test 9 || test 10)) refl (test 11) refl (sym type-class ∙ h)
+  type-judged n h = go (test 0 || test 1) refl (test 2) refl (test 3 || (test 4 || test 5)) refl (test 6) refl (test 7) refl (test 8 || (test 9 || (test 10 || test 11))) refl (test 12) refl (sym type-class ∙ h)
     where
       go : (a : Bool) → test 0 || test 1 ≡ a → (b : Bool) → test 2 ≡ b → (c : Bool) → test 3 || (test 4 || test 5) ≡ c → (d : Bool) → test 6 ≡ d → (e : Bool) → test 7 ≡ e
-          → (f : Bool) → test 8 || (test 9 || test 10) ≡ f → (g : Bool) → test 11 ≡ g
+          → (f : Bool) → test 8 || (test 9 || (test 10 || test 11)) ≡ f → (g : Bool) → test 12 ≡ g
           → firstOf ((32, a) ∷ (33, b) ∷ (34, c) ∷ (35, d) ∷ (36, e) ∷ (37, f) ∷ (38, g) ∷ []) ≡ n → TypeJudged n
       go true ea b eb c ec d ed e ee f ef g eg h = subst TypeJudged h (wrong-zeros (failed zeros ea))
       go false ea true eb c ec d ed e ee f ef g eg h = subst TypeJudged h (unknown-kind (zeros .fair ea) (failed known eb))

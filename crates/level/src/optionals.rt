@@ -24,7 +24,7 @@ fn used_up(table: &[u8], begin: usize, shapes: &[u8; 256], t: usize, s: &[u8], f
 {
     if f == 8 {
         if shapes::is_text(shapes, t) {
-            return optional::extents::whole(wire::read_string(s));
+            return optional::extents::whole(text::read_string(s));
         }
     }
     let p = optional::extents::part(s, f);

@@ -11,10 +11,10 @@ use wire::Step;
 fn identity(s: &[u8]) -> Sized
     ensures { λ r. ⌜ r ≡ sizedOf (named (now (s .entry))) ⌝ }
 {
-    let z = wire::read_string(s);
+    let z = text::read_string(s);
     match z {
         Sized::Is(n, k) => {
-            let y = wire::read_string(&s[k..]);
+            let y = text::read_string(&s[k..]);
             match y {
                 Sized::Is(c, j) => {
                     if 0 < n {
@@ -45,7 +45,7 @@ fn facets(s: &[u8]) -> Step
             if n == 0 {
                 return Step::Took(k);
             }
-            let step = wire::read_text(&s[k..]);
+            let step = text::read_text(&s[k..]);
             match step {
                 Step::Took(m) => Step::Took(k + m),
                 Step::Fault(f, p) => Step::Fault(f, k + p),
@@ -95,7 +95,7 @@ fn addresses(s: &[u8], n: usize) -> Step
     ensures { λ r. ⌜ r ≡ stepOf (addresses n (now (s .entry))) ⌝ }
 {
     if n == 0 {
-        return wire::read_text(s);
+        return text::read_text(s);
     }
     endpoint_list(s, n)
 }

@@ -7,7 +7,8 @@
 --   set-.., clear-..           fields that are not 0, from one on
 --   unused-..                  those that a kind does not use; enum-listed, enum-plain those of an enum
 --   part-.., base-..           references to rows below
---   Before, before-.., alike-is   the loop over the names of rows before, and that it finds what is alike
+--   Before, before-..          the loop over the names of rows before
+--   alike-is, name-text-is     of a row's name: it finds what is alike; it is text
 --   past-.., Plain, plain-..   how far no row is a record; alike-from: names are alike from there on or nowhere
 --   enum-.. list-..            the rules of each kind; kind-.. those of a row by its kind; row-.. all of a type row
 --   share-.., Sum, sum-..      the member rows that rows take
@@ -34,6 +35,7 @@ use lib.Dec.{eqb, leb, ltb}
 use borrow.Author.Tests.{eqb-true, eqb-false, leb-true, ltb-true, ltb-false, not-true, not-false, lt-ltb, le-ltb, le-leb, lt-leb, eq-eqb, ne-eqb}
 use Rattle.encoding.specs.Result.{pick, firstOf, sameBytes}
 use Rattle.encoding.specs.ResultLaws.{both-true, either-false}
+use Rattle.encoding.specs.Utf8.{isUtf8}
 use Rattle.encoding.specs.Number.{val, negative}
 use Rattle.encoding.specs.Table.{at, version, withLists, types, members, names, entries, typesAt, rowAt, memberAt, namesAt, entriesAt, fieldAt, listEntry, kind, spare, field, memberType, mark, memberSpare, tag, isRecord, owns, nameOf, range, any, used, takenBy, taken, noPart, alike, typeRules, risesTo, hasList, entriesTaken, allowedRules, entriesRules, headerTests, headerRules, sumRules, faultAt, Fault, fine, fault, orElse, pass, passes, faults}
 use Rattle.encoding.specs.TableLaws.{header-least}
@@ -407,13 +409,20 @@ unfolding any
 any-same f g h [] = refl
 any-same f g h (i ∷ l) = rw (h i, any-same f g h l)
 
-pub alike-is : (T : List ℕ) (from t p a l : ℕ) (row : TypeRow) (r : Bool) → IsTypeRow T t row → p ≡ namesAt T → a ≡ min (p + row .d) (length T) → l ≡ min (row .e) (length T - a)
-    → r ≡ any (isNamed T (take (a + l - a) (drop a T))) (range from (t - from)) → r ≡ alikeFrom T from t
-unfolding alikeFrom
-alike-is T from t p a l row r i ep ea el h =
-    let n = name-long T t p (row .d) ep (i .d-is) a (row .e) l ea (i .e-is) el in
-    let z : a + l - a ≡ length (nameOf T t) = omega (arith, n) in
-    h ∙ rw (z, name-least T t p (row .d) ep (i .d-is) a ea, name-part T t)
+-- the part of the table that is a row's name
+module _ (T : List ℕ) (t p a l : ℕ) (row : TypeRow) (r : Bool) (i : IsTypeRow T t row) (ep : p ≡ namesAt T) (ea : a ≡ min (p + row .d) (length T)) (el : l ≡ min (row .e) (length T - a)) where
+  name-taken : take (a + l - a) (drop a T) ≡ nameOf T t
+  name-taken =
+      let n = name-long T t p (row .d) ep (i .d-is) a (row .e) l ea (i .e-is) el in
+      let z : a + l - a ≡ length (nameOf T t) = omega (arith, n) in
+      rw (z, name-least T t p (row .d) ep (i .d-is) a ea, name-part T t)
+
+  pub alike-is : (from : ℕ) → r ≡ any (isNamed T (take (a + l - a) (drop a T))) (range from (t - from)) → r ≡ alikeFrom T from t
+  unfolding alikeFrom
+  alike-is from h = h ∙ rw name-taken
+
+  pub name-text-is : r ≡ isUtf8 (take (a + l - a) (drop a T)) → r ≡ isUtf8 (nameOf T t)
+  name-text-is h = h ∙ rw name-taken
 
 -- how far no row is a record
 module _ (from t : ℕ) (b : Bool) where
@@ -548,9 +557,16 @@ module _ (T : List ℕ) (t : ℕ) (r : TypeRow) (n : ℕ) (s b : Bool) (eb : b �
             unfolding firstOf recordRules
             record-alike q = rw (← eb, base, eq-eqb (r .a) n first, ne-eqb (r .e) 0 some, le-ltb 255 (r .e) short, ← ek, le-ltb k (r .d + r .e) within, ← ea, q)
 
-            pub record-fine : a ≡ false → 0 ≡ firstOf (recordRules T t r n s)
-            unfolding firstOf recordRules
-            record-fine q = rw (← eb, base, eq-eqb (r .a) n first, ne-eqb (r .e) 0 some, le-ltb 255 (r .e) short, ← ek, le-ltb k (r .d + r .e) within, ← ea, q)
+            module _ (new : a ≡ false) (u : Bool) (eu : u ≡ isUtf8 (nameOf T t)) where
+              pub record-other : u ≡ false → 37 ≡ firstOf (recordRules T t r n s)
+              unfolding firstOf recordRules
+              record-other q =
+                  rw (← eb, base, eq-eqb (r .a) n first, ne-eqb (r .e) 0 some, le-ltb 255 (r .e) short, ← ek, le-ltb k (r .d + r .e) within, ← ea, new, ← eu, q)
+
+              pub record-fine : u ≡ true → 0 ≡ firstOf (recordRules T t r n s)
+              unfolding firstOf recordRules
+              record-fine q =
+                  rw (← eb, base, eq-eqb (r .a) n first, ne-eqb (r .e) 0 some, le-ltb 255 (r .e) short, ← ek, le-ltb k (r .d + r .e) within, ← ea, new, ← eu, q)
 
 module _ (T : List ℕ) (t : ℕ) (r : TypeRow) (n c : ℕ) (s : Bool) where
   pub kind-enum : r .kind ≡ 8 → c ≡ firstOf (enumRules r) → c ≡ firstOf (kindRules T t r n s)

@@ -28,6 +28,7 @@ use mathlib.Core.List.{List, [], _∷_, map}
 use lib.ListN.{take, drop}
 use lib.Dec.{eqb, leb, ltb}
 use Rattle.encoding.specs.Result.{pick, sameBytes}
+use Rattle.encoding.specs.Utf8.{isUtf8}
 use Rattle.encoding.specs.Table.{at, version, withLists, types, members, names, rowAt, memberAt, listEntry, kind, field, mark, tag, isRecord, owns, nameOf, range, any, great, used, noPart, typeRules, risesTo, allowedRules, entriesRules, sumRules, memberRules, Fault, fine, fault, orElse, pass}
 use Rattle.table.specs.Names.{isNamed}
 use Rattle.table.specs.Rows.{typeRowOf, memberRowOf, greatestOf}
@@ -74,6 +75,7 @@ recordRules T t r n b =
     ∷ (37, eqb (r .e) 0 || ltb 255 (r .e))
     ∷ (37, ltb (names T) (r .d + r .e))
     ∷ (37, b)
+    ∷ (37, not (isUtf8 (nameOf T t)))
     ∷ []
 
 unfoldable pub listRules : TypeRow → ℕ → List (ℕ × Bool)

@@ -7,7 +7,8 @@ ghost use mathlib.Core.List.{map};
 ghost use Prim.Native.Nat.{_+_, _-_, _≤_, _<_, max};
 ghost use lib.ListN.{length};
 ghost use Rattle.encoding.specs.Result.{firstOf};
-ghost use Rattle.encoding.specs.Table.{any, range, withLists, types, members, typesAt, rowAt, membersAt, memberAt, namesAt, entriesAt, listEntry, headerRules, used, noPart, risesTo, faultAt, faults};
+ghost use Rattle.encoding.specs.Utf8.{isUtf8};
+ghost use Rattle.encoding.specs.Table.{any, range, withLists, types, members, typesAt, rowAt, membersAt, memberAt, namesAt, nameOf, entriesAt, listEntry, headerRules, used, noPart, risesTo, faultAt, faults};
 ghost use Rattle.table.specs.Names.{isNamed};
 ghost use Rattle.table.specs.Rows.{IsTypeRow};
 ghost use Rattle.rules.specs.Checks.{findingOf, isMarked, isSetFrom, noBaseOf, alikeFrom, enumRules, structRules, seqRules, dictRules, recordRules, listRules, kindRules, rowRules, share, isBasic, past, allowedRulesBy, entryCount, allowedPass, rowsPass, isOptionalOf, isTagBefore, isTagAlike, requiredRules, optionalRules, memberRulesBy, isUsual, ownerPass, ownersPass, MembersThere, OwnersThere};
@@ -208,6 +209,18 @@ fn alike(table: &[u8], begin: usize, labels: usize, t: usize, row: TypeRow, from
     is_name_before(table, begin, &table[a..e], from, t)
 }
 
+// The name of row t is text. The names begin at `labels`.
+fn is_name_text(table: &[u8], labels: usize, t: usize, row: TypeRow) -> bool
+    requires { ⌜ (labels ≡ namesAt (now table)) × (labels < 2097152) ⌝ }
+    requires { ⌜ IsTypeRow (now table) t row ⌝ }
+    ensures { λ r. ⌜ r ≡ isUtf8 (nameOf (now (table .entry)) t) ⌝ }
+{
+    let start = labels + row.d;
+    let a = wire::least(start, table.len());
+    let e = a + wire::least(row.e, table.len() - a);
+    text::is_utf8(table, a, e)
+}
+
 // The rule of an enum.
 fn enum_row(row: TypeRow) -> usize
     requires { ⌜ (row .a < 65536) × (row .b < 65536) ⌝ }
@@ -293,7 +306,10 @@ fn record_row(
     if alike(table, begin, labels, t, row, from) {
         return 37;
     }
-    0
+    if is_name_text(table, labels, t, row) {
+        return 0;
+    }
+    37
 }
 
 // The rule of a parameter list.

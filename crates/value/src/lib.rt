@@ -35,7 +35,7 @@ fn value(table: &[u8], begin: usize, shapes: &[u8; 256], t: usize, e: usize, s: 
         4 => plain::skip(s, 8),
         5 => plain::skip(s, 4),
         6 => plain::skip(s, 8),
-        7 => wire::read_text(s),
+        7 => text::read_text(s),
         8 => plain::enumerator(table, e, s),
         9 => struct_value(table, begin, shapes, e, s),
         10 => sequence(table, begin, shapes, e, s),
@@ -233,7 +233,7 @@ fn key(
     ensures { λ r. ⌜ r ≡ stepOf (value (partTy (now (table .entry)) t k) (now (s .entry))) ⌝ }
 {
     if text {
-        return wire::read_text(s);
+        return text::read_text(s);
     }
     part(table, begin, shapes, t, k, s)
 }
@@ -300,7 +300,7 @@ pub fn read_member(table: &[u8], begin: usize, shapes: &[u8; 256], t: usize, s: 
         }
     }
     if shapes::is_text(shapes, t) {
-        return wire::read_text(s);
+        return text::read_text(s);
     }
     if shapes::is_bool(shapes, t) {
         return plain::bool(s);

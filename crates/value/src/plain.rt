@@ -40,7 +40,7 @@ pub fn texts(s: &[u8], n: usize) -> Step
     let mut left = n;
     let mut at: usize = 0;
     while left > 0 {
-        let step = wire::read_text(&s[at..]);
+        let step = text::read_text(&s[at..]);
         match step {
             Step::Took(m) => {
                 at += m;

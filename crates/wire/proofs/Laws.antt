@@ -1,4 +1,4 @@
--- Numbers by their bytes or their halves, and the cases of sizes, declared lengths, counted bytes and strings by the bytes at the head. Assumes nothing.
+-- Numbers by their bytes or their halves, and the cases of sizes, declared lengths and counted bytes by the bytes at the head. Assumes nothing.
 --
 --   short-is, int-is      two bytes, and two shorts, all inside; long-whole: two ints
 --   long-is               two ints of the part that begins at the place
@@ -6,9 +6,7 @@
 --   size-..               the cases of `size`
 --   declared-..           the cases of `declared`
 --   counted-..            the cases of a size and that many bytes; size-within: the size lies within the bytes at hand
---   string-counted        a string, whatever it holds
---   text-took, -bad       a string, its content left out
-use mathlib.Core.Path.{_≡_, refl, sym, ap, _∙_}
+use mathlib.Core.Path.{_≡_, sym, _∙_}
 use mathlib.Core.Bool.{Bool, false}
 use mathlib.Core.List.{List}
 use Prim.Native.Nat.{ℕ, _+_, _-_, _*_, _^_, _≤_, _<_}
@@ -18,19 +16,18 @@ use lib.ListN.{length, take, drop, getD, length-drop}
 use lib.Seq.{length-take-le}
 use lib.Dec.{leb}
 use borrow.Author.Tests.{le-leb, lt-leb, lt-ltb, le-ltb}
-use Rattle.encoding.specs.Result.{Res, ok, bad, shift, after, _>>=_, pure, chunk, atFirst, item, judged, must, made, mapc, firstOf}
+use Rattle.encoding.specs.Result.{shift, after, _>>=_, pure, chunk, atFirst, item, judged, must, firstOf}
 use Rattle.encoding.specs.ResultLaws.{held-took}
 use Rattle.encoding.specs.Table.{at}
-use Rattle.encoding.specs.Number.{negative, number, byte, sizeForm, sizeTail, size, lengthForm, declared, Content, string}
+use Rattle.encoding.specs.Number.{negative, number, byte, sizeForm, sizeTail, size, lengthForm, declared}
 use Rattle.encoding.specs.NumberLaws.{held-size}
-use Rattle.encoding.specs.Proxy.{text}
 use Rattle.encoding.specs.Types.{vsize}
 use Rattle.encoding.specs.Optional.{extent}
 use Rattle.wire.specs.declared.Step.the-variants.{Took, Fault}
 use Rattle.wire.specs.declared.Sized.{Sized}
 use Rattle.wire.specs.declared.Sized.the-variants.{Is, Isnt}
 use Rattle.wire.specs.Steps.{stepOf, sizedOf, bytesOf}
-use Rattle.wire.specs.StepLaws.{sized-is, sized-isnt, bytes-is, bytes-isnt}
+use Rattle.wire.specs.StepLaws.{sized-is, sized-isnt}
 use Rattle.wire.proofs.Room.{fits-no}
 use Rattle.wire.specs.At.{at-byte, at-split, at-cut, at-rest}
 
@@ -135,25 +132,3 @@ module _ (s : List ℕ) (r : Sized) (e : r ≡ sizedOf (size s)) where
     counted-whole h =
         let l : n ≤ length (drop k s) = omega (arith, length-drop k s) in
         rw (sized-is (size s) n k (sym q ∙ e), le-leb n (length (drop k s)) l, length-take-le n (drop k s) l)
-
--- ---- a string
-
--- any content is fine
-content-fine : (r : Res (List ℕ)) → judged Content r ≡ r
-unfolding judged Content
-content-fine (ok d n) = refl
-content-fine (bad c p) = refl
-
-pub string-counted : (s : List ℕ) (r : Sized) → r ≡ bytesOf (extent vsize s) → r ≡ bytesOf (string s)
-unfolding string must extent
-string-counted s r e = e ∙ sym (ap bytesOf (content-fine (extent vsize s)))
-
--- its content left out
-module _ (s : List ℕ) (r : Sized) (e : r ≡ bytesOf (string s)) where
-  pub text-took : (n k : ℕ) → r ≡ Is n k → Took k ≡ stepOf (text s)
-  unfolding text mapc made stepOf
-  text-took n k q = rw (bytes-is (string s) n k (sym q ∙ e) .1)
-
-  pub text-bad : (f p : ℕ) → r ≡ Isnt f p → Fault f p ≡ stepOf (text s)
-  unfolding text mapc made stepOf
-  text-bad f p q = rw (bytes-isnt (string s) f p (sym q ∙ e))

@@ -1,4 +1,4 @@
-// Numbers, sizes, strings, declared lengths and bits, read from the start of the bytes given and put at a place. Each function equals a definition, on any bytes.
+// Numbers, sizes, counted bytes, declared lengths and bits, read from the start of the bytes given and put at a place. Each function equals a definition, on any bytes.
 // rows.rt has the layout of a row of a list.
 pub mod rows;
 
@@ -8,8 +8,7 @@ ghost use lib.Dec.{leb, ltb};
 ghost use lib.ListN.{length, take, drop};
 ghost use Rattle.encoding.specs.Result.{pick};
 ghost use Rattle.encoding.specs.Table.{at as number-at};
-ghost use Rattle.encoding.specs.Number.{size, string, declared, leBytes, sizeBytes};
-ghost use Rattle.encoding.specs.Proxy.{text};
+ghost use Rattle.encoding.specs.Number.{size, declared, leBytes, sizeBytes};
 ghost use Rattle.encoding.specs.Types.{vsize};
 ghost use Rattle.encoding.specs.Optional.{extent};
 ghost use Rattle.encoding.specs.Slice.{sliced, compact, bit, worth, flagBits};
@@ -160,24 +159,6 @@ pub fn read_counted(s: &[u8]) -> Sized
             }
         }
         Sized::Isnt(e, p) => Sized::Isnt(e, 0),
-    }
-}
-
-// A string. Every string is read here: of values, type IDs, identities, facets, adapters and optionals.
-pub fn read_string(s: &[u8]) -> Sized
-    ensures { λ r. ⌜ r ≡ bytesOf (string (now (s .entry))) ⌝ }
-{
-    read_counted(s)
-}
-
-// A string, of which only the bytes taken are wanted.
-pub fn read_text(s: &[u8]) -> Step
-    ensures { λ r. ⌜ r ≡ stepOf (text (now (s .entry))) ⌝ }
-{
-    let z = read_string(s);
-    match z {
-        Sized::Is(n, k) => Step::Took(k),
-        Sized::Isnt(e, p) => Step::Fault(e, p),
     }
 }
 

@@ -95,6 +95,12 @@ pub fn read(table: &[u8], top: u32, message: &[u8], rows: &mut [u8]) -> u32 {
     }
 }
 
+/// The place of the reader's refusal.
+pub fn read_place(table: &[u8], top: u32, message: &[u8], room: usize) -> u32 {
+    // SAFETY: as above; nothing is written.
+    unsafe { icehub_read_place(table.as_ptr(), table.len(), top, message.as_ptr(), message.len(), room) }
+}
+
 /// The reader with its five numbers: 0 or the refusal number.
 pub fn read_numbers(table: &[u8], top: u32, message: &[u8], rows: &mut [u8], numbers: &mut [u8]) -> u32 {
     // SAFETY: as above; only `rows` and `numbers` are written.

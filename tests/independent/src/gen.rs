@@ -1,10 +1,13 @@
-//! Random calls from one seed: tables of both versions and all kinds, right and damaged; messages in both formats with unknown optionals
-//! and slices in them, conforming, with wrong items in them, or damaged; right and wrong rows for the writer.
+//! Random calls from one seed: tables of both versions and all kinds, right and damaged; messages in both formats with
+//! unknown optionals and slices in them, conforming, with wrong items in them, with strings that are no text, or damaged;
+//! right and wrong rows for the writer.
 
 mod message;
+mod text;
 mod types;
 
-pub use message::{message, Message};
+pub use message::{message, Message, Wrong};
+pub use text::{Made, Text};
 pub use types::Types;
 
 use crate::calls::Call;
@@ -64,10 +67,11 @@ impl Rng {
         }
     }
 
+    /// A name: text of 1 to 255 bytes.
     fn name(&mut self) -> Vec<u8> {
         let length = self.pick(&[1, 1, 2, 2, 3, 4, 6, 9, 9, 253, 254, 255]);
         let length = if length > 200 && !self.one_in(4) { 5 } else { length };
-        (0..length).map(|_| self.pick(b":::ABCabc\0\xFF")).collect()
+        self.text(length)
     }
 }
 
@@ -153,10 +157,24 @@ fn damaged_table(rng: &mut Rng, types: &Types) -> Vec<u8> {
     for _ in 0..rng.pick(if lists { &[0, 0, 0, 1] } else { &[1, 1, 2, 3] }) {
         let (r, other) = (rng.below(rows), rng.below(rows));
         let (row, other) = (start + 12 * r, start + 12 * other);
+        let records: Vec<u16> = types.records().collect();
+        if !records.is_empty() && rng.one_in(12) {
+            let (one, other) = (rng.pick(&records), rng.pick(&records));
+            if rng.one_in(2) {
+                // A name that is no text.
+                let [.., from, length] = types.fields(one).map(usize::from);
+                let names = start + 12 * rows + 8 * members;
+                rng.spoil(&mut bytes[names + from..names + from + length]);
+            } else {
+                // The name of another record.
+                let [one, other] = [one, other].map(|r| start + 12 * r as usize + 8);
+                bytes.copy_within(other..other + 4, one);
+            }
+            continue;
+        }
         match rng.below(14) {
             0 => bytes[rng.below(start)] = rng.byte(),
-            1 => bytes.copy_within(other..other + 12, row),
-            2 => bytes.copy_within(other + 8..other + 12, row + 8), // the name of a record
+            1 | 2 => bytes.copy_within(other..other + 12, row),
             3 => bytes[row] = rng.below(18) as u8,
             4..=8 => {
                 let field = row + 2 * rng.below(6);
@@ -193,13 +211,20 @@ pub struct Calls {
     types: Types,
     /// Calls still to be made under these types.
     left: usize,
+    /// The strings of the message that the last call reads, unless it was damaged.
+    strings: Vec<Made>,
 }
 
 impl Calls {
     pub fn new(seed: u64) -> Calls {
         let mut rng = Rng(seed);
         let types = Types::random(&mut rng);
-        Calls { rng, types, left: 16 }
+        Calls { rng, types, left: 16, strings: vec![] }
+    }
+
+    /// What the string at a place of the last call's message is; none if it was damaged.
+    pub fn string_at(&self, place: u32) -> Option<Text> {
+        self.strings.iter().find(|string| string.place == place as usize).map(|string| string.what)
     }
 }
 
@@ -208,10 +233,11 @@ impl Iterator for Calls {
 
     fn next(&mut self) -> Option<Call> {
         if self.left == 0 {
-            *self = Calls { types: Types::random(&mut self.rng), left: 16, rng: Rng(self.rng.next()) };
+            *self = Calls { types: Types::random(&mut self.rng), left: 16, rng: Rng(self.rng.next()), strings: vec![] };
         }
         self.left -= 1;
-        let (rng, types) = (&mut self.rng, &self.types);
+        self.strings.clear();
+        let (rng, types, strings) = (&mut self.rng, &self.types, &mut self.strings);
         let top = types.top(rng);
         Some(match rng.below(1_000) {
             0 => large(rng),
@@ -219,49 +245,52 @@ impl Iterator for Calls {
             2..=29 => Call::Check { table: damaged_table(rng, types) },
             30..=79 => {
                 let table = damaged_table(rng, types);
-                let message = message(rng, types, top, 0);
-                read_call(rng, table, top.into(), message)
+                let message = message(rng, types, top, Wrong::Nothing);
+                read_call(rng, table, top.into(), message, strings)
             }
-            80..=349 => {
-                let message = message(rng, types, top, 0);
-                read_call(rng, types.spec.bytes(), top.into(), message)
+            80..=299 => {
+                let message = message(rng, types, top, Wrong::Nothing);
+                read_call(rng, types.spec.bytes(), top.into(), message, strings)
+            }
+            300..=349 => {
+                let wrong = Wrong::Strings(rng.pick(&[2, 8, 30]));
+                let message = message(rng, types, top, wrong);
+                read_call(rng, types.spec.bytes(), top.into(), message, strings)
             }
             350..=549 => {
-                let wrong = rng.pick(&[8, 20, 50]);
+                let wrong = Wrong::Items(rng.pick(&[8, 20, 50]));
                 let message = message(rng, types, top, wrong);
-                read_call(rng, types.spec.bytes(), top.into(), message)
+                read_call(rng, types.spec.bytes(), top.into(), message, strings)
             }
-            550..=599 => {
-                let mut message = message(rng, types, top, 0);
-                damage(rng, &mut message.bytes, 0);
-                if !rng.one_in(4) {
+            550..=649 => {
+                let mut message = message(rng, types, top, Wrong::Nothing);
+                let from = rng.pick(&[0, 6]);
+                damage(rng, &mut message.bytes, from);
+                message.strings.clear();
+                if from != 0 || !rng.one_in(4) {
                     mend(&mut message.bytes);
                 }
-                read_call(rng, types.spec.bytes(), top.into(), message)
-            }
-            600..=649 => {
-                let mut message = message(rng, types, top, 0);
-                damage(rng, &mut message.bytes, 6);
-                mend(&mut message.bytes);
-                read_call(rng, types.spec.bytes(), top.into(), message)
+                read_call(rng, types.spec.bytes(), top.into(), message, strings)
             }
             650..=749 => {
-                let message = message(rng, types, top, 0);
+                let wrong = if rng.one_in(4) { Wrong::Strings(8) } else { Wrong::Nothing };
+                let message = message(rng, types, top, wrong);
                 let older = types.older(rng).spec.bytes();
-                read_call(rng, older, top.into(), message)
+                read_call(rng, older, top.into(), message, strings)
             }
             750..=799 => {
-                let message = message(rng, types, top, 0);
+                let message = message(rng, types, top, Wrong::Nothing);
                 let top = if rng.one_in(2) { types.top(rng).into() } else { rng.number(types.spec.rows.len()) };
-                read_call(rng, types.spec.bytes(), top, message)
+                read_call(rng, types.spec.bytes(), top, message, strings)
             }
-            800..=879 => rows(rng, types, top, 0).call(rng),
-            880..=899 => {
-                let wrong = rng.pick(&[8, 20, 50]);
+            800..=869 => rows(rng, types, top, Wrong::Nothing).call(rng),
+            870..=899 => {
+                let one_in = rng.pick(&[8, 20, 50]);
+                let wrong = if rng.one_in(3) { Wrong::Strings(one_in) } else { Wrong::Items(one_in) };
                 rows(rng, types, top, wrong).call(rng)
             }
             _ => {
-                let mut rows = rows(rng, types, top, 0);
+                let mut rows = rows(rng, types, top, Wrong::Nothing);
                 rows.spoil(rng);
                 rows.call(rng)
             }
@@ -269,7 +298,8 @@ impl Iterator for Calls {
     }
 }
 
-fn read_call(rng: &mut Rng, table: Vec<u8>, top: u32, message: Message) -> Call {
+fn read_call(rng: &mut Rng, table: Vec<u8>, top: u32, message: Message, strings: &mut Vec<Made>) -> Call {
+    *strings = message.strings;
     let rows = 12 * message.rows.len();
     let room = match rng.below(12) {
         0 => rows.saturating_sub(1),
@@ -290,10 +320,9 @@ struct Rows {
     buffer: Vec<u8>,
 }
 
-/// The rows of a message, in it or in a buffer of their parts in another order. One item in `wrong` is wrong; with 0 they
-/// are right.
-fn rows(rng: &mut Rng, types: &Types, top: u16, wrong: usize) -> Rows {
-    let Message { bytes, mut rows, reading } = message(rng, types, top, wrong);
+/// The rows of a message, in it or in a buffer of their parts in another order.
+fn rows(rng: &mut Rng, types: &Types, top: u16, wrong: Wrong) -> Rows {
+    let Message { bytes, mut rows, reading, .. } = message(rng, types, top, wrong);
     let mut buffer = bytes;
     if rng.one_in(2) {
         let message = std::mem::take(&mut buffer);
@@ -376,19 +405,22 @@ fn large(rng: &mut Rng) -> Call {
     let one = spec.owner(15, &[(part, None)]);
     let two = spec.owner(15, &[(part, None), (part, None)]);
     let table = spec.bytes();
-    let value = |bytes: usize| {
-        let count = (bytes - 5) / if part == shorts { 2 } else { 1 };
-        let mut value = [&[255][..], &(count as u32).to_le_bytes()].concat();
-        value.resize(bytes, 1);
-        value
-    };
     let total = 65_533 + rng.below(6);
+    let value = |rng: &mut Rng, bytes: usize| {
+        let count = (bytes - 5) / if part == shorts { 2 } else { 1 };
+        let size = [&[255][..], &(count as u32).to_le_bytes()].concat();
+        let mut content = if part == string { rng.text(bytes - 5) } else { vec![1; bytes - 5] };
+        if part == string && rng.one_in(4) {
+            rng.spoil(&mut content);
+        }
+        [size, content].concat()
+    };
     if rng.one_in(2) {
-        let mut message = [&[0, 0, 0, 0, 1, 1], &value(total - 6)[..]].concat();
+        let mut message = [&[0, 0, 0, 0, 1, 1], &value(rng, total - 6)[..]].concat();
         mend(&mut message);
         return Call::Read { table, top: one.into(), message, room: 12 };
     }
-    let mut buffer = [value(40_001), value(total - 40_007)].concat();
+    let mut buffer = [value(rng, 40_001), value(rng, total - 40_007)].concat();
     let mut rows = [[1, 0, 40_001], [2, 40_001, total as u32 - 40_007]];
     if rng.one_in(4) {
         rows[1] = [2, 0, 40_001]; // rows may share their bytes

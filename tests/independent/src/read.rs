@@ -250,7 +250,7 @@ impl<F: FnMut(usize, usize, usize)> Walk<'_, F> {
                     length.at
                 }
                 VSIZE => {
-                    let declared = part.string()?.len();
+                    let declared = part.sized()?.len();
                     if of.is_some_and(|of| table.has_own_size(of)) {
                         length.at
                     } else {

@@ -1,5 +1,6 @@
 //! The type table: its rows, its rules, and what the rules of the encoding ask of a type.
 
+use crate::value::is_text;
 use crate::Refusal;
 use std::ops::Range;
 
@@ -307,11 +308,11 @@ impl<'t> Table<'t> {
         }
     }
 
-    /// The name has 1 to 255 bytes, lies within the name bytes and differs from those before.
+    /// The name has 1 to 255 bytes, lies within the name bytes, is text and differs from those before.
     fn names_well(&self, r: usize, row: &TypeRow) -> bool {
         (1..=255).contains(&row.e) && row.d + row.e <= self.names.len() && {
             let name = self.name(row);
-            !self.records().take_while(|&(s, _)| s < r).any(|(_, other)| self.name(&other) == name)
+            is_text(name) && !self.records().take_while(|&(s, _)| s < r).any(|(_, other)| self.name(&other) == name)
         }
     }
 

@@ -3,6 +3,12 @@
 use crate::table::*;
 use crate::Refusal;
 
+/// Whether bytes are well-formed UTF-8 as RFC 3629 has it. The standard library judges; most strings are ASCII, which it
+/// finds out faster.
+pub(crate) fn is_text(bytes: &[u8]) -> bool {
+    bytes.is_ascii() || core::str::from_utf8(bytes).is_ok()
+}
+
 /// What is left of something that holds items: the message up to the holder's end, and the place reached in it.
 #[derive(Clone, Copy)]
 pub(crate) struct Part<'m> {
@@ -81,9 +87,21 @@ impl<'m> Part<'m> {
         }
     }
 
-    /// A size and that many bytes.
+    /// A size and that many bytes, which must be text.
     #[inline]
     pub fn string(&mut self) -> Result<&'m [u8], Refusal> {
+        let start = *self;
+        let content = self.sized()?;
+        if is_text(content) {
+            Ok(content)
+        } else {
+            start.refuse(24)
+        }
+    }
+
+    /// A size and that many bytes, whatever they are.
+    #[inline]
+    pub fn sized(&mut self) -> Result<&'m [u8], Refusal> {
         let start = *self;
         let length = self.size()?;
         if length > self.left() {

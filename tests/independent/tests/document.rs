@@ -682,3 +682,240 @@ fn fields_of_an_enum() {
     assert_eq!(valves_with(|table| table.rows[2].1[4] = 1), (32, 38));
     assert_eq!(valves_with(|table| table.rows[0].1[2] = 1), (32, 14));
 }
+
+/// Text at the bounds of RFC 3629's ranges: U+0000, a byte order mark and noncharacters are text.
+const TEXT: [&str; 14] = [
+    "",
+    "00",
+    "7F",
+    "C2 80",
+    "DF BF",
+    "E0 A0 80",
+    "ED 9F BF",
+    "EE 80 80",
+    "EF BB BF",
+    "EF BF BE",
+    "EF BF BF",
+    "F0 90 80 80",
+    "F4 8F BF BF",
+    "43 61 62 C3 A9 6E",
+];
+
+/// No text: a byte that goes on with nothing, overlong forms, surrogates, above 10FFFF, cut ends, bytes of no form.
+const NO_TEXT: [&str; 26] = [
+    "80",
+    "BF",
+    "C3 A9 A9",
+    "C0 80",
+    "C1 BF",
+    "E0 80 80",
+    "E0 9F BF",
+    "F0 80 80 80",
+    "F0 8F BF BF",
+    "ED A0 80",
+    "ED BF BF",
+    "F4 90 80 80",
+    "F5 80 80 80",
+    "F8 88 80 80 80",
+    "FC 84 80 80 80 80",
+    "C3",
+    "C3 41",
+    "C3 C3",
+    "E2 82",
+    "E2 41 82",
+    "E2 82 41",
+    "F0 9F 98",
+    "F0 41 98 80",
+    "F0 9F 98 C0",
+    "FE",
+    "FF",
+];
+
+/// The string of this content.
+fn string(content: &str) -> Vec<u8> {
+    let content = bytes(content);
+    [&[content.len() as u8], &content[..]].concat()
+}
+
+/// A table and its top.
+type Under = (Vec<u8>, u32);
+
+/// Every string of a value: what it is, its table, the bytes before it and those after it.
+fn strings_of_values() -> Vec<(&'static str, Under, &'static str, &'static str)> {
+    let text = |tag| one(tag, |spec| spec.basic(7));
+    let texts = |tag| {
+        one(tag, |spec| {
+            let string = spec.basic(7);
+            spec.row(10, [string, 0, 0, 0, 0])
+        })
+    };
+    let structs = |tag| {
+        one(tag, |spec| {
+            let (byte, string) = (spec.basic(1), spec.basic(7));
+            spec.owner(9, &[(byte, None), (string, None)])
+        })
+    };
+    let lookups = |key: u8, value: u8| {
+        one(None, |spec| {
+            let (key, value) = (spec.basic(key), spec.basic(value));
+            spec.row(11, [key, value, 0, 0, 0])
+        })
+    };
+    let proxy = || one(None, |spec| spec.basic(12));
+    vec![
+        ("required", text(None), "", ""),
+        ("optional", text(Some(1)), "0D", ""),
+        ("element", texts(None), "03 01 41", "00"),
+        ("member of a struct", structs(None), "09", ""),
+        ("key", lookups(7, 1), "01", "09"),
+        ("value", lookups(1, 7), "02 05", "05 00"),
+        ("name", proxy(), "", "00 00 00 00 01 00 01 01 00 00"),
+        ("category", proxy(), "01 41", "00 00 00 01 00 01 01 00 00"),
+        ("facet", proxy(), "01 41 00 01", "00 00 01 00 01 01 00 00"),
+        ("adapter", proxy(), "01 41 00 00 00 00 01 00 01 01 00", ""),
+    ]
+}
+
+/// Strings at any depth, keys, identities, facets and adapters: text, or 24 at the size; in the writer 21.
+#[test]
+fn strings_are_text() {
+    for (what, (table, top), before, after) in strings_of_values() {
+        let (before, after) = (bytes(before), bytes(after));
+        let wanted = u32::from(table[7]) - 1; // the last member row
+        let of = |content: &str| {
+            let body = [&before[..], &string(content), &after].concat();
+            let read = rows_of(&table, top, &wrapped(&body)).map(|(rows, _)| rows[0][2] as usize);
+            let value = &body[(what == "optional") as usize..];
+            let row = [wanted, 0, value.len() as u32].map(u32::to_le_bytes).concat();
+            let written = write(&table, top, 1, 1, &row, value, &mut [0; 64]);
+            assert_eq!(written.err(), read.err().map(|_| (21, 0)), "{what}: {content}");
+            assert_eq!(member(&table, top, &wrapped(&body), wanted, &[9]).is_empty(), read.is_err());
+            read.err()
+        };
+        for content in TEXT {
+            // An empty name is of a nil proxy only.
+            if !(what == "name" && content.is_empty()) {
+                assert_eq!(of(content), None, "{what}: {content}");
+            }
+        }
+        for content in NO_TEXT {
+            assert_eq!(of(content), Some((24, 6 + before.len() as u32)), "{what}: {content}");
+        }
+    }
+}
+
+/// 24 comes after 4 and 7 for its string. Of an identity the name is judged, then the category, then 10.
+#[test]
+fn order_of_text() {
+    let text = one(None, |spec| spec.basic(7));
+    assert_eq!(length_or_refusal(&text, "02 FF"), Err((4, 6)));
+    assert_eq!(length_or_refusal(&text, "FF 02 00 00 00 FF FF"), Err((7, 6)));
+    let optional = one(Some(1), |spec| spec.basic(7));
+    assert_eq!(length_or_refusal(&optional, "0D 02 FF"), Err((4, 7)));
+    assert_eq!(length_or_refusal(&optional, "0D 01 FF 0D 00"), Err((24, 7)));
+    assert_eq!(length_or_refusal(&optional, "0D 01 FF FF"), Err((24, 7)));
+    let texts = one(Some(1), |spec| {
+        let string = spec.basic(7);
+        spec.row(10, [string, 0, 0, 0, 0])
+    });
+    // The declared bytes, then the strings in them, then what is left over.
+    assert_eq!(length_or_refusal(&texts, "0E 04 00 00 00 01 01 FF"), Err((4, 7)));
+    assert_eq!(length_or_refusal(&texts, "0E 04 00 00 00 01 01 FF 00"), Err((24, 12)));
+    assert_eq!(length_or_refusal(&texts, "0E 04 00 00 00 02 01 FF 02"), Err((24, 12)));
+    let proxy = one(None, |spec| spec.basic(12));
+    let of = |body: &str| length_or_refusal(&proxy, body);
+    assert_eq!((of("01 FF"), of("01 FF 02 41"), of("01 FF 01 FF")), (Err((24, 6)), Err((24, 6)), Err((24, 6))));
+    assert_eq!((of("01 41 02 FF"), of("01 41 01 FF")), (Err((4, 8)), Err((24, 8))));
+    assert_eq!((of("00 01 FF"), of("00 01 41")), (Err((24, 7)), Err((10, 6))));
+    assert_eq!((of("01 41 00 02 01 FF"), of("01 41 00 01 01 FF 05")), (Err((10, 9)), Err((24, 10))));
+    assert_eq!(of("01 41 00 00 05 00 01 00 01 01 00 01 FF"), Err((10, 10)));
+}
+
+/// A type ID, known or not, first or later: 14 and 13 of the flags, its 4, 7 and 24, then 15 to 17.
+#[test]
+fn type_ids_are_text() {
+    for content in NO_TEXT {
+        let id: Vec<String> = string(content).iter().map(|byte| format!("{byte:02X}")).collect();
+        let (id, length) = (id.join(" "), id.len() as u32);
+        // Compact, in place of 15; sliced and skipped; sliced and last, in place of 16.
+        assert_eq!(record(&format!("01 {id} 07 00 00 00 20")), Err((24, 7)), "{content}");
+        let known = "11 01 45 08 00 00 00 07 00 00 00";
+        let rest = format!("{known} 31 01 42 04 00 00 00");
+        assert_eq!(record(&format!("11 {id} 04 00 00 00 {rest}")), Err((24, 7)), "{content}");
+        assert_eq!(record(&format!("31 {id} 04 00 00 00")), Err((24, 7)), "{content}");
+        // After a skipped slice; after a known one, in place of 17.
+        assert_eq!(record(&format!("11 01 4E 04 00 00 00 11 {id} 04 00 00 00 {rest}")), Err((24, 14)), "{content}");
+        assert_eq!(record(&format!("{known} 31 {id} 04 00 00 00")), Err((24, 18)), "{content}");
+        // Flags first, then the ID's own reach.
+        assert_eq!((record(&format!("41 {id}")), record(&format!("09 {id}"))), (Err((14, 6)), Err((13, 6))));
+        assert_eq!(record(&format!("11 {:02X} {}", length, &id[3..])), Err((4, 7)), "{content}");
+    }
+    assert_eq!(record("11 FF 01 00 00 00 FF"), Err((7, 7)));
+    let skipped = record("11 03 E2 82 AC 04 00 00 00 11 01 45 08 00 00 00 07 00 00 00 31 01 42 04 00 00 00");
+    assert_eq!(skipped.map(|reading| reading.slices_skipped), Ok(1));
+}
+
+/// What is skipped or kept unopened is unread: unknown optionals, the data of unknown slices, endpoints. A sequence of
+/// bytes is no string.
+#[test]
+fn unread_bytes_are_no_text() {
+    let (table, top) = list(&[]);
+    let skipped =
+        |body: &str| rows_of(&table, top, &wrapped(&bytes(body))).map(|(_, reading)| reading.optionals_skipped);
+    assert_eq!((skipped("0D 02 ED A0"), skipped("0E 02 00 00 00 01 FF")), (Ok(1), Ok(1)));
+    let rest = "15 01 45 0C 00 00 00 07 00 00 00 15 01 FF FF 31 01 42 04 00 00 00";
+    assert_eq!(record(rest).map(|reading| (reading.rows, reading.optionals_skipped)), Ok((1, 1)));
+    let data = "11 01 4E 06 00 00 00 01 FF 11 01 45 08 00 00 00 07 00 00 00 31 01 42 04 00 00 00";
+    assert_eq!(record(data).map(|reading| reading.slices_skipped), Ok(1));
+    let proxy = one(None, |spec| spec.basic(12));
+    let endpoint = "01 41 00 00 00 00 01 00 01 01 01 01 00 08 00 00 00 01 01 01 FF";
+    assert_eq!(length_or_refusal(&proxy, endpoint), Ok(21));
+    for tag in [None, Some(1)] {
+        let octets = one(tag, |spec| {
+            let byte = spec.basic(1);
+            spec.row(10, [byte, 0, 0, 0, 0])
+        });
+        let body = if tag.is_some() { "0D 02 C0 80" } else { "02 C0 80" };
+        assert_eq!(length_or_refusal(&octets, body), Ok(3));
+    }
+}
+
+/// A record's own name is text, whatever the bytes around it are; else 37 at its row, with the other rules of names.
+#[test]
+fn names_are_text() {
+    let of = |name: &[u8]| {
+        let mut table = Spec { names: vec![0xC3], ..Spec::default() };
+        table.basic(1);
+        table.record(13, None, name, &[]);
+        table.names.push(0xA9);
+        fault(&table.bytes())
+    };
+    for content in TEXT.iter().filter(|content| !content.is_empty()) {
+        assert_eq!(of(&bytes(content)), (0, 0), "{content}");
+    }
+    for content in NO_TEXT {
+        assert_eq!(of(&bytes(content)), (37, 24), "{content}");
+    }
+    // Two bytes of one character: a name may have both or none of them.
+    let within = |first: (u16, u16), second: (u16, u16)| {
+        let mut table = Spec { names: "aéb".into(), ..Spec::default() };
+        table.record_named(13, None, first, &[]);
+        table.record_named(14, None, second, &[]);
+        fault(&table.bytes())
+    };
+    assert_eq!((within((0, 1), (0, 4)), within((1, 2), (3, 1))), ((0, 0), (0, 0)));
+    assert_eq!((within((0, 1), (0, 2)), within((2, 2), (0, 1))), ((37, 24), (37, 12)));
+    // Unused fields, references and members come first; the sum and member rows after.
+    let with = |change: &dyn Fn(&mut Spec)| {
+        let mut table = sample();
+        table.names = vec![0xFF];
+        change(&mut table);
+        fault(&table.bytes())
+    };
+    assert_eq!((with(&|_| ()), with(&|table| table.rows[3].1[0] = 0)), ((37, 48), (35, 48)));
+    assert_eq!(
+        (with(&|table| table.rows[3].1[2] = 9), with(&|table| table.rows[1].1[1] = 0x8000)),
+        ((34, 48), (38, 24))
+    );
+    assert_eq!(with(&|table| table.members.push((0, None))), (37, 48));
+}

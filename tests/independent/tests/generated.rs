@@ -1,7 +1,7 @@
 //! Generated calls: what was made conforming is accepted, and what was read is written again.
 
 use independent::calls::{Answer, Call};
-use independent::gen::{message, Calls, Message, Rng, Types};
+use independent::gen::{message, Calls, Message, Rng, Text, Types, Wrong};
 use independent::{check, member, Reading};
 
 /// Tables, each with a conforming message under some of its tops.
@@ -12,7 +12,7 @@ fn conforming(seed: u64, tables: usize, mut with: impl FnMut(&Types, u32, Messag
         assert_eq!(check(&types.spec.bytes()), Ok(()));
         let tops = (0..types.spec.rows.len() as u16).filter(|&r| types.kind(r) >= 13);
         for top in tops.take(6) {
-            let made = message(&mut rng, &types, top, 0);
+            let made = message(&mut rng, &types, top, Wrong::Nothing);
             with(&types, top.into(), made);
         }
     }
@@ -32,7 +32,7 @@ fn conforming_messages_are_read_as_made() {
 fn what_is_read_with_nothing_skipped_is_written_again() {
     let mut whole = 0;
     conforming(2, 8_000, |types, _, made| {
-        let Message { bytes: buffer, rows, reading } = made;
+        let Message { bytes: buffer, rows, reading, .. } = made;
         let call = Call::Write {
             table: types.spec.bytes(),
             of: reading.first,
@@ -82,21 +82,56 @@ fn the_view_gives_the_rows_of_the_reader() {
     });
 }
 
+/// A message that conforms but for strings that are no text is refused by 24 at the first of them, and the rows by 21 at
+/// the first that holds one.
 #[test]
-fn generated_calls_reach_every_refusal() {
-    let mut reached = [[0; 40]; 2];
-    for call in Calls::new(4).take(200_000) {
-        let answer = call.answer();
-        assert_ne!(answer, Answer::Astray, "{}", call.json(&answer));
-        reached[usize::from(call.is_of_version_2())][answer.refusal() as usize] += 1;
+fn strings_that_are_no_text_are_refused() {
+    let (mut rng, mut read, mut written) = (Rng(8), [0; Text::ALL.len()], [0; Text::ALL.len()]);
+    for _ in 0..20_000 {
+        let types = Types::random(&mut rng);
+        let (table, top) = (types.spec.bytes(), types.top(&mut rng));
+        let Message { bytes, rows, reading, strings } = message(&mut rng, &types, top, Wrong::Strings(6));
+        let mut wrong = strings.iter().filter(|string| !string.is_text);
+        let refusal = wrong.clone().next().map_or((0, 0), |first| (24, first.place as u32));
+        let call = Call::Read { table: table.clone(), top: top.into(), message: bytes.clone(), room: 12 * 1_024 };
+        let Answer::Read { refusal: given, .. } = call.answer() else { panic!() };
+        assert_eq!(given, refusal, "{}", call.json(&call.answer()));
+
+        let row = |place: usize| rows.iter().position(|row| (row[1]..row[1] + row[2]).contains(&(place as u32)));
+        let inside = wrong.clone().find_map(|string| Some((string.what, row(string.place)?)));
+        let refusal = inside.map_or((0, 0), |(_, row)| (21, row as u32));
+        let (of, format, count) = (reading.first, reading.format, reading.rows);
+        let list = rows.iter().flatten().flat_map(|number| number.to_le_bytes()).collect();
+        let call = Call::Write { table, of, format, count, rows: list, room: bytes.len(), buffer: bytes };
+        let Answer::Write { refusal: given, .. } = call.answer() else { panic!() };
+        assert_eq!(given, refusal, "{}", call.json(&call.answer()));
+
+        wrong.next().into_iter().for_each(|first| read[first.what as usize] += 1);
+        inside.into_iter().for_each(|(what, _)| written[what as usize] += 1);
     }
-    // 39 is of version 2 only.
-    let is_number = |version: usize, number: usize| !matches!((version, number), (_, 1 | 24..=30) | (1, 39));
-    for version in [1, 2] {
-        let reached = reached[version - 1];
-        assert!((0..40).all(|number| reached[number] >= 10 || !is_number(version, number)), "{version}: {reached:?}");
+    println!("{:?}\n{read:?}\n{written:?}", Text::ALL);
+    assert!(read.iter().all(|&messages| messages >= 20), "{read:?}");
+    let enough = |what: &Text| what.is_id() || written[*what as usize] >= 20;
+    assert!(Text::ALL.iter().all(enough), "{written:?}");
+}
+
+/// Which rule of names the record row at a place breaks: its length, its end, text, a name as before.
+fn name_fault(table: &[u8], place: u32) -> usize {
+    let number = |at: usize| u16::from_le_bytes([table[at], table[at + 1]]) as usize;
+    let (types, members, names) = (number(5), number(7), number(9));
+    let start = if number(3) == 2 { 14 } else { 12 };
+    let place = place as usize;
+    let (from, length) = (number(place + 8), number(place + 10));
+    let name = start + 12 * types + 8 * members + from;
+    if !(1..=255).contains(&length) {
+        0
+    } else if from + length > names {
+        1
+    } else if core::str::from_utf8(&table[name..name + length]).is_err() {
+        2
+    } else {
+        3
     }
-    println!("{reached:?}");
 }
 
 /// Which rule of the lists a table breaks at a place, by its number in document 02's order; 5 for entries left over.
@@ -125,16 +160,35 @@ fn list_fault(table: &[u8], place: u32) -> usize {
     }
 }
 
+/// Every refusal under tables of both versions, 24 in every string of a message, and every rule of names (37) and lists
+/// (39).
 #[test]
-fn generated_tables_break_every_rule_of_lists() {
-    let mut reached = [0; 6];
-    for call in Calls::new(6).take(200_000) {
-        if let (Call::Check { table }, Answer::Check { refusal: (39, place) }) = (&call, call.answer()) {
-            reached[list_fault(table, place)] += 1;
+fn generated_calls_reach_every_refusal() {
+    let mut reached = [[0; 40]; 2];
+    let (mut strings, mut names, mut lists) = ([0; Text::ALL.len()], [0; 4], [0; 6]);
+    let mut calls = Calls::new(4);
+    for _ in 0..200_000 {
+        let call = calls.next().unwrap();
+        let answer = call.answer();
+        assert_ne!(answer, Answer::Astray, "{}", call.json(&answer));
+        reached[usize::from(call.is_of_version_2())][answer.refusal() as usize] += 1;
+        match (&call, answer) {
+            (_, Answer::Read { refusal: (24, place), .. }) => {
+                calls.string_at(place).into_iter().for_each(|what| strings[what as usize] += 1);
+            }
+            (Call::Check { table }, Answer::Check { refusal: (37, place) }) => names[name_fault(table, place)] += 1,
+            (Call::Check { table }, Answer::Check { refusal: (39, place) }) => lists[list_fault(table, place)] += 1,
+            _ => (),
         }
     }
-    assert!(reached.iter().all(|&calls| calls >= 20), "{reached:?}");
-    println!("{reached:?}");
+    println!("{reached:?}\n24 by {:?}: {strings:?}\n37: {names:?}\n39: {lists:?}", Text::ALL);
+    // 39 is of version 2 only.
+    let is_number = |version: usize, number: usize| !matches!((version, number), (_, 1 | 25..=30) | (1, 39));
+    for version in [1, 2] {
+        let reached = reached[version - 1];
+        assert!((0..40).all(|number| reached[number] >= 10 || !is_number(version, number)), "{version}: {reached:?}");
+    }
+    assert!(strings.iter().chain(&names).chain(&lists).all(|&calls| calls >= 20));
 }
 
 /// Enums that allow all numbers up to a greatest one: the two versions of such a table give the same answers, and places
@@ -148,7 +202,7 @@ fn both_versions_answer_alike() {
         tables += 1;
         for (types, other) in [(&types, &other), (&other, &types)] {
             let top = types.top(&mut rng);
-            let wrong = if tables % 2 == 0 { 0 } else { 10 };
+            let wrong = if tables % 2 == 0 { Wrong::Nothing } else { Wrong::Items(10) };
             let made = message(&mut rng, types, top, wrong);
             let answers = [types, other].map(|types| {
                 let (table, message) = (types.spec.bytes(), made.bytes.clone());

@@ -3,7 +3,7 @@
 use std::fs;
 use std::path::{Path, PathBuf};
 
-const PAGES: [&str; 11] = [
+const PAGES: [&str; 12] = [
     "README.md",
     "docs/DECISIONS.md",
     "docs/PROVING.md",
@@ -12,6 +12,7 @@ const PAGES: [&str; 11] = [
     "docs/USERS.md",
     "docs/changes/M-100.md",
     "docs/changes/M-101.md",
+    "docs/changes/M-102.md",
     "samples/README.md",
     "bindings/rust/README.md",
     "tests/independent/README.md",

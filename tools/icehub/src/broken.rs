@@ -2,7 +2,7 @@
 //!
 //! The library has found the rule and its row; this module reads the row's fields and words them.
 
-use crate::words;
+use crate::{text, words};
 use icehub::{Kind, Refusal};
 
 const TYPE_ROW: usize = 12;
@@ -233,6 +233,8 @@ impl<'a> Raw<'a> {
                     format!("its name is {e} bytes long (e); a name has 1 to 255")
                 } else if end > names {
                     format!("its name ends at {end} (d + e), and there are {names} name bytes")
+                } else if let Some(fault) = text::fault(self.name(row)?, self.names_at() + d) {
+                    format!("its name is no UTF-8: at {}, {}", fault.place, fault.wrong)
                 } else {
                     let other = (0..row).find(|&other| self.name(other) == self.name(row))?;
                     format!("type row {other} has the same name")

@@ -2,6 +2,7 @@
 
 use crate::accepted;
 use crate::locate::{locate, Held, Slice};
+use crate::text;
 use crate::values::{endpoint_type, mode};
 use crate::words::{double, float, quoted, type_words};
 use icehub::{Member, MemberRow, Proxy, Reading, Reason, Refusal, Table, TypeRow, Value};
@@ -15,7 +16,7 @@ pub fn accepted(file: &str, reading: &Reading) -> String {
         r#"{{"file":{file},"accepted":true,"type":{},"kind":{},"name":{},"format":{},"optionals_skipped":{},"slices_skipped":{},"members":[{}]}}"#,
         reading.first_type,
         or_null(of.map(|of| quoted(of.kind().name()))),
-        or_null(of.and_then(TypeRow::name).map(text)),
+        or_null(of.and_then(TypeRow::name).map(quoted)),
         quoted(accepted::format(reading, of)),
         reading.optionals_skipped,
         reading.slices_skipped,
@@ -47,9 +48,20 @@ pub fn refused(file: &str, bytes: &[u8], top: u32, message: &[u8], refusal: Refu
             or_null(location.item.map(quoted)),
             hex(&message[start..end])
         );
+        if refusal.reason() == Some(Reason::BadText) {
+            let _ = write!(line, r#","string":{}"#, or_null(no_text(message, place)));
+        }
     }
     line.push('}');
     line
+}
+
+/// A string that is no text: where its bytes are, the place of the first bad one, and what is wrong there.
+fn no_text(message: &[u8], place: usize) -> Option<String> {
+    let (start, bytes) = text::at(message, place)?;
+    let text::Fault { place: bad, wrong, .. } = text::fault(bytes, start)?;
+    let (length, wrong) = (bytes.len(), quoted(&wrong));
+    Some(format!(r#"{{"place":{start},"length":{length},"bad":{bad},"wrong":{wrong}}}"#))
 }
 
 /// The line of a message that could not be read.
@@ -61,8 +73,8 @@ fn or_null(json: Option<String>) -> String {
     json.unwrap_or_else(|| "null".to_string())
 }
 
-/// A string, or an object with its bytes if it is not UTF-8.
-fn text(bytes: &[u8]) -> String {
+/// A type ID, or an object with its bytes if it is not UTF-8.
+fn type_id(bytes: &[u8]) -> String {
     match std::str::from_utf8(bytes) {
         Ok(text) => quoted(text),
         Err(_) => format!(r#"{{"bytes":{}}}"#, hex(bytes)),
@@ -104,7 +116,7 @@ fn slice(slice: Slice) -> String {
         r#"{{"number":{},"place":{},"id":{},"type":{}}}"#,
         slice.number,
         slice.place,
-        or_null(slice.id.map(text)),
+        or_null(slice.id.map(type_id)),
         or_null(slice.of.map(|of| of.number().to_string()))
     )
 }
@@ -143,7 +155,7 @@ fn value(line: &mut String, of: &Value) {
         Value::Long(number) => line.push_str(&number.to_string()),
         Value::Float(number) => real(line, number.is_finite(), &float(*number)),
         Value::Double(number) => real(line, number.is_finite(), &double(*number)),
-        Value::String(bytes) => line.push_str(&text(bytes)),
+        Value::String(text) => line.push_str(&quoted(text)),
         Value::Enum(number) => line.push_str(&number.to_string()),
         Value::Struct(fields) => list(line, fields.clone(), |line, field| value(line, &field)),
         Value::Sequence(elements) => list(line, elements.clone(), |line, element| value(line, &element)),
@@ -164,9 +176,9 @@ fn proxy(line: &mut String, proxy: &Proxy) {
     let _ = write!(
         line,
         r#"{{"name":{},"category":{},"facet":{},"mode":{},"secure":{},"protocol":{},"encoding":{},"endpoints":"#,
-        text(proxy.name),
-        text(proxy.category),
-        or_null(proxy.facet.map(text)),
+        quoted(proxy.name),
+        quoted(proxy.category),
+        or_null(proxy.facet.map(quoted)),
         quoted(mode(proxy.mode)),
         proxy.secure,
         version(proxy.protocol),
@@ -177,5 +189,5 @@ fn proxy(line: &mut String, proxy: &Proxy) {
         let inside = hex(endpoint.bytes.get(8..).unwrap_or_default());
         let _ = write!(line, r#"{{"type":{of},"encoding":{},"bytes":{inside}}}"#, version(endpoint.encoding));
     });
-    let _ = write!(line, r#","adapter":{}}}"#, or_null(proxy.adapter.map(text)));
+    let _ = write!(line, r#","adapter":{}}}"#, or_null(proxy.adapter.map(quoted)));
 }

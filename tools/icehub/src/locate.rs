@@ -127,7 +127,7 @@ impl<'a> Walk<'a> {
                     next = start.checked_add(length)?;
                     self.message.get(start..next)
                 });
-                slice.of = base.or_else(|| self.table.named(slice.id?));
+                slice.of = base.or_else(|| self.table.named(std::str::from_utf8(slice.id?).ok()?));
                 self.found.slice = Some(slice);
             }
             if self.place == at {
@@ -215,7 +215,7 @@ impl<'a> Walk<'a> {
                 form @ 0..=3 => Some((next, next + (1 << form))),
                 4 => self.size(next).map(|(_, width)| (next, next + width)),
                 5 => self.size(next).map(|(length, width)| {
-                    let has_own_size = declared.is_some_and(|member| is_text(member.of()));
+                    let has_own_size = declared.is_some_and(|member| has_own_size(member.of()));
                     (if has_own_size { next } else { next + width }, next + width + length)
                 }),
                 6 => self.int(next).map(|length| (next + 4, next + 4 + length)),
@@ -244,6 +244,10 @@ impl<'a> Walk<'a> {
     /// Steps into a value as far as the place is in a part of it.
     fn inside(&mut self, of: TypeRow<'a>, at: usize, end: usize) {
         self.found.of = Some(of);
+        if of.kind() == Kind::Proxy {
+            self.proxy(at);
+            return;
+        }
         let parts = match of.kind() {
             Kind::Struct => of.members().len(),
             Kind::Sequence | Kind::Dictionary => self.size(at).map_or(0, |(count, _)| count),
@@ -266,6 +270,46 @@ impl<'a> Walk<'a> {
                     }
                 }
             }
+        }
+    }
+
+    /// The item of a proxy that the place is at.
+    fn proxy(&mut self, at: usize) -> Option<()> {
+        let at = self.string(at, "the name of the identity")?;
+        let at = self.string(at, "the category of the identity")?;
+        let Some((facets, width)) = self.size(at) else { return self.at("the facet count") };
+        let mut at = self.item(at, width, "the facet count")?;
+        for _ in 0..facets {
+            at = self.string(at, "the facet")?;
+        }
+        let at = self.item(at, 1, "the mode")?;
+        let at = self.item(at, 1, "the secure byte")?;
+        let at = self.item(at, 2, "the protocol's version")?;
+        let at = self.item(at, 2, "the encoding's version")?;
+        let Some((endpoints, width)) = self.size(at) else { return self.at("the endpoint count") };
+        let mut at = self.item(at, width, "the endpoint count")?;
+        for _ in 0..endpoints {
+            at = self.item(at, 2, "the type of an endpoint")?;
+            let length = self.int(at);
+            at = self.item(at, 4, "the length of an endpoint")?;
+            at = (at + length?).checked_sub(4)?;
+        }
+        self.string(at, "the adapter").map(|_| ())
+    }
+
+    /// The place after an item of so many bytes, or none where it holds the place.
+    fn item(&mut self, at: usize, width: usize, item: &'static str) -> Option<usize> {
+        if self.place < at + width {
+            return self.at(item);
+        }
+        Some(at + width)
+    }
+
+    /// The place after a string, likewise.
+    fn string(&mut self, at: usize, item: &'static str) -> Option<usize> {
+        match self.size(at) {
+            Some((length, width)) => self.item(at, width + length, item),
+            None => self.at(item),
         }
     }
 }
@@ -291,6 +335,6 @@ fn steps(of: TypeRow, number: usize) -> Vec<(Step, TypeRow)> {
 }
 
 /// A string, or a sequence of bool or byte: as an optional, its own size is the length field.
-fn is_text(of: TypeRow) -> bool {
+fn has_own_size(of: TypeRow) -> bool {
     of.kind() == Kind::String || of.element().is_some_and(|element| matches!(element.kind(), Kind::Bool | Kind::Byte))
 }

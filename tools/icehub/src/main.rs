@@ -7,7 +7,7 @@
 //! - `show`: the command `show`, with its summary and progress line
 //! - `table`: the command `table`; `broken`: what is wrong with a table that breaks a rule
 //! - `accepted`, `refused`: a message for a person; `json`: a message as a line of JSON
-//! - `locate`: the slice and the member at a place of a refused message
+//! - `locate`: the slice and the member at a place of a refused message; `text`: the first bad byte of a string
 //! - `values`: values for a person; `words`: text, bytes and types in words
 
 mod accepted;
@@ -19,6 +19,7 @@ mod locate;
 mod refused;
 mod show;
 mod table;
+mod text;
 mod values;
 mod words;
 

@@ -1,7 +1,7 @@
 //! A refused message for a person: the refusal in words, the slice and member that it is in, and the bytes around it.
 
 use crate::locate::{locate, Location};
-use crate::{broken, words};
+use crate::{broken, text, words};
 use icehub::{Allowed, Reason, Refusal, Table, TypeRow, Value};
 use std::io::{self, Write};
 
@@ -27,7 +27,11 @@ pub fn write(out: &mut dyn Write, bytes: &[u8], top: u32, message: &[u8], refusa
             if let (Some(Reason::BadEnumerator), Some(of)) = (refusal.reason(), location.of) {
                 write_allowed(out, of, message.get(place..).unwrap_or_default())?;
             }
-            write_around(out, "message", message, place)
+            let shown = match refusal.reason() {
+                Some(Reason::BadText) => write_text(out, message, place)?,
+                _ => place,
+            };
+            write_around(out, "message", message, shown)
         }
     }
 }
@@ -101,6 +105,22 @@ fn write_allowed(out: &mut dyn Write, of: TypeRow, bytes: &[u8]) -> io::Result<(
         }
     };
     writeln!(out, "  the enumerator is {number}; its enum, type {}, allows {allowed}", of.number())
+}
+
+/// The string whose size is at a place, and its first bad byte: the place of that byte.
+fn write_text(out: &mut dyn Write, message: &[u8], place: usize) -> io::Result<usize> {
+    let found = text::at(message, place).and_then(|(start, bytes)| Some((start, bytes, text::fault(bytes, start)?)));
+    let Some((start, bytes, fault)) = found else { return Ok(place) };
+    write!(out, "  the string has {} from {start}", words::count(bytes.len(), "byte", "bytes"))?;
+    match fault.before {
+        "" => writeln!(out)?,
+        before => writeln!(out, ", and is text up to {}: {}", fault.place, text::end(before))?,
+    }
+    writeln!(out, "  at {}: {}", fault.place, fault.wrong)?;
+    if let Some(latin) = text::latin(bytes, &fault) {
+        writeln!(out, "  read as Latin-1: {latin}")?;
+    }
+    Ok(fault.place)
 }
 
 /// Bytes on a line.

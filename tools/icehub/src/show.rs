@@ -112,10 +112,10 @@ fn top_row(top: &str, table: &[u8]) -> Result<u32, String> {
     }
     // Under a table that breaks a rule every message is refused for that, whatever its top is.
     let Ok(table) = Table::new(table) else { return Ok(0) };
-    match table.named(top.as_bytes()) {
+    match table.named(top) {
         Some(row) => Ok(row.number()),
         None => {
-            let names: Vec<_> = table.type_rows().filter_map(|row| row.name()).map(words::string).collect();
+            let names: Vec<_> = table.type_rows().filter_map(|row| row.name()).map(words::quoted).collect();
             let names = if names.is_empty() { "no record".to_string() } else { names.join(", ") };
             Err(format!(
                 "TOP is neither a row number nor a record of the table: {}; the table has {names}",

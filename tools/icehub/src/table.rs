@@ -67,7 +67,7 @@ fn row_words(row: TypeRow) -> String {
         text.push_str(&format!(": types {} and {}", key.number(), value.number()));
     }
     if let Some(base) = row.base() {
-        text.push_str(&format!(", base {} {}", base.number(), words::string(base.name().unwrap_or_default())));
+        text.push_str(&format!(", base {} {}", base.number(), words::quoted(base.name().unwrap_or_default())));
     }
     if row.kind().can_be_top() {
         text.push_str(", can be a top");

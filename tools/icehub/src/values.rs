@@ -51,7 +51,7 @@ pub fn head(value: &Value) -> String {
         Value::Long(number) => number.to_string(),
         Value::Float(number) => words::float(*number),
         Value::Double(number) => words::double(*number),
-        Value::String(bytes) => words::string(bytes),
+        Value::String(text) => words::quoted(text),
         Value::Enum(number) => number.to_string(),
         Value::Struct(fields) => words::count(fields.len(), "member", "members"),
         Value::Sequence(elements) => {
@@ -63,9 +63,9 @@ pub fn head(value: &Value) -> String {
             format!("{count}, {} to {}", words::type_words(entries.key()), words::type_words(entries.value()))
         }
         Value::Proxy(None) => "nil".to_string(),
-        Value::Proxy(Some(proxy)) if proxy.category.is_empty() => words::string(proxy.name),
+        Value::Proxy(Some(proxy)) if proxy.category.is_empty() => words::quoted(proxy.name),
         Value::Proxy(Some(proxy)) => {
-            format!("{}, category {}", words::string(proxy.name), words::string(proxy.category))
+            format!("{}, category {}", words::quoted(proxy.name), words::quoted(proxy.category))
         }
     }
 }
@@ -129,7 +129,7 @@ pub fn endpoint_type(of: i16) -> String {
 /// What follows the identity.
 fn proxy_lines(out: &mut dyn Write, proxy: &Proxy, indent: usize) -> io::Result<()> {
     if let Some(facet) = proxy.facet {
-        writeln!(out, "{:indent$}facet {}", "", words::string(facet))?;
+        writeln!(out, "{:indent$}facet {}", "", words::quoted(facet))?;
     }
     let secure = if proxy.secure { "secure" } else { "not secure" };
     let ((major, minor), (encoding, version)) = (proxy.protocol, proxy.encoding);
@@ -146,7 +146,7 @@ fn proxy_lines(out: &mut dyn Write, proxy: &Proxy, indent: usize) -> io::Result<
         }
     }
     if let Some(adapter) = proxy.adapter {
-        writeln!(out, "{:indent$}adapter {}", "", words::string(adapter))?;
+        writeln!(out, "{:indent$}adapter {}", "", words::quoted(adapter))?;
     }
     Ok(())
 }

@@ -46,7 +46,7 @@ pub fn bare(bytes: &[u8]) -> String {
     }
 }
 
-/// Bytes of a string: in quotes if they are UTF-8, else in hex.
+/// Bytes that may be no text: in quotes if they are UTF-8, else in hex.
 pub fn string(bytes: &[u8]) -> String {
     match std::str::from_utf8(bytes) {
         Ok(text) => quoted(text),
@@ -116,7 +116,7 @@ fn nested(of: TypeRow, depth: usize) -> String {
             format!("{kind} of {} to {}", nested(key, depth - 1), nested(value, depth - 1))
         }
         (Kind::Struct | Kind::Sequence | Kind::Dictionary, ..) => format!("{kind} {}", of.number()),
-        (Kind::Exception | Kind::Class, ..) => format!("{kind} {}", string(of.name().unwrap_or_default())),
+        (Kind::Exception | Kind::Class, ..) => format!("{kind} {}", quoted(of.name().unwrap_or_default())),
         _ => kind.to_string(),
     }
 }

@@ -77,6 +77,8 @@ fn samples() {
         (&["table", "fault-newer.table"], 0, include_str!("shown/fault-newer-table")),
         (&["show", "valve.table", "3", "valve-between.message"], 1, include_str!("shown/valve-between")),
         (&["table", "valve.table"], 0, include_str!("shown/valve-table")),
+        (&["show", "owner.table", "1", "owner.message"], 0, include_str!("shown/owner")),
+        (&["show", "owner.table", "1", "owner-latin.message"], 1, include_str!("shown/owner-latin")),
         (&["table", "kinds.message"], 1, include_str!("shown/no-table")),
     ] {
         let run = run(words);
@@ -84,7 +86,7 @@ fn samples() {
     }
 }
 
-/// Structs in sequences, long lists, strings that are no text, endpoints, floats that are no numbers: each kind opened.
+/// Structs in sequences, long lists, strings with wide characters, endpoints, floats that are no numbers: each kind opened.
 #[test]
 fn opened() {
     let table = Table::new(
@@ -102,7 +104,7 @@ fn opened() {
         ],
         &[(0, None), (1, None), (4, None), (6, None), (7, None), (7, Some(1)), (8, None)],
     );
-    let mut body = vec![1, 3, 0, 1, b'k', 2, 4, 0, 0, 5, 0, 1, 0xC3];
+    let mut body = vec![1, 3, 0, 1, b'k', 2, 4, 0, 0, 5, 0, 2, 0xC3, 0xB8];
     body.push(30);
     for number in 0..27 {
         body.extend((number as f32 / 8.0).to_le_bytes());
@@ -121,7 +123,7 @@ fn opened() {
     let value = |number: usize| json.get("members").list()[number].get("value").clone();
     let entry = value(0).list()[0].clone();
     assert_eq!(entry.get("key"), &Json::parse(r#"[3,"k"]"#).unwrap());
-    assert_eq!(entry.get("value"), &Json::parse(r#"[[4,""],[5,{"bytes":"C3"}]]"#).unwrap());
+    assert_eq!(entry.get("value"), &Json::parse(r#"[[4,""],[5,"ø"]]"#).unwrap());
     assert_eq!(value(1).list()[27..], Json::parse(r#"["NaN","Infinity","-Infinity"]"#).unwrap().list()[..]);
     assert_eq!(
         value(2).get("endpoints").list()[0],
@@ -447,6 +449,82 @@ fn located_in_slices() {
     );
 }
 
+/// A proxy's items, and on a 24 the string and its first bad byte, in every kind of string.
+#[test]
+fn located_strings() {
+    let table = Table::new(
+        &[
+            (7, [0; 5]),           // 0: string
+            (12, [0; 5]),          // 1: proxy
+            (11, [0, 0, 0, 0, 0]), // 2: dictionary of string to string
+            (15, [0, 3, 0, 0, 0]), // 3: the list
+        ],
+        &[(1, None), (2, Some(1)), (0, Some(2))],
+    );
+    let table = file("located_strings.table", &table);
+    let located = |body: &[u8]| {
+        let run = run_with(&["show", &table, "3", "-"], &wrapped(body));
+        assert_eq!(run.status, 1);
+        let (head, rest) = run.out.split_once('\n').unwrap();
+        let lines: Vec<_> = rest.lines().map(str::trim).take_while(|line| !line.starts_with("the message")).collect();
+        format!("{}; {}", &head[..head.find(':').unwrap()], lines[1..].join("; "))
+    };
+    let bad =
+        |place: usize| format!("the string has 2 bytes from {}, and is text up to {}: \"a\"", place + 1, place + 2);
+    let is = |place: usize| {
+        format!("{}; at {}: FF is no byte of UTF-8; read as Latin-1: \"a\u{FF}\"", bad(place), place + 2)
+    };
+    let refused = |place: usize| format!("refused by 24 (BAD_TEXT) at {place}");
+    let string = [2, b'a', 0xFF];
+    let proxy = |before: &[u8]| located(&[before, &string].concat());
+    let proxy_item = |place: usize, item: &str| format!("{}; at {item}; {}", refused(place), is(place));
+    assert_eq!(proxy(&[]), proxy_item(6, "the name of the identity"));
+    assert_eq!(proxy(b"\x01n"), proxy_item(8, "the category of the identity"));
+    assert_eq!(proxy(b"\x01n\0\x01"), proxy_item(10, "the facet"));
+    assert_eq!(proxy(b"\x01n\0\0\0\0\x01\0\x01\x01\0"), proxy_item(17, "the adapter"));
+    let entries = |before: &[u8]| {
+        let entries = [before, &string].concat();
+        located(&[&[0, 0, 0x0E, entries.len() as u8, 0, 0, 0][..], &entries].concat())
+    };
+    assert_eq!(entries(&[1]), format!("{}; in its key 0; {}", refused(14), is(14)));
+    assert_eq!(entries(b"\x02\x01k\x01v\x01l"), format!("{}; in its value 1; {}", refused(20), is(20)));
+    assert_eq!(located(&[0, 0, 0x15, 2, b'a', 0xFF]), format!("{}; {}", refused(9), is(9)));
+
+    // Other refusals of a proxy.
+    assert_eq!(located(b"\0\x01c"), "refused by 10 (BAD_PROXY) at 6; at the name of the identity");
+    assert_eq!(located(b"\x01n\0\x02"), "refused by 10 (BAD_PROXY) at 9; at the facet count");
+    assert_eq!(located(b"\x01n\0\0\x05"), "refused by 10 (BAD_PROXY) at 10; at the mode");
+    assert_eq!(located(b"\x01n\0\0\0\x02"), "refused by 8 (BAD_BOOL) at 11; at the secure byte");
+    assert_eq!(located(b"\x01n\0\0\0\0\x01"), "refused by 4 (CUT_OFF) at 13; at the protocol's version");
+    assert_eq!(located(b"\x01n\0\0\0\0\x01\0\x01"), "refused by 4 (CUT_OFF) at 15; at the encoding's version");
+    assert_eq!(located(b"\x01n\0\0\0\0\x01\0\x01\x01"), "refused by 4 (CUT_OFF) at 16; at the endpoint count");
+    let endpoint = b"\x01n\0\0\0\0\x01\0\x01\x01\x02\x01\0\x06\0\0\0\x01\x01\x01\0\x05\0\0\0";
+    assert_eq!(located(endpoint), "refused by 11 (BAD_LENGTH) at 27; at the length of an endpoint");
+    assert_eq!(located(&endpoint[..20]), "refused by 4 (CUT_OFF) at 25; at the type of an endpoint");
+}
+
+/// A type ID that is no text, first and later, for a person and in JSON.
+#[test]
+fn type_ids_that_are_no_text() {
+    for (at, slice, place) in [(10, 1, 7), (36, 2, 33)] {
+        let mut message = sample("fault.message");
+        message[at] = 0xC0;
+        let run = run_with(&["show", "fault-newer.table", "4", "-"], &message);
+        let lines: Vec<_> = run.out.lines().collect();
+        assert!(lines[0].starts_with(&format!("refused by 24 (BAD_TEXT) at {place}: ")), "{}", run.out);
+        assert!(lines[1].starts_with(&format!("  in slice {slice} from {}, type ID bytes 3A 3A C0 ", place - 1)));
+        let wrong = "C0 begins an overlong form: a character below U+0080 has one byte";
+        assert_eq!((lines[2], lines[4]), ("  at the slice's type ID", &format!("  at {at}: {wrong}")[..]));
+        assert_eq!((lines[lines.len() - 2].trim_start().split(' ').next(), run.status), (Some(&at.to_string()[..]), 1));
+        let run = run_with(&["show", "--json", "fault-newer.table", "4", "-"], &message);
+        let json = Json::parse(&run.out).unwrap();
+        assert!(json.get("slice").get("id").get("bytes").text().starts_with("3A3AC0"));
+        let string = json.get("string");
+        assert_eq!((string.get("bad").text(), string.get("wrong").text()), (&at.to_string()[..], wrong));
+        assert_eq!(string.get("place").text(), (place + 1).to_string());
+    }
+}
+
 /// What is wrong with a table, for each rule: a byte of the sample table is changed.
 #[test]
 fn broken_tables() {
@@ -495,6 +573,14 @@ fn broken_tables() {
         (94, 2, 36, format!("member row 1 of {base}: its mark is 2; 0 is required, 1 optional")),
         (82, 0, 37, "type row 5: its name is 0 bytes long (e); a name has 1 to 255".to_string()),
         (80, 15, 37, "type row 5: its name ends at 33 (d + e), and there are 32 name bytes".to_string()),
+        (
+            132,
+            0xE6,
+            37,
+            "type row 5 (bytes 3A 3A E6 75 61 72 64 3A 3A 50 69 70 65 46 61 75 6C 74): its name is no UTF-8: at 132, E6 \
+            begins a character of 3 bytes, and the byte at 133, 75, does not continue it"
+                .to_string(),
+        ),
         (99, 128, 38, format!("member row 1 of {base}: its tag is 2147483649, over 2147483647")),
         (104, 1, 38, format!("member row 2 of {base}: its tag is 1, and member row 1 of the same owner has that tag")),
     ] {

@@ -1,6 +1,6 @@
 -- Its rules in turn. Assumes nothing.
 use borrow.Author.Needs.{needs}
-use Rattle.rules.proofs.Judging.{record-base, record-first, record-empty, record-long, record-outside, record-alike, record-fine}
+use Rattle.rules.proofs.Judging.{record-base, record-first, record-empty, record-long, record-outside, record-alike, record-other, record-fine}
 use Rattle.rules.proofs.record_row.Statement.{statement}
 use Rattle.rules.proofs.record_row.Tie as tie
 
@@ -18,4 +18,6 @@ record-row-spec =
     (λ c. search record-outside)  -- returns-5
     (λ c κs. search needs)  -- alike-requires
     (λ c. search record-alike)  -- returns-6
-    (λ c. search record-fine))  -- returns-7
+    (λ c κs. search needs)  -- is-name-text-requires
+    (λ c. search record-fine)  -- returns-7
+    (λ c. search record-other))  -- returns-8

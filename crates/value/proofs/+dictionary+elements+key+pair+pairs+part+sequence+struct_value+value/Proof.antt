@@ -57,7 +57,7 @@ use Rattle.value.proofs.is_text_below.Reads as is-text-below-reads
 use Rattle.value.proofs.plain.bool.Reads as bool-reads
 use Rattle.value.proofs.plain.enumerator.Reads as enumerator-reads
 use Rattle.value.proofs.plain.skip.Reads as skip-reads
-use Rattle.wire.proofs.read_text.Reads as read-text-reads
+use Rattle.text.proofs.read_text.Reads as read-text-reads
 use Rattle.value.proofs.plain.texts.Reads as texts-reads
 use Rattle.proxy.proofs.proxy.Reads as proxy-reads
 use Rattle.wire.proofs.read_size.Reads as read-size-reads

@@ -1,5 +1,6 @@
 //! Times the proved library and this implementation on the same inputs, in one run: nanoseconds a call, each the least
-//! of several rounds, the rounds of the two in turn. Then times two calls of C against the reader's in the same way.
+//! of several rounds, the rounds of the two in turn. Then times two calls of C against the reader's in the same way, and
+//! the reader of a message that is one long string against the standard library's check of that string.
 
 use independent::spec::Spec;
 use independent::{ffi, read, write};
@@ -65,6 +66,19 @@ impl Case {
             || ffi::read(black_box(table), *top, &[], &mut []),
             || number(read(black_box(table), *top, &[], &mut [])),
             4,
+        );
+    }
+
+    /// The reader of a message of one string against the standard library's check of that string.
+    fn run_text(&self) {
+        let Case { name, table, top, message, rows, .. } = self;
+        let mut lent = vec![0; rows.len()];
+        let text = &message[11..];
+        report(
+            &format!("{name}: icehub_read"),
+            || ffi::read(black_box(table), *top, black_box(message), &mut lent),
+            || std::str::from_utf8(black_box(text)).is_err().into(),
+            0,
         );
     }
 
@@ -208,6 +222,21 @@ fn main() {
     let strings = (0..20_000).flat_map(|i| string(1 + i % 3)).collect::<Vec<_>>();
     Case::new("20,000 short strings", &spec, top, &[(0, [size(20_000), strings].concat())]).run();
 
+    // One string of 60,000 bytes: ASCII, a letter of two bytes in each word, characters of three bytes.
+    let mut spec = Spec::default();
+    let text = spec.basic(7);
+    let top = spec.owner(15, &[(text, None)]);
+    let texts = [
+        ("ASCII", "cabin keeper"),
+        ("mostly ASCII", "k\u{F8}kkenvindu"),
+        ("wide text", "\u{5C71}\u{5C0F}\u{5C4B}\u{6771}"),
+    ];
+    let texts = texts.map(|(what, part)| {
+        let name: &'static str = format!("60 KB of {what}").leak();
+        Case::new(name, &spec, top, &[(0, [size(60_000), part.repeat(60_000 / part.len()).into_bytes()].concat())])
+    });
+    texts.iter().for_each(Case::run);
+
     // Enumerators by a list of 1,024 entries, in which each is searched, and by their greatest.
     let allowed: Vec<u32> = (0..1_024).map(|i| 1_000 + 3 * i).collect();
     let enumerators = (0..12_000).flat_map(|i| size(allowed[i * 389 % 1_024])).collect::<Vec<_>>();
@@ -258,4 +287,8 @@ fn main() {
     for case in [p2, record, many] {
         case.run_calls();
     }
+
+    println!();
+    heads("call", "from_utf8");
+    texts.iter().for_each(Case::run_text);
 }

@@ -5,7 +5,7 @@
 
 use independent::calls::{Answer, Call};
 use independent::ffi;
-use independent::gen::Calls;
+use independent::gen::{Calls, Text};
 use std::time::{Instant, SystemTime, UNIX_EPOCH};
 use std::{env, process};
 
@@ -37,19 +37,28 @@ fn main() {
             }
         }
     };
-    for (index, call) in Calls::new(seed).take(calls as usize).enumerate() {
+    let mut strings = Text::ALL.map(|what| (what, 0));
+    let mut made = Calls::new(seed);
+    for index in 0..calls {
+        let Some(call) = made.next() else { break };
         let expected = call.answer();
         refusals[usize::from(call.is_of_version_2())][expected.refusal() as usize] += 1;
+        if let Answer::Read { refusal: (24, place), .. } = expected {
+            let what = made.string_at(place);
+            strings.iter_mut().filter(|string| Some(string.0) == what).for_each(|string| string.1 += 1);
+        }
         compare(&call, &expected);
         if let Some(view) = call.view(index as u32 % 8) {
             compare(&view, &view.answer());
         }
     }
     for (version, refusals) in (1..).zip(refusals) {
-        let met = refusals.iter().enumerate().filter(|(number, _)| !matches!(number, 1 | 24..=30));
+        let met = refusals.iter().enumerate().filter(|(number, _)| !matches!(number, 1 | 25..=30));
         let reached: Vec<_> = met.map(|(number, calls)| format!("{number}: {calls}")).collect();
         println!("answers by refusal number, tables of version {version}: {}", reached.join(", "));
     }
+    let strings: Vec<_> = strings.iter().map(|(what, calls)| format!("{what:?} {calls}")).collect();
+    println!("refused by 24, by the string: {}", strings.join(", "));
     println!("{differences} differences in {calls} calls from seed {seed}, {:.1} s", start.elapsed().as_secs_f64());
     process::exit(i32::from(differences != 0));
 }

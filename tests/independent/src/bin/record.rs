@@ -1,15 +1,16 @@
 //! record DIRECTORY REPLAY: puts the recorded calls of a directory into the gate: the files `stdin` and `stdout` of REPLAY,
-//! which is crates/replay. First come the checks, the readings, every 40th of these once more with row records, the views
-//! and the writings of the directory's *.jsonl; then, as they are now, the calls that REPLAY has after its last writing:
-//! the cases of document 01 and the largest tables. Stops where this implementation answers otherwise than recorded.
+//! which is crates/replay. First come the checks, the readings, some of these once more with row records, the views and
+//! the writings of the directory's *.jsonl; then, as they are now, the cases of document 01 and the largest tables, which
+//! REPLAY has after its last writing. Stops where this implementation answers otherwise than recorded.
 
 use independent::calls::{Answer, Call};
 use independent::replay::{self, Recorded};
 use std::path::Path;
 use std::{env, fs, process};
 
-/// One reading in so many is made with row records too.
-const EVERY: usize = 40;
+/// One reading in so many is made with row records too, of those accepted and of those refused.
+const ACCEPTED: usize = 4;
+const REFUSED: usize = 40;
 
 fn main() {
     let words: Vec<String> = env::args().skip(1).collect();
@@ -22,13 +23,19 @@ fn main() {
         println!("{name}: {}", made.len());
         calls.extend(made.iter().map(|(call, answer)| (Recorded::from(call.clone()), answer.clone())));
         let readings = made.into_iter().filter(|(call, _)| matches!(call, Call::Read { .. }));
-        calls.extend(readings.step_by(EVERY).map(|(call, _)| with_records(call)));
+        let (accepted, refused): (Vec<_>, Vec<_>) = readings.partition(|(_, answer)| answer.refusal() == 0);
+        let some = accepted.into_iter().step_by(ACCEPTED).chain(refused.into_iter().step_by(REFUSED));
+        calls.extend(some.map(|(call, _)| with_records(call)));
     }
     let stdin = read(&replay.join("stdin"));
     let Some(old) = replay::calls(&stdin) else { stop("REPLAY has no recorded calls") };
     let last = old.iter().rposition(|old| matches!(old.call, Call::Write { .. })).map_or(0, |last| last + 1);
-    println!("kept: {}", old.len() - last);
-    calls.extend(old[last..].iter().map(|kept| (kept.clone(), kept.call.answer())));
+    // Readings with row records are kept if they are such a case too.
+    let is_case =
+        |kept: &Recorded| old[last..].iter().any(|case| !case.is_of_records && case.call.table() == kept.call.table());
+    let kept: Vec<_> = old[last..].iter().filter(|call| is_case(call)).collect();
+    println!("kept: {}", kept.len());
+    calls.extend(kept.iter().map(|&kept| (kept.clone(), kept.call.answer())));
 
     let lines: String = calls.iter().map(|(recorded, answer)| recorded.line(answer) + "\n").collect();
     let calls: Vec<_> = calls.into_iter().map(|(recorded, _)| recorded).collect();

@@ -1,5 +1,6 @@
 //! Messages: conforming ones with what the reader has to say of them, known from making them, and wrong ones.
 
+use super::text::{Made, Text};
 use super::types::{Types, LIGHT};
 use super::Rng;
 use crate::Reading;
@@ -10,6 +11,19 @@ pub struct Message {
     pub bytes: Vec<u8>,
     pub rows: Vec<[u32; 3]>,
     pub reading: Reading,
+    /// The strings that are read, in message order.
+    pub strings: Vec<Made>,
+}
+
+/// What is wrong with a message.
+#[derive(Clone, Copy, PartialEq)]
+pub enum Wrong {
+    /// It conforms.
+    Nothing,
+    /// One item in so many, of any kind.
+    Items(usize),
+    /// One string in so many is no text; all else conforms.
+    Strings(usize),
 }
 
 struct Maker<'m> {
@@ -18,15 +32,15 @@ struct Maker<'m> {
     out: Vec<u8>,
     /// Bytes that may still be spent on what need not be there.
     budget: isize,
-    /// One item in so many is wrong; none if 0.
-    wrong: usize,
+    wrong: Wrong,
     made: Message,
 }
 
-/// A message under a top of the table. One item in `wrong` is wrong; with 0 the message conforms.
-pub fn message(rng: &mut Rng, types: &Types, top: u16, wrong: usize) -> Message {
+/// A message under a top of the table.
+pub fn message(rng: &mut Rng, types: &Types, top: u16, wrong: Wrong) -> Message {
     let budget = rng.pick(&[0, 30, 100, 100, 300, 300, 2_000]);
-    let made = Message { bytes: vec![], rows: vec![], reading: Reading { format: 1, ..Reading::default() } };
+    let reading = Reading { format: 1, ..Reading::default() };
+    let made = Message { bytes: vec![], rows: vec![], reading, strings: vec![] };
     let mut maker = Maker { rng, types, out: vec![0, 0, 0, 0, 1, 1], budget, wrong, made };
     if types.kind(top) == 15 {
         maker.made.reading.first = top.into();
@@ -54,7 +68,10 @@ pub(super) fn mend(bytes: &mut [u8]) {
 impl Maker<'_> {
     /// Whether the next item is to be wrong.
     fn slips(&mut self) -> bool {
-        self.wrong != 0 && self.rng.one_in(self.wrong)
+        match self.wrong {
+            Wrong::Items(one_in) => self.rng.one_in(one_in),
+            _ => false,
+        }
     }
 
     fn put(&mut self, bytes: &[u8]) {
@@ -105,10 +122,26 @@ impl Maker<'_> {
         }
     }
 
-    fn string(&mut self) {
+    fn string(&mut self, what: Text) {
         let length = self.count(1);
-        self.size(length);
-        self.bytes(length);
+        let text = self.rng.text(length);
+        self.text(text, what);
+    }
+
+    /// The string of this text, or with a fault in it. Faults of type IDs are rarer, for they hide those of the members.
+    fn text(&mut self, mut text: Vec<u8>, what: Text) {
+        let rarer = if what.is_id() { 4 } else { 1 };
+        let slips = match self.wrong {
+            Wrong::Nothing => false,
+            Wrong::Items(one_in) | Wrong::Strings(one_in) => self.rng.one_in(rarer * one_in),
+        };
+        if slips {
+            self.rng.spoil(&mut text);
+        }
+        let is_text = core::str::from_utf8(&text).is_ok();
+        self.made.strings.push(Made { place: self.out.len(), what, is_text });
+        self.size(text.len());
+        self.put(&text);
     }
 
     fn bool(&mut self) {
@@ -116,29 +149,30 @@ impl Maker<'_> {
         self.put(&[byte]);
     }
 
-    fn value(&mut self, r: u16) {
+    /// A value; if it is a string, `what` says which.
+    fn value(&mut self, r: u16, what: Text) {
         let types = self.types;
         let [a, b, ..] = types.fields(r);
         match types.kind(r) {
             0 => self.bool(),
             kind @ 1..=6 => self.bytes([1, 1, 2, 4, 8, 4, 8][kind as usize]),
-            7 => self.string(),
+            7 => self.string(what),
             8 => {
                 let enumerator = self.enumerator(r);
                 self.size(enumerator as usize);
             }
-            9 => types.owned(r).for_each(|m| self.value(types.spec.members[m].0)),
+            9 => types.owned(r).for_each(|m| self.value(types.spec.members[m].0, Text::Part)),
             10 => {
                 let count = self.count(types.least[a as usize]);
                 self.size(count);
-                (0..count).for_each(|_| self.value(a));
+                (0..count).for_each(|_| self.value(a, Text::Part));
             }
             11 => {
                 let count = self.count(types.least[a as usize].saturating_add(types.least[b as usize]));
                 self.size(count);
                 for _ in 0..count {
-                    self.value(a);
-                    self.value(b);
+                    self.value(a, Text::Key);
+                    self.value(b, Text::Part);
                 }
             }
             _ => self.proxy(),
@@ -170,12 +204,12 @@ impl Maker<'_> {
             return self.put(&[0, category, 65][..2 + category as usize]);
         }
         let name = 1 + self.rng.below(5);
-        self.size(name);
-        self.bytes(name);
-        self.string();
+        let name = self.rng.text(name);
+        self.text(name, Text::Name);
+        self.string(Text::Category);
         let facets = if self.slips() { 2 } else { self.rng.below(2) };
         self.size(facets);
-        (0..facets).for_each(|_| self.string());
+        (0..facets).for_each(|_| self.string(Text::Facet));
         let mode = if self.slips() { self.rng.pick(&[5, 6, 255]) } else { self.rng.below(5) as u8 };
         self.put(&[mode]);
         self.bool();
@@ -189,7 +223,7 @@ impl Maker<'_> {
             self.bytes(2 + inside);
         }
         if endpoints == 0 {
-            self.string();
+            self.string(Text::Adapter);
         }
     }
 
@@ -208,7 +242,7 @@ impl Maker<'_> {
         for m in self.types.owned(owner) {
             if let (of, None) = self.types.spec.members[m] {
                 let place = self.out.len();
-                self.value(of);
+                self.value(of, Text::Required);
                 self.give(m, place);
             }
         }
@@ -251,9 +285,11 @@ impl Maker<'_> {
             self.header(tag, optional);
             let place = match of {
                 Some(of) => {
-                    let value = self.apart(|maker| maker.value(of));
+                    let before = self.made.strings.len();
+                    let value = self.apart(|maker| maker.value(of, Text::Optional));
                     self.length(optional, value.len(), self.types.has_own_size(of));
                     let place = self.out.len();
+                    self.made.strings[before..].iter_mut().for_each(|string| string.place += place);
                     self.out.extend(value);
                     place
                 }
@@ -319,7 +355,7 @@ impl Maker<'_> {
             for _ in 0..self.rng.pick(&[0, 0, 0, 1, 1, 2, 5]) {
                 let flags = 0x11 | (self.rng.below(2) as u8) << 2;
                 let name = types.unknown(self.rng);
-                self.slice(flags, Some(&name), |maker| {
+                self.slice(flags, Some((name, Text::UnknownId)), |maker| {
                     let data = maker.rng.below(20);
                     maker.bytes(data);
                 });
@@ -338,7 +374,8 @@ impl Maker<'_> {
                 true => types.record_name(self.rng.pick(&types.records().collect::<Vec<_>>())).to_vec(),
                 false => types.record_name(r).to_vec(),
             };
-            self.slice(flags, has_id.then_some(&name[..]), |maker| {
+            let what = if i == 0 { Text::FirstId } else { Text::LaterId };
+            self.slice(flags, has_id.then_some((name, what)), |maker| {
                 maker.required(r);
                 maker.optionals(&optionals);
                 if flags >> 2 & 1 == 1 {
@@ -348,12 +385,11 @@ impl Maker<'_> {
         }
     }
 
-    fn slice(&mut self, flags: u8, id: Option<&[u8]>, data: impl FnOnce(&mut Self)) {
+    fn slice(&mut self, flags: u8, id: Option<(Vec<u8>, Text)>, data: impl FnOnce(&mut Self)) {
         let flags = if self.slips() { flags ^ 1 << self.rng.below(8) } else { flags };
         self.put(&[flags]);
-        if let Some(name) = id {
-            self.size(name.len());
-            self.put(name);
+        if let Some((name, what)) = id {
+            self.text(name, what);
         }
         let start = self.out.len();
         if flags >> 4 & 1 == 1 {

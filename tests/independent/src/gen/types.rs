@@ -152,7 +152,8 @@ impl Types {
         if known > 0 && rng.one_in(4) {
             let start = rng.below(known);
             let length = 1 + rng.below((known - start).min(255));
-            if !self.knows(&self.spec.names[start..start + length]) {
+            let name = &self.spec.names[start..start + length];
+            if core::str::from_utf8(name).is_ok() && !self.knows(name) {
                 self.spec.record_named(kind, base, (start as u16, length as u16), &members);
                 return (0, false);
             }
@@ -161,6 +162,9 @@ impl Types {
         if known + name.len() > 8_000 {
             self.spec.owner(15, &members);
         } else {
+            if rng.one_in(8) {
+                self.spec.names.push(0xC3); // unused, and no text
+            }
             self.spec.record(kind, base, &name, &members);
         }
         (0, false)
@@ -259,6 +263,9 @@ impl Types {
             if rng.one_in(8) {
                 name.extend(self.records().next().map_or(&b""[..], |r| self.record_name(r)));
                 name.truncate(255);
+                while core::str::from_utf8(&name).is_err() {
+                    name.pop();
+                }
             }
             if !self.knows(&name) {
                 return name;
