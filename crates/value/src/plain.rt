@@ -69,8 +69,9 @@ fn bool_eights(s: &[u8], n: usize) -> usize
 pub fn bools(s: &[u8], n: usize) -> Step
     ensures { λ r. ⌜ r ≡ stepOf (times n bool (now (s .entry))) ⌝ }
 {
-    let mut at = bool_eights(s, n);
-    let mut left = n - at;
+    let first = bool_eights(s, n);
+    let mut at = first;
+    let mut left = n - first;
     while left > 0 {
         let step = bool(&s[at..]);
         match step {
@@ -78,7 +79,8 @@ pub fn bools(s: &[u8], n: usize) -> Step
                 at += m;
             }
             Step::Fault(f, p) => {
-                return Step::Fault(f, at + p);
+                let place = at + p;
+                return Step::Fault(f, place);
             }
         }
         left -= 1;

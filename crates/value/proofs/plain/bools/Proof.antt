@@ -12,10 +12,10 @@ use Rattle.value.proofs.plain.bools.Statement.{statement}
 use Rattle.value.proofs.plain.bools.Tie as tie
 
 abbrev Inv-loop : tie.InvT-loop
-Inv-loop s n at₀ left₀ at left = Left s (stepOf (times n bool-of s)) (times left bool-of) at
+Inv-loop s n first at₀ left₀ at left = Left s (stepOf (times n bool-of s)) (times left bool-of) at
 
 abbrev μ-loop : tie.MeasureT-loop
-μ-loop s n at₀ left₀ at left = left
+μ-loop s n first at₀ left₀ at left = left
 
 pub bools-spec : {M : Type 1} → statement M
 bools-spec =
@@ -33,7 +33,7 @@ bools-spec =
     (λ c. search needs)  -- enum-known-step
     (λ c. search (took-fits bool-of held-bool))  -- add-at
     (λ c. search needs)  -- enum-known-step-2
-    (λ c. search (bad-fits bool-of held-bool))  -- add-t14
+    (λ c. search (bad-fits bool-of held-bool))  -- add-place
     (λ c. search (turns-fault bool-of held-bool))  -- returns
     (λ c. omega arith)  -- sub-left-2
     (λ c. omega arith)  -- loop-less
