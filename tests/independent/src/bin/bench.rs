@@ -58,7 +58,7 @@ impl Case {
     }
 
     fn run(&self) {
-        let Case { table, top, name, .. } = self;
+        let Case { name, table, top, .. } = self;
         // Without a bar none is missed.
         let _ = (self.run_read(None), self.run_write(None));
         // The empty input is refused by 4 right after the rules of the table.
@@ -293,6 +293,7 @@ fn main() -> ExitCode {
     }
 }
 
+/// Everything else.
 fn all_but_logs() {
     heads("library", "independent");
 
