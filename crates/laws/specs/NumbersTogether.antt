@@ -11,7 +11,7 @@ use native.Mathlib.Nat.{zero-mul, suc-mul}
 use native.Mathlib.Omega.{arith}
 use lib.ListN.{length, drop, length-drop}
 use borrow.Author.Tests.{lt-leb}
-use Rattle.encoding.specs.Result.{Res, ok, bad, Parser, shift, pure, chunk, skip, times}
+use Rattle.encoding.specs.Result.{ok, bad, Parser, shift, pure, chunk, skip, times}
 use Rattle.encoding.specs.ResultLaws.{bind-step, bind-bad, bind-next, chunk-step}
 use Rattle.encoding.specs.Number.{size}
 use Rattle.encoding.specs.Types.{Ty, seq}

@@ -1,6 +1,5 @@
 -- What was passed is bools; the loop ends where fewer than eight are left, or at eight that are not all bools. Assumes nothing.
 use Prim.Native.Nat.{_-_, _≤_}
-use native.Mathlib.Omega.{arith}
 use borrow.Author.Needs.{needs}
 use Rattle.value.specs.Parts.{AreBools}
 use Rattle.value.proofs.BoolLaws.{bools-none, bools-turn}
