@@ -174,7 +174,7 @@ short-list = refl
 
 -- opens the writer's definitions, beside `computed`
 unfoldable writerComputed : ℕ
-unfolding Write.next Write.above Write.begin Write.reachDue Write.optionalRow Write.orAbove Write.entered Write.reachMay Write.reach Write.anyOf Write.stillDue Write.given Write.partOf Write.judge Write.prepend Write.judgeAll Write.piecesOf Write.slicesOf Write.gathered Write.noFormat Write.formatOfNumber Write.bounded Write.rowAt Write.tableRules Write.early Write.stoppedFirst Write.rowsGiven Write.message Write.writing Write.writingOf Write.writingNumbers
+unfolding Write.next Write.above Write.begin Write.reachDue Write.optionalRow Write.orAbove Write.entered Write.reachMay Write.reach Write.anyOf Write.stillDue Write.given Write.partOf Write.judge Write.prepend Write.judgeAll Write.piecesOf Write.slicesOf Write.gathered Write.noFormat Write.bounded Write.rowAt Write.tableRules Write.early Write.stoppedFirst Write.rowsGiven Write.message Write.writing Write.writingOf Write.writingNumbers
 writerComputed = 0
 
 -- a call under the table of one byte, and its three numbers

@@ -1,0 +1,2 @@
+-- What the contracts of the converter cite.
+pub mod Convert

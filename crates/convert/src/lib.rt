@@ -1,0 +1,1 @@
+// The converter: a compact record to the sliced one with the same members and bytes.
