@@ -1,2 +1,4 @@
 -- What the contracts of the converter cite.
 pub mod Convert
+pub mod Reslice
+pub mod ResliceLaws

@@ -225,6 +225,11 @@ pub record-written : Write.writing records 2 1 2 (row 1 0 1 ++ row 0 1 1) (9 ∷
 unfolding computed writerComputed
 record-written = refl
 
+-- 23 for format 0: no compact record is written
+pub compact-refused : Write.writing records 2 0 2 (row 1 0 1 ++ row 0 1 1) (9 ∷ 7 ∷ []) 24 ≡ Write.stop 23 0
+unfolding computed writerComputed
+compact-refused = refl
+
 -- 21 for a row whose bytes are no text
 pub wrong-text : Write.writing (lone (basic 7)) 1 1 1 (row 0 0 2) (1 ∷ 0x80 ∷ []) 8 ≡ Write.stop 21 0
 unfolding computed writerComputed

@@ -10,8 +10,9 @@ pub put-slice-spec : {M : Type 1} → statement M
 put-slice-spec =
     tie.close
     (tie.spec
-    (λ c κs. search needs)  -- front-len-requires
     (λ c. search needs)  -- add-start
+    (λ c κs. search needs)  -- id-len-requires
+    (λ c. search needs)  -- add-start-2
     (λ c κs. (search needs, (search needs, search needs)))  -- put-data-requires
     (λ c. search needs)  -- same-length
     (λ c. still-wrong _ _ _ _ _ _ _ _ _ _ (c .before .before .before .before .put-data .ensures) (c .if1 .taken))  -- returns
