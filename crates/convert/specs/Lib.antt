@@ -2,3 +2,6 @@
 pub mod Convert
 pub mod Reslice
 pub mod ResliceLaws
+pub mod Demands
+pub mod ConvertLaws
+pub mod Promises
