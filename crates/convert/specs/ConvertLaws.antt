@@ -138,7 +138,7 @@ module _ (T : List ℕ) (top : ℕ) (m : List ℕ) (p : Pieces) (n : ℕ) (yM : 
   -- size and version come before the sliced form of the slices, and the marker of a class
   whole-resliced : (mark : List ℕ) (ss : List Slice) (K : Compact T top ss) (at : ℕ) → m ≡ encapsulate (mark ++ slicesBytes compact first ss) → at ≡ 6 + length mark → skippedIn ss ≡ 0
       → length (encapsulate (mark ++ slicesBytes sliced first ss)) ≡ length m + growth T (chain T (K .row))
-      → encapsulate (mark ++ slicesBytes sliced first ss) ≡ resliced T m (K .row) at (sliceRows T compact first at (chain T (K .row)) ss)
+      → encapsulate (mark ++ slicesBytes sliced first ss) ≡ resliced T m (K .row) at (length m + growth T (chain T (K .row))) (sliceRows T compact first at (chain T (K .row)) ss)
   unfolding resliced encapsulate
   whole-resliced mark ss K at e a z l =
       let X : List ℕ = slicesBytes sliced first ss in
@@ -151,22 +151,22 @@ module _ (T : List ℕ) (top : ℕ) (m : List ℕ) (p : Pieces) (n : ℕ) (yM : 
       sym (append-assoc (leBytes 4 (6 + length (mark ++ X))) (1 ∷ 1 ∷ mark) X)
       ∙ ap₂ (λ (b c : List ℕ). b ++ c) (ap₂ (λ (n : ℕ) (b : List ℕ). leBytes 4 n ++ b) size (sym head)) (sym (slices-resliced ss K at z S))
 
-  pub resliced-is : encapsulate (encode sliced p) ≡ resliced T m (firstKnown T top p) (6 + pick (eqb (kind T top) 14) 1 0) (rows T top compact p)
+  pub resliced-is : encapsulate (encode sliced p) ≡ resliced T m (firstKnown T top p) (6 + pick (eqb (kind T top) 14) 1 0) (length m + growth T (chain T (firstKnown T top p))) (rows T top compact p)
   unfolding firstKnown encode rows optionalsSkipped
   resliced-is = go p (follows T top m p n yM h .conforms) (follows T top m p n yM h .encoded) (Z .optionals) (needed-is T top m p n yM h)
     where
       go : (p : Pieces) → Conform T top compact p → m ≡ encapsulate (encode compact p) → optionalsSkipped p ≡ 0
           → length (encapsulate (encode sliced p)) ≡ length m + growth T (chain T (firstKnown T top p))
-          → encapsulate (encode sliced p) ≡ resliced T m (firstKnown T top p) (6 + pick (eqb (kind T top) 14) 1 0) (rows T top compact p)
+          → encapsulate (encode sliced p) ≡ resliced T m (firstKnown T top p) (6 + pick (eqb (kind T top) 14) 1 0) (length m + growth T (chain T (firstKnown T top p))) (rows T top compact p)
       go (list ps) (k, g, L) e z l = absurd (compact≢sliced g)
       go (exception ss) (k, C) e z l =
           let K = compact-first T top ss C in
           whole-resliced [] ss K 6 e refl z (l ∙ ap (λ (t : ℕ). length m + growth T (chain T t)) (K .is-first))
-          ∙ ap₂ (λ (t s : ℕ). resliced T m t s (sliceRows T compact first 6 (chain T t) ss)) (sym (K .is-first)) (rw k)
+          ∙ ap₂ (λ (t s : ℕ). resliced T m t s (length m + growth T (chain T t)) (sliceRows T compact first 6 (chain T t) ss)) (sym (K .is-first)) (rw k)
       go (class ss) (k, C) e z l =
           let K = compact-first T top ss C in
           whole-resliced (1 ∷ []) ss K 7 e refl z (l ∙ ap (λ (t : ℕ). length m + growth T (chain T t)) (K .is-first))
-          ∙ ap₂ (λ (t s : ℕ). resliced T m t s (sliceRows T compact first 7 (chain T t) ss)) (sym (K .is-first)) (rw k)
+          ∙ ap₂ (λ (t s : ℕ). resliced T m t s (length m + growth T (chain T t)) (sliceRows T compact first 7 (chain T t) ss)) (sym (K .is-first)) (rw k)
 
 -- ---- the answers
 

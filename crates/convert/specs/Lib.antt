@@ -2,6 +2,7 @@
 pub mod Convert
 pub mod Reslice
 pub mod ResliceLaws
+pub mod Plans
 pub mod Demands
 pub mod ConvertLaws
 pub mod Promises

@@ -63,6 +63,6 @@ reslices T m p n (t ∷ ts) rs =
     reslice T m t (noneAbove ts) p n rs ++ reslices T m (dataEnd T m t p (p + n) rs) 1 ts (drop (ownCount T t rs) rs)
 
 -- size, version and marker, then the slices of row t and its bases, which begin at p
-unfoldable pub resliced : List ℕ → List ℕ → ℕ → ℕ → List Row → List ℕ
-resliced T m t p rs =
-    leBytes 4 (length m + growth T (chain T t)) ++ take (p - 4) (drop 4 m) ++ reslices T m p (1 + length (stringBytes (nameOf T t))) (chain T t) rs
+unfoldable pub resliced : List ℕ → List ℕ → ℕ → ℕ → ℕ → List Row → List ℕ
+resliced T m t p size rs =
+    leBytes 4 size ++ take (p - 4) (drop 4 m) ++ reslices T m p (1 + length (stringBytes (nameOf T t))) (chain T t) rs

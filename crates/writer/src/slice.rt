@@ -166,7 +166,7 @@ pub fn put_front(
 ) -> usize
     requires { ⌜ begin ≡ typesAt (now table) ⌝ }
     requires { ⌜ (at ≤ 576460752303423488) × (n ≤ 576460752303423488) ⌝ }
-    ensures { λ r. ⌜ Puts at (frontField (now (table .entry)) o optionals last n) (now (out .entry)) (now (out .exit)) r ⌝ }
+    ensures { λ r. ⌜ Puts at (frontField (now (table .entry)) o optionals last n) (now (out .entry)) (now (out .exit)) r × (r ≤ at + 65545) ⌝ }
 {
     wire::put_number(out, at, 1, wire::slice_flags(true, optionals, true, last));
     let a = put_id(table, begin, out, at + 1, o);

@@ -16,4 +16,4 @@ put-front-spec =
     (λ c κs. search needs)  -- put-number-requires-2
     (λ c. search needs)  -- add-result
     (λ c. search needs)  -- same-length
-    (λ c. search front-put))  -- returns
+    (λ c. (search front-put, search needs)))  -- returns
