@@ -109,7 +109,6 @@ module _ (T : List ℕ) (top : ℕ) (m : List ℕ) (yM : Bytes m) where
 
 -- a number below 2^32 is its low 32 bits
 low-small : (x : ℕ) → x < 4294967296 → low x ≡ x
-unfolding low
 low-small x h = omega arith
 
 module _ (T : List ℕ) (top : ℕ) (m : List ℕ) (w : Walk) (lent after : List ℕ) (W : Walked T top m w lent after) where
@@ -153,16 +152,16 @@ module _ (T : List ℕ) (top : ℕ) (m : List ℕ) (w : Walk) (lent after : List
           go : Agrees T top m (W .bytes) room (Fits t n k) → Whole
           go (fits p C a b c d f) = record { pieces = p; convertible = C; of-type = a; count = b; needed = c; short = d; fits = f }
 
-      long : (H : Whole) → length (encapsulate (encode sliced (H .pieces))) ≡ k
-      long H = needed-is T top m (H .pieces) (H .convertible .taken) (W .bytes) (H .convertible .accepted) ∙ sym (H .needed)
+      whole-long : (H : Whole) → length (encapsulate (encode sliced (H .pieces))) ≡ k
+      whole-long H = needed-is T top m (H .pieces) (H .convertible .taken) (W .bytes) (H .convertible .accepted) ∙ sym (H .needed)
 
       gives : (H : Whole) → converting T top m room ≡ out (encapsulate (encode sliced (H .pieces)))
       unfolding bounded
-      gives H = convert-is T top m (H .pieces) (H .convertible) room ∙ rw (long H, le-leb k limit (H .short), le-leb k room (H .fits))
+      gives H = convert-is T top m (H .pieces) (H .convertible) room ∙ rw (whole-long H, le-leb k limit (H .short), le-leb k room (H .fits))
 
       pub fits-answer : (i : ℕ) → i ≡ low k → Written i ≡ writingOf (converting T top m room)
       unfolding writingOf
-      fits-answer i ei = let H = whole in rw (gives H, ei, low-small k (omega (arith, H .short)), long H)
+      fits-answer i ei = let H = whole in rw (gives H, ei, low-small k (omega (arith, H .short)), whole-long H)
 
       pub fits-count : n ≤ 1024
       fits-count = let H = whole in omega (arith, H .count, accepted-small T top m compact (H .pieces) (H .convertible .taken) (W .bytes) (H .convertible .accepted) .count)
@@ -204,5 +203,5 @@ module _ (T : List ℕ) (top : ℕ) (m : List ℕ) (w : Walk) (lent after : List
           ap₂ (λ (x y : ℕ). resliced T m x y k (rowsFrom after 0 n)) (H .of-type) ea
           ∙ ap₂ (λ (x : ℕ) (l : List Row). resliced T m (firstKnown T top (H .pieces)) (6 + pick (eqb (kind T top) 14) 1 0) x l) (H .needed) (rows-there H hold)
           ∙ sym (resliced-is T top m (H .pieces) (C .taken) (W .bytes) (C .accepted) (C .complete)) in
-          let fit : length M ≤ length out₀ = omega (arith, long H, H .fits) in
+          let fit : length M ≤ length out₀ = omega (arith, whole-long H, H .fits) in
           lays (omega (arith, ap length r)) ∙ ap (λ (b : List ℕ). put 0 b out₀) r ∙ put-front M out₀ fit ∙ sym (rw (gives H))

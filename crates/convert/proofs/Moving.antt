@@ -143,8 +143,9 @@ pub record-put : (T m list : List ℕ) (n t p size : ℕ) (lent two three last :
     → Puts p (reslices T m p (1 + length (stringBytes (nameOf T t))) (chain T t) (rowsFrom list 0 n)) three last r
     → length (resliced T m t p size (rowsFrom list 0 n)) ≤ length lent → last ≡ put 0 (resliced T m t p size (rowsFrom list 0 n)) lent
 unfolding resliced
-record-put T m list n t p size lent two three last r h l e f q =
+record-put T m list n t p size lent two three last r a l e f q =
     let k : length (take (p - 4) (drop 4 m)) ≡ p - 4 = omega (arith, length-take (p - 4) (drop 4 m), length-drop 4 m) in
     let A : Puts 0 (leBytes 4 size) lent two 4 = puts-number 4 size 0 lent two e in
     let B : Puts 4 (take (p - 4) (drop 4 m)) two three p = puts-one 4 _ two three p f (omega arith) in
-    puts-then 0 _ lent three p (puts-then 0 _ lent two 4 A _ three p B) _ last r q .lays
+    let W = puts-then 0 _ lent three p (puts-then 0 _ lent two 4 A _ three p B) _ last r q in
+    λ h. W .lays (omega arith)

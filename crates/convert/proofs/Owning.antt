@@ -74,4 +74,4 @@ module _ (T list : List ℕ) (n i o start e k : ℕ) (O : Owning T list n i o st
             }
           where
             counted : takes T o (at list 4 (12 * k)) ≡ true → ownCount T o (rowAt list k ∷ rowsFrom list (k + 1) n) ≡ 1 + ownCount T o (rowsFrom list (k + 1) n)
-            counted t = rw t
+            counted t = rw t (omega arith)

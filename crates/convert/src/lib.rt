@@ -1,6 +1,6 @@
 // The converter: a compact record to the sliced one with the same members and bytes. It asks nothing of its input.
-// plan.rt judges what a walk over the message found, slice.rt puts the slices: the data of each stay as they are, and the rows of its owner, which the walk has listed, say where they end.
-pub mod plan;
+// planning.rt judges what a walk over the message found, slice.rt puts the slices: the data of each stay as they are, and the rows of its owner, which the walk has listed, say where they end.
+pub mod planning;
 pub mod slice;
 
 ghost use mathlib.Core.Path.{_≡_};
@@ -44,7 +44,7 @@ fn convert_by(
 {
     let w = reading::walk(table, top, message, false, list);
     let begin = table::types_at(table);
-    let p = plan::plan(table, begin, w, message.len(), out.len());
+    let p = planning::plan(table, begin, w, message.len(), out.len());
     match p {
         Plan::Stopped(c, q) => Writing::Rejected(reading::low(c), reading::low(q)),
         Plan::Fits(t, n, needed) => {
@@ -83,7 +83,7 @@ pub fn converted(table: &[u8], top: u32, message: &[u8], room: usize) -> Writing
     let mut none = [0u8; 12];
     let w = reading::walk(table, top as usize, message, false, &mut none);
     let begin = table::types_at(table);
-    let p = plan::plan(table, begin, w, message.len(), room);
+    let p = planning::plan(table, begin, w, message.len(), room);
     match p {
         Plan::Stopped(c, q) => Writing::Rejected(reading::low(c), reading::low(q)),
         Plan::Fits(t, n, needed) => Writing::Written(reading::low(needed)),
