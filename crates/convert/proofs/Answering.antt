@@ -3,7 +3,7 @@
 --   walk-narrow                          what a plan asks of a walk
 --   Agrees, plan-agrees                  what a plan says of the converter
 --   stopped-answer, stopped-output       a refusal
---   fits-answer, fits-output             a message
+--   fits-answer, output-fits             a message
 --   fits-count, fits-type, fits-start, fits-length   what the code asks before it puts the message
 use mathlib.Core.Path.{_≡_, refl, sym, ap, ap₂, _∙_, subst}
 use mathlib.Core.Bool.{Bool, true, false, _&&_}
@@ -191,7 +191,7 @@ module _ (T : List ℕ) (top : ℕ) (m : List ℕ) (w : Walk) (lent after : List
           let f : after ≡ concat rowBytes rs ++ drop (12 * length rs) lent = W .lays (readAs compact (H .pieces)) (C .taken) (C .accepted) ∙ rows-put rs lent (omega (arith, few .count, few .owned)) in
           ap (λ (i : ℕ). map (rowAt after) (range 0 i)) (sub-zero n ∙ H .count) ∙ rows-back S after (drop (12 * length rs) lent) f
 
-      pub fits-output : 12 * min (members T) 1024 ≤ length lent → (at : ℕ) → at ≡ 6 + pick (eqb (kind T top) 14) 1 0 → (out₀ last : List ℕ) → room ≡ length out₀
+      fits-output : 12 * min (members T) 1024 ≤ length lent → (at : ℕ) → at ≡ 6 + pick (eqb (kind T top) 14) 1 0 → (out₀ last : List ℕ) → room ≡ length out₀
           → (length (resliced T m t at k (rowsFrom after 0 n)) ≤ length out₀ → last ≡ put 0 (resliced T m t at k (rowsFrom after 0 n)) out₀)
           → last ≡ output (converting T top m room) out₀
       unfolding output
@@ -205,3 +205,10 @@ module _ (T : List ℕ) (top : ℕ) (m : List ℕ) (w : Walk) (lent after : List
           ∙ sym (resliced-is T top m (H .pieces) (C .taken) (W .bytes) (C .accepted) (C .complete)) in
           let fit : length M ≤ length out₀ = omega (arith, whole-long H, H .fits) in
           lays (omega (arith, ap length r)) ∙ ap (λ (b : List ℕ). put 0 b out₀) r ∙ put-front M out₀ fit ∙ sym (rw (gives H))
+
+  -- the same where the output is lent
+  module _ (lent-out : List ℕ) (p : Plan) (e : p ≡ planOf T (length m) (length lent-out) w) (t n k : ℕ) (h : p ≡ Fits t n k) where
+    pub output-fits : 12 * min (members T) 1024 ≤ length lent → (at : ℕ) → at ≡ 6 + pick (eqb (kind T top) 14) 1 0 → (last : List ℕ)
+        → (length (resliced T m t at k (rowsFrom after 0 n)) ≤ length lent-out → last ≡ put 0 (resliced T m t at k (rowsFrom after 0 n)) lent-out)
+        → last ≡ output (converting T top m (length lent-out)) lent-out
+    output-fits hold at ea last lays = fits-output (length lent-out) p e t n k h hold at ea lent-out last refl lays

@@ -49,20 +49,21 @@ module _ (T : List ℕ) (t n o : ℕ) (G : Growing T t n o) (up : ℕ) (e : up �
 
 -- ---- the plan
 
+module _ (len : ℕ) (w : Walk) (t g n o s e : ℕ) (q : w ≡ Done t g n o s e) (N : Narrow len w) where
+  pub narrow-first : t < 65536
+  unfolding Narrow
+  narrow-first = subst (Narrow len) q N .0
+
+  pub narrow-len : len ≤ 65536
+  unfolding Narrow
+  narrow-len = subst (Narrow len) q N .1
+
 module _ (T : List ℕ) (len room : ℕ) (w : Walk) where
   pub plan-stop : (c p : ℕ) → w ≡ Stop c p → Stopped c p ≡ planOf T len room w
   unfolding planOf
   plan-stop c p e = sym (ap (planOf T len room) e)
 
   module _ (t g n o s e : ℕ) (q : w ≡ Done t g n o s e) where
-    pub narrow-first : Narrow len w → t < 65536
-    unfolding Narrow
-    narrow-first N = subst (Narrow len) q N .0
-
-    pub narrow-len : Narrow len w → len ≤ 65536
-    unfolding Narrow
-    narrow-len N = subst (Narrow len) q N .1
-
     pub plan-sliced : (g ≡ 0 → ⊥) → Stopped 47 0 ≡ planOf T len room w
     unfolding planOf
     plan-sliced f = sym (ap (planOf T len room) q ∙ rw (ne-eqb g 0 f))

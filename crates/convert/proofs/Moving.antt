@@ -1,7 +1,7 @@
 -- The slices of a record one after another. Assumes nothing.
 --
 --   end-marked, end-plain       where a slice's data end
---   slice-moved                 one slice
+--   slice-moved, part-small     one slice, and its end
 --   Moving, moving-..           the loop over the slices of a chain
 --   record-put                  size, version and marker before them
 --   first-class, first-other    where the first slice begins
@@ -71,6 +71,10 @@ module _ (T m list : List ℕ) (n i o : ℕ) (end : Bool) (at₁ n₁ to : ℕ) 
     small = omega arith;
     few = omega arith;
   }
+
+-- where a slice ends fits 64 bits
+pub part-small : (to a x l e d k : ℕ) → to ≤ 576460752303423488 → a ≤ to + 65545 → e ≡ min x l → k ≡ e - d → l ≤ 65536 → a + k < 18446744073709551616
+part-small to a x l e d k h i j p q = omega arith
 
 -- ---- the slices of a chain
 

@@ -31,13 +31,7 @@ pub struct Moved {
 }
 
 // Converts by a walk into a list that holds a row for each member of the table, or 1,024.
-fn convert_by(
-    table: &[u8],
-    top: usize,
-    message: &[u8],
-    list: &mut [u8],
-    out: &mut [u8],
-) -> Writing
+fn convert_by(table: &[u8], top: usize, message: &[u8], list: &mut [u8], out: &mut [u8]) -> Writing
     requires { ⌜ 12 * min (members (now table)) 1024 ≤ length (now list) ⌝ }
     ensures { λ r. ⌜ r ≡ writingOf (converting (now (table .entry)) top (now (message .entry)) (length (now (out .entry)))) ⌝ }
     ensures { λ _. ⌜ now (out .exit) ≡ output (converting (now (table .entry)) top (now (message .entry)) (length (now (out .entry)))) (now (out .entry)) ⌝ }

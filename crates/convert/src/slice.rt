@@ -146,7 +146,7 @@ fn put_slices(
 // Where the first slice of a record of row t's kind begins: a class has its marker before it.
 pub fn first_at(table: &[u8], begin: usize, t: usize) -> usize
     requires { ⌜ begin ≡ typesAt (now table) ⌝ }
-    ensures { λ r. ⌜ (r ≡ 6 + pick (eqb (kind (now (table .entry)) t) 14) 1 0) × (r ≤ 7) ⌝ }
+    ensures { λ r. ⌜ (r ≡ 6 + pick (eqb (kind (now (table .entry)) t) 14) 1 0) × (4 ≤ r) × (r ≤ 7) ⌝ }
 {
     if table::kind(table, begin, t) == 14 {
         return 7;

@@ -34,12 +34,7 @@ pub extern "C" fn icehub_convert_place(table: &[u8], top: u32, message: &[u8], r
 // The length of the sliced form; 0 on a refusal.
 // Wrong and ruled out: the bytes needed where the output is too short; the length that another output gives.
 #[no_mangle]
-pub extern "C" fn icehub_convert_length(
-    table: &[u8],
-    top: u32,
-    message: &[u8],
-    room: usize,
-) -> u32
+pub extern "C" fn icehub_convert_length(table: &[u8], top: u32, message: &[u8], room: usize) -> u32
     ensures { λ r. ⌜ r ≡ convertNumber (now (table .entry)) top (now (message .entry)) room 2 ⌝ }
 {
     convert_number(table, top, message, room, 2)

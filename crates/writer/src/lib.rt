@@ -53,17 +53,7 @@ fn write_by_draft(
     if rows.len() / 12 < count {
         return Outcome::Stopped(20, count);
     }
-    let put = message::put_message(
-        table,
-        begin,
-        shapes,
-        draft,
-        top,
-        false,
-        count,
-        rows,
-        buffer,
-    );
+    let put = message::put_message(table, begin, shapes, draft, top, false, count, rows, buffer);
     match put {
         Put::Wrong(number, place) => Outcome::Stopped(number, place),
         Put::Made(n) => {
@@ -77,17 +67,7 @@ fn write_by_draft(
                 wire::put_part(out, 0, draft, 0, n);
                 return Outcome::Made(n);
             }
-            message::put_message(
-                table,
-                begin,
-                shapes,
-                out,
-                top,
-                true,
-                count,
-                rows,
-                buffer,
-            );
+            message::put_message(table, begin, shapes, out, top, true, count, rows, buffer);
             Outcome::Made(n)
         }
     }

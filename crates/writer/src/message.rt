@@ -105,31 +105,9 @@ fn put_contents(
     }
     if k == 14 {
         wire::put_number(out, 6, 1, 1);
-        return put_slices(
-            table,
-            begin,
-            shapes,
-            out,
-            7,
-            t,
-            judged,
-            count,
-            rows,
-            buffer,
-        );
+        return put_slices(table, begin, shapes, out, 7, t, judged, count, rows, buffer);
     }
-    put_slices(
-        table,
-        begin,
-        shapes,
-        out,
-        6,
-        t,
-        judged,
-        count,
-        rows,
-        buffer,
-    )
+    put_slices(table, begin, shapes, out, 6, t, judged, count, rows, buffer)
 }
 
 // Checks the rows and puts the message: the data, then the size and the version before them.
@@ -149,17 +127,7 @@ pub fn put_message(
     requires { ⌜ (t < 65536) × (count ≤ 4294967296) × (length (now buffer) ≤ 65536) ⌝ }
     ensures { λ r. ⌜ AllPut (now (table .entry)) (now (rows .entry)) (now (buffer .entry)) judged count t 0 (encapsulate (contentsOf (now (table .entry)) (now (rows .entry)) (now (buffer .entry)) count t)) (now (out .entry)) (now (out .exit)) r ⌝ }
 {
-    let put = put_contents(
-        table,
-        begin,
-        shapes,
-        out,
-        t,
-        judged,
-        count,
-        rows,
-        buffer,
-    );
+    let put = put_contents(table, begin, shapes, out, t, judged, count, rows, buffer);
     match put {
         Put::Made(n) => {
             wire::put_number(out, 0, 4, n);

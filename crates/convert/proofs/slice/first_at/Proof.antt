@@ -10,5 +10,5 @@ first-at-spec =
     tie.close
     (tie.spec
     (λ c κs. search needs)  -- kind-requires
-    (λ c. (search first-class, omega arith))  -- returns
-    (λ c. (search first-other, omega arith)))  -- returns-2
+    (λ c. (search first-class, omega arith, omega arith))  -- returns
+    (λ c. (search first-other, omega arith, omega arith)))  -- returns-2

@@ -1,56 +1,17 @@
+-- The loop's invariant: the slices from the owner at hand on are still to be put. The measure is the owner, since a base is smaller. Assumes nothing.
+use mathlib.Core.Path.{_≡_, refl}
+use native.Mathlib.Omega.{arith}
+use lib.ListN.{length}
+use borrow.Author.Needs.{needs}
+use Rattle.convert.proofs.Moving.{Moving, moving-begin, moving-end, moving-next}
 use Rattle.convert.proofs.slice.put_slices.Statement.{statement}
 use Rattle.convert.proofs.slice.put_slices.Tie as tie
-use Rattle.convert.proofs.slice.put_slices.Reads as reads
-use Rattle.convert.proofs.slice.put_slices.Lts as lts
-use Rattle.convert.proofs.slice.put_slice.Reads as put-slice-reads
-use Rattle.table.proofs.chain.base.Reads as base-reads
-use Rattle.writer.proofs.slice.id_len.Reads as id-len-reads
 
 abbrev Inv-loop : tie.InvT-loop
-Inv-loop table begin message list n t at out₀ o₀ i₀ p₀ to₀ front₀ out o i p to front = ?
+Inv-loop table begin message list n t at out₀ o₀ i₀ p₀ to₀ front₀ out o i p to front = (length out ≡ length out₀) × Moving table message list n t at out₀ o i p to front out
 
 abbrev μ-loop : tie.MeasureT-loop
-μ-loop table begin message list n t at out₀ o₀ i₀ p₀ to₀ front₀ out o i p to front = ?
-
--- src/slice.rt:118:25
-id-len-requires : tie.Need-id-len-requires Inv-loop μ-loop
-id-len-requires c κs = ?
-
--- src/slice.rt:118:21
-add-front : tie.Need-add-front Inv-loop μ-loop
-add-front c = ?
-
--- src/slice.rt:119:5
-loop-holds : tie.Need-loop-holds Inv-loop μ-loop
-loop-holds c = ?
-
--- src/slice.rt:120:13
-base-requires : tie.Need-base-requires Inv-loop μ-loop
-base-requires c κs = ?
-
--- src/slice.rt:121:13
-put-slice-requires : tie.Need-put-slice-requires Inv-loop μ-loop
-put-slice-requires c κs = ?
-
--- src/slice.rt:136:13
-same-length : tie.Need-same-length Inv-loop μ-loop
-same-length c = ?
-
--- src/slice.rt:136:13
-returns : tie.Need-returns Inv-loop μ-loop
-returns c = ?
-
--- src/slice.rt:138:13
-sub-o : tie.Need-sub-o Inv-loop μ-loop
-sub-o c = ?
-
--- src/slice.rt:119:5
-loop-less : tie.Need-loop-less Inv-loop μ-loop
-loop-less c = ?
-
--- src/slice.rt:119:5
-loop-again : tie.Need-loop-again Inv-loop μ-loop
-loop-again c = ?
+μ-loop table begin message list n t at out₀ o₀ i₀ p₀ to₀ front₀ out o i p to front = o
 
 pub put-slices-spec : {M : Type 1} → statement M
 put-slices-spec =
@@ -58,13 +19,13 @@ put-slices-spec =
     (tie.spec
     Inv-loop
     μ-loop
-    id-len-requires
-    add-front
-    loop-holds
-    base-requires
-    put-slice-requires
-    same-length
-    returns
-    sub-o
-    loop-less
-    loop-again)
+    (λ c κs. search needs)  -- id-len-requires
+    (λ c. search needs)  -- add-front
+    (λ c. (refl, search moving-begin))  -- loop-holds
+    (λ c κs. search needs)  -- base-requires
+    (λ c κs. (search needs, (c .before .before .loop .inv .1 .within, omega arith, c .before .before .loop .inv .1 .placed, c .before .before .loop .inv .1 .short, omega (arith, c .before .before .loop .inv .1 .few, c .before .before .loop .inv .1 .below), omega arith)))  -- put-slice-requires
+    (λ c. search needs)  -- same-length
+    (λ c. search moving-end)  -- returns
+    (λ c. omega arith)  -- sub-o
+    (λ c. omega arith)  -- loop-less
+    (λ c. (search needs, search moving-next)))  -- loop-again
