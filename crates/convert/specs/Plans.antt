@@ -2,16 +2,17 @@
 --
 --   rowsFrom    the rows of a list from row i on, of n rows
 --   Narrow      the first known type of a walk is below 65,536, and the message is within the limit
+--   endAt       the place after the rows i to k - 1; some start if there are none
 --   OwnRows     the rows of an owner, as the code passes them
 --   SliceMoved  a slice, as the code puts it
 --   planOf      what is to be put of a message of so many bytes into an output of some room: 47, 48, 22, or the first known type, the rows and the bytes needed
 use mathlib.Core.Path.{_≡_}
 use mathlib.Core.Bool.{Bool, _&&_}
 use mathlib.Core.List.{List, map}
-use Prim.Native.Nat.{ℕ, _+_, _-_, _≤_, _<_}
+use Prim.Native.Nat.{ℕ, _+_, _-_, _*_, _≤_, _<_}
 use lib.Dec.{eqb, leb}
 use Rattle.encoding.specs.Result.{pick}
-use Rattle.encoding.specs.Table.{range, chain}
+use Rattle.encoding.specs.Table.{at, range, chain}
 use Rattle.encoding.specs.Message.{Row, limit}
 use Rattle.encoding.specs.Write.{rowAt}
 use Rattle.slices.specs.declared.Walk.{Walk}
@@ -25,6 +26,9 @@ use Rattle.convert.specs.Reslice.{growth, ownEnd, ownCount, dataEnd, res
 
 abbrev pub rowsFrom : List ℕ → ℕ → ℕ → List Row
 rowsFrom list i n = map (rowAt list) (range i (n - i))
+
+unfoldable pub endAt : List ℕ → ℕ → ℕ → ℕ → ℕ
+endAt list i k start = pick (eqb k i) start (at list 4 (12 * (k - 1) + 4) + at list 4 (12 * (k - 1) + 8))
 
 pub record OwnRows (T list : List ℕ) (n i o start : ℕ) (r : Ended) : Type 0 where
   pub ends : r .end ≡ ownEnd T o start (rowsFrom list i n)

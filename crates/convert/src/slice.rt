@@ -11,7 +11,19 @@ ghost use Rattle.encoding.specs.Table.{typesAt, kind, nameOf, chain};
 ghost use Rattle.pieces.specs.Puts.{Puts};
 ghost use Rattle.wire.specs.Put.{put};
 ghost use Rattle.convert.specs.Reslice.{reslices, resliced};
-ghost use Rattle.convert.specs.Plans.{rowsFrom, OwnRows, SliceMoved};
+ghost use Rattle.convert.specs.Plans.{rowsFrom, endAt, OwnRows, SliceMoved};
+
+// The place after the rows i to k - 1; `start` if there are none.
+fn row_end(list: &[u8], i: usize, k: usize, start: usize) -> usize
+    requires { ⌜ (i ≤ k) × (k ≤ 1024) × (start ≤ 8589934592) ⌝ }
+    ensures { λ r. ⌜ (r ≡ endAt (now (list .entry)) i k start) × (r ≤ 8589934592) ⌝ }
+{
+    if k == i {
+        return start;
+    }
+    let at = 12 * (k - 1);
+    wire::int_at(list, at + 4) + wire::int_at(list, at + 8)
+}
 
 // The place after the rows of owner o from row i on, of n rows; `start` if the next row is none of them.
 fn own_rows(
@@ -29,19 +41,20 @@ fn own_rows(
 {
     let owner = table::type_row(table, begin, o);
     let past = owner.a + owner.b;
-    let mut e = start;
     let mut k = i;
     while k < n {
         let member = wire::int_at(list, 12 * k);
         if member < owner.a {
+            let e = row_end(list, i, k, start);
             return Ended { end: e, row: k };
         }
         if past <= member {
+            let e = row_end(list, i, k, start);
             return Ended { end: e, row: k };
         }
-        e = wire::int_at(list, 12 * k + 4) + wire::int_at(list, 12 * k + 8);
         k += 1;
     }
+    let e = row_end(list, i, k, start);
     Ended { end: e, row: k }
 }
 

@@ -49,8 +49,8 @@ fn an_archive() {
     let folder = folder("an_archive");
     let (status, out, err) = run(&folder, &["table", "B", "old", "new", "unknown", "--to", "made/here"]);
     let said = "old: converted, 25 bytes\n\
-        new: refusal 47 at 0: converter: the message is no compact record\n\
-        unknown: refusal 48 at 0: converter: something in the message is skipped, as the table does not know it\n\
+        new: refused by 47 (NOT_COMPACT) at 0: converter: the message is no compact record\n\
+        unknown: refused by 48 (SKIPPED) at 0: converter: something in the message is skipped, as the table does not know it\n\
         3 records: 1 converted, 2 refused (1 by 47, 1 by 48)\n";
     assert_eq!((status, &out[..], &err[..]), (1, said, ""));
     assert_eq!(names(&folder.join("made/here")), ["old"]);

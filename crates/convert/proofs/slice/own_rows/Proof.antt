@@ -7,10 +7,10 @@ use Rattle.convert.proofs.slice.own_rows.Statement.{statement}
 use Rattle.convert.proofs.slice.own_rows.Tie as tie
 
 abbrev Inv-loop : tie.InvT-loop
-Inv-loop table begin list n i o start owner past e₀ k₀ e k = Owning table list n i o start e k
+Inv-loop table begin list n i o start owner past k₀ k = Owning table list n i o start k
 
 abbrev μ-loop : tie.MeasureT-loop
-μ-loop table begin list n i o start owner past e₀ k₀ e k = n - k
+μ-loop table begin list n i o start owner past k₀ k = n - k
 
 pub own-rows-spec : {M : Type 1} → statement M
 own-rows-spec =
@@ -23,16 +23,12 @@ own-rows-spec =
     (λ c. search owning-begin)  -- loop-holds
     (λ c. omega arith)  -- mul-int-at
     (λ c κs. search needs)  -- int-at-requires
+    (λ c κs. search needs)  -- row-end-requires
     (λ c. search owning-before)  -- returns
+    (λ c κs. search needs)  -- row-end-requires-2
     (λ c. search owning-past)  -- returns-2
-    (λ c. omega arith)  -- mul-int-at-2
-    (λ c. omega arith)  -- add-int-at
-    (λ c κs. search needs)  -- int-at-requires-2
-    (λ c. omega arith)  -- mul-int-at-3
-    (λ c. omega arith)  -- add-int-at-2
-    (λ c κs. search needs)  -- int-at-requires-3
-    (λ c. search needs)  -- add-e
     (λ c. omega arith)  -- add-k
     (λ c. omega arith)  -- loop-less
     (λ c. search owning-next)  -- loop-again
+    (λ c κs. search needs)  -- row-end-requires-3
     (λ c. search owning-end))  -- returns-3
