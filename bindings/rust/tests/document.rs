@@ -104,7 +104,7 @@ fn sliced_again() {
     let length = write(table, reading.first_type, reading.format, reading.list(), message, &mut out).unwrap();
     let before = members(&reading);
     let reading = read(table, 4, &out[..length], &mut lent).unwrap();
-    assert_eq!((reading.first_type, reading.format, reading.message()), (5, Format::Sliced, message));
+    assert_eq!((reading.first_type, reading.format, reading.message()), (5, Format::Sliced, &message[..]));
     assert_eq!(members(&reading), before);
 }
 
