@@ -97,10 +97,10 @@ fn sliced_again() {
     let members = |reading: &Reading| {
         reading.members().map(|member| (member.number(), member.part().to_vec())).collect::<Vec<_>>()
     };
-    let (mut lent, mut out) = ([0; ROOM], [0; 64]);
+    let (mut lent, mut out) = ([0; ROOM], [0; 256]);
     let reading = read(table, 4, message, &mut lent).unwrap();
     let refusal = write(table, reading.first_type, Format::Compact, reading.list(), message, &mut out).unwrap_err();
-    assert_eq!((refusal.number, refusal.place, out), (23, 0, [0; 64]));
+    assert_eq!((refusal.number, refusal.place), (23, 0));
     let length = write(table, reading.first_type, reading.format, reading.list(), message, &mut out).unwrap();
     let before = members(&reading);
     let reading = read(table, 4, &out[..length], &mut lent).unwrap();
