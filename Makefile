@@ -101,7 +101,7 @@ example: $(LIBRARY)
 fuzz: $(LIBRARY)
 	$(CARGO) run $(INDEPENDENT) --bin fuzz -- $(CALLS) $(SEED)
 
-## bench: compare the speed of the two on the same inputs
+## bench: compare the speed of the two on the same inputs; fails where a bar is missed
 bench: $(LIBRARY)
 	$(CARGO) run $(INDEPENDENT) --bin bench
 

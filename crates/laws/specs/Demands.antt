@@ -18,6 +18,7 @@
 --   RowsOnce       no member has two rows, and there are at most as many rows as the table has members
 --   Unambiguous    a message has one reading
 --   ExactCounts    the skip counts count what the rows leave out
+--   NumbersTogether     numbers one after another: all of them where the bytes are there, else 4 at the first that does not fit; NumbersCounted of a sequence
 --   ExactValues    a value of a type is exactly a string of the grammar of values; ExactExtents: an extent is one of the grammar of extents
 --   TypesRise      the lists in the types of a valid table rise, which ExactValues asks for
 --   ExactEnums     a value of an enum is exactly the size of one of its enumerators, as the table lists them
@@ -51,12 +52,12 @@ use mathlib.Core.Logic.{_⊎_}
 use Prim.Native.Nat.{ℕ, suc, _+_, _*_, _≤_, _<_}
 use lib.ListN.{length, take, drop, getD}
 use lib.Dec.{eqb}
-use Rattle.encoding.specs.Result.{ok, bad, concat}
+use Rattle.encoding.specs.Result.{ok, bad, times, concat}
 use Rattle.encoding.specs.Utf8.{isUtf8, Utf8}
-use Rattle.encoding.specs.Number.{Bytes, val}
-use Rattle.encoding.specs.Types.{Ty, Form, formOf, Bits}
+use Rattle.encoding.specs.Number.{Bytes, val, size}
+use Rattle.encoding.specs.Types.{short, int, long, float, double, Ty, byte, num, seq, Form, formOf, Bits}
 use Rattle.encoding.specs.OptionalForm.{HasForm}
-use Rattle.encoding.specs.Value.{exact}
+use Rattle.encoding.specs.Value.{value, exact}
 use Rattle.encoding.specs.Grammar.{IsSize, IsValue, ListsRise, IsExtent}
 use Rattle.encoding.specs.Table.{types, fine, faults, memberTy, trees, tyOf, named, any, chain, range, kind, field, fault, members, Member, lookup}
 use Rattle.encoding.specs.Valid.{Owner, Valid, FirstBroken}
@@ -142,6 +143,32 @@ abbrev pub NumbersTold : Type 0
 NumbersTold =
     (T : List ℕ) (top : ℕ) (m : List ℕ) (bytes : ℕ)
     → readingNumbers (readingOf (reading T top m bytes)) ≡ numbers (reading T top m bytes)
+
+-- ---- numbers one after another
+
+-- a byte and the numbers: how many bytes each has
+pub data Wide : Ty → ℕ → Type 0 where
+  of-byte : Wide byte 1
+  of-short : Wide (num short) 2
+  of-int : Wide (num int) 4
+  of-long : Wide (num long) 8
+  of-float : Wide (num float) 4
+  of-double : Wide (num double) 8
+
+-- What they hold is not looked at: the count and the bytes left decide.
+-- Rules out a number refused for what it holds, 4 for all of them at the first, and 4 past the first that does not fit.
+abbrev pub NumbersTogether : Type 0
+NumbersTogether =
+    (t : Ty) (w : ℕ) → Wide t w → (n : ℕ) (b : List ℕ)
+    → (n * w ≤ length b → times n (value t) b ≡ ok tt (n * w))
+    × ((k : ℕ) → k < n → k * w ≤ length b → length b < suc k * w → times n (value t) b ≡ bad 4 (k * w))
+
+-- the same of a sequence, whose size has k bytes and says n
+abbrev pub NumbersCounted : Type 0
+NumbersCounted =
+    (t : Ty) (w : ℕ) → Wide t w → (b : List ℕ) (n k : ℕ) → size b ≡ ok n k
+    → (k + n * w ≤ length b → value (seq t) b ≡ ok tt (k + n * w))
+    × ((j : ℕ) → j < n → k + j * w ≤ length b → length b < k + suc j * w → value (seq t) b ≡ bad 4 (k + j * w))
 
 -- ---- text
 

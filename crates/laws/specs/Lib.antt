@@ -10,6 +10,7 @@ pub mod OptionalExact
 pub mod SliceExact
 pub mod MessageExact
 pub mod TableFault
+pub mod NumbersTogether
 pub mod Refusals
 pub mod Small
 pub mod RowsBack

@@ -4,11 +4,12 @@ use Rattle.encoding.specs.OptionalForm.{HasForm}
 use Rattle.encoding.specs.OptionalFormLaws.{form-has, is-form}
 use Rattle.encoding.specs.Utf8Laws.{utf8-ok, utf8-step}
 use Rattle.encoding.specs.ExactLaws.{exact-is, is-exact, extent-is, is-extent}
-use Rattle.laws.specs.Demands.{ExactTable, OneOwner, TableFault, ReaderRefuses, NumbersTold, ExactUtf8, Exact, Reads, ExactRows, ListedRows, RowsApart, RowsRight, RowsOnce, Unambiguous, ExactCounts, ExactValues, TypesRise, ExactEnums, EqualSets, ExactExtents, ExactForms, Viewed, ReadBack, ReadBackReading, WriteAgain, WriteSame, OneMessage, EarlyRefused, RightLists, WrongBytes, RightMakes, TooLong, RightWritten, WriterRefuses, WritingNumbersTold, ListFilled, OutputFilled, NewerRead, NewerRefused, NewerReading, NewerRefusedReading, NewerWritten, OneCounterpart, NewerThere}
+use Rattle.laws.specs.Demands.{ExactTable, OneOwner, TableFault, ReaderRefuses, NumbersTold, ExactUtf8, NumbersTogether, NumbersCounted, Exact, Reads, ExactRows, ListedRows, RowsApart, RowsRight, RowsOnce, Unambiguous, ExactCounts, ExactValues, TypesRise, ExactEnums, EqualSets, ExactExtents, ExactForms, Viewed, ReadBack, ReadBackReading, WriteAgain, WriteSame, OneMessage, EarlyRefused, RightLists, WrongBytes, RightMakes, TooLong, RightWritten, WriterRefuses, WritingNumbersTold, ListFilled, OutputFilled, NewerRead, NewerRefused, NewerReading, NewerRefusedReading, NewerWritten, OneCounterpart, NewerThere}
 use Rattle.laws.specs.TableExact.{exact-table, one-owner}
 use Rattle.laws.specs.TableFault.{table-fault}
 use Rattle.laws.specs.SetsExact.{types-rise, exact-enums}
 use Rattle.laws.specs.TypesAgree.{equal-sets}
+use Rattle.laws.specs.NumbersTogether.{numbers-together, numbers-counted}
 use Rattle.laws.specs.Refusals.{reader-refuses, numbers-told}
 use Rattle.laws.specs.MessageExact.{exact-message, exact-rows}
 use Rattle.laws.specs.RowsListed.{listed-rows}
@@ -34,6 +35,8 @@ pub record Promises : Type 0 where
   pub refuses : ReaderRefuses
   pub numbers : NumbersTold
   pub text : ExactUtf8
+  pub together : NumbersTogether
+  pub counted : NumbersCounted
   pub exact : Exact
   pub reads : Reads
   pub rows : ExactRows
@@ -81,6 +84,8 @@ promises = record {
   refuses = reader-refuses;
   numbers = numbers-told;
   text = λ b. (utf8-ok b, utf8-step b);
+  together = numbers-together;
+  counted = numbers-counted;
   exact = exact-message;
   reads = reads;
   rows = exact-rows;

@@ -1,6 +1,7 @@
 -- What is put of one member: content, header, length field. Assumes nothing.
 --
 --   content-put                            the bytes of a row
+--   long-put, content-long                 a long part in two puts
 --   header-put-short, header-put-long      a header
 --   length-put-none, length-put-size, length-put-int   a length field
 --   optional-put                           header, length field and content, one after another
@@ -11,9 +12,10 @@ use mathlib.Core.Path.{_≡_, refl, sym, ap, _∙_}
 use mathlib.Core.Bool.{Bool, true, false}
 use mathlib.Core.Option.{some}
 use mathlib.Core.List.{List, [], _∷_, _++_}
-use Prim.Native.Nat.{ℕ, _+_, _-_, _*_, _≤_, _<_}
+use Prim.Native.Nat.{ℕ, _+_, _-_, _*_, _%_, _≤_, _<_}
 use native.Mathlib.Omega.{arith}
-use lib.ListN.{length, take, drop}
+use lib.ListN.{length, take, drop, length-drop}
+use lib.Seq.{take-add, drop-drop, length-take-le}
 use borrow.Author.Tests.{eq-eqb}
 use Rattle.encoding.specs.Result.{pick}
 use Rattle.encoding.specs.Number.{leBytes, sizeBytes}
@@ -42,6 +44,30 @@ pub content-put : (buffer : List ℕ) (r : Row) (at k : ℕ) (out last : List �
     → last ≡ put at (take (r .len) (drop (r .place) buffer)) out → k ≡ length (partOf buffer r) → Puts at (partOf buffer r) out last (at + k)
 unfolding partOf
 content-put buffer r at k out last e f = puts-one at _ out last (at + k) e (ap (λ (z : ℕ). at + z) f)
+
+two-puts : (buffer : List ℕ) (place n lead at : ℕ) (out mid last : List ℕ) → place + n ≤ length buffer → lead ≤ n
+    → mid ≡ put at (take lead (drop place buffer)) out → last ≡ put (at + lead) (take (n - lead) (drop (place + lead) buffer)) mid
+    → Puts at (take n (drop place buffer)) out last (at + n)
+two-puts buffer place n lead at out mid last h l e f =
+    let b : List ℕ = take lead (drop place buffer) in
+    let c : List ℕ = take (n - lead) (drop (place + lead) buffer) in
+    let lb : length b ≡ lead = length-take-le lead (drop place buffer) (omega (arith, length-drop place buffer)) in
+    let lc : length c ≡ n - lead = length-take-le (n - lead) (drop (place + lead) buffer) (omega (arith, length-drop (place + lead) buffer)) in
+    let z : n ≡ lead + (n - lead) = omega arith in
+    let d : take n (drop place buffer) ≡ b ++ c =
+    ap (λ (k : ℕ). take k (drop place buffer)) z ∙ take-add lead (n - lead) (drop place buffer) ∙ ap (λ (x : List ℕ). b ++ take (n - lead) x) (drop-drop lead place buffer)
+    in puts-is at _ _ out last (at + n) (sym d)
+    (puts-then at b out mid (at + lead) (puts-one at b out mid (at + lead) e (omega (arith, lb))) c last (at + n) (puts-one (at + lead) c mid last (at + n) f (omega (arith, lc))))
+
+pub long-put : (buffer : List ℕ) (place n at : ℕ) (out mid last : List ℕ) → 64 ≤ n → place + n ≤ length buffer
+    → mid ≡ put at (take (64 - at % 64) (drop place buffer)) out
+    → last ≡ put (at + (64 - at % 64)) (take (n - (64 - at % 64)) (drop (place + (64 - at % 64)) buffer)) mid
+    → Puts at (take n (drop place buffer)) out last (at + n)
+long-put buffer place n at out mid last h l e f = two-puts buffer place n (64 - at % 64) at out mid last l (omega arith) e f
+
+pub content-long : (buffer : List ℕ) (r : Row) (at end : ℕ) (out last : List ℕ) → Puts at (take (r .len) (drop (r .place) buffer)) out last end → Puts at (partOf buffer r) out last end
+unfolding partOf
+content-long buffer r at end out last p = p
 
 -- ---- the header
 

@@ -7,7 +7,7 @@ use crate::state;
 use wire::rows::RowNumbers;
 ghost use mathlib.Core.Path.{_≡_};
 ghost use Prim.Native.Nat.{_+_, _≤_, _<_};
-ghost use lib.ListN.{length};
+ghost use lib.ListN.{length, take, drop};
 ghost use Rattle.encoding.specs.Result.{pick};
 ghost use Rattle.encoding.specs.Table.{typesAt, tyOf};
 ghost use Rattle.encoding.specs.Write.{partOf};
@@ -17,11 +17,28 @@ ghost use Rattle.pieces.specs.Puts.{Puts};
 ghost use Rattle.pieces.specs.Judged.{partForm};
 ghost use Rattle.pieces.specs.Pieces.{headerField, lengthField, optionalField, RowPut};
 
+// Puts a long part of the buffer and returns its end: the bytes up to a place that is a multiple of 64 by themselves, then the others.
+// The loop that copies these stores sixteen bytes at a time; from such a place on no store crosses a line of the cache, where the output begins at a multiple of 16.
+fn put_long(out: &mut [u8], at: usize, buffer: &[u8], place: usize, n: usize) -> usize
+    requires { ⌜ (at ≤ 1152921504606847000) × (64 ≤ n) × (place + n ≤ length (now buffer)) × (length (now buffer) ≤ 65536) ⌝ }
+    ensures { λ r. ⌜ Puts at (take n (drop place (now (buffer .entry)))) (now (out .entry)) (now (out .exit)) r × (r ≤ at + length (now (buffer .entry))) ⌝ }
+{
+    let lead = 64 - at % 64;
+    wire::put_part(out, at, buffer, place, lead);
+    wire::put_part(out, at + lead, buffer, place + lead, n - lead);
+    at + n
+}
+
 // Puts the bytes of a row and returns their end.
 fn put_content(out: &mut [u8], at: usize, row: RowNumbers, buffer: &[u8]) -> usize
     requires { ⌜ (at ≤ 1152921504606847000) × (length (now buffer) ≤ 65536) ⌝ }
     ensures { λ r. ⌜ Puts at (partOf (now (buffer .entry)) (asRow row)) (now (out .entry)) (now (out .exit)) r × (r ≤ at + length (now (buffer .entry))) ⌝ }
 {
+    if 1024 <= row.len {
+        if wire::fits(buffer.len(), row.place, row.len) {
+            return put_long(out, at, buffer, row.place, row.len);
+        }
+    }
     wire::put_part(out, at, buffer, row.place, row.len);
     at + rows::part_len(row, buffer)
 }

@@ -3,7 +3,7 @@
 --   row-not, as-bool .. as-other                             a value by its row's kind
 --   row-wide, exact-wide, part-wide                          a value by its row's width
 --   text-there, -not                                         what the shapes say of a part, by whether it lies below
---   row-text, text-value, text-values                        a string, by its row's shape; row-bool, row-enum a bool, an enum without a list
+--   row-text, text-value, text-values                        a string, by its row's shape; row-bool, bool-values a bool; row-enum an enum without a list
 --   again-took, again-bad                                    an answer that is rebuilt
 --   struct-begin, member-gone, -read, -next, -fault, -done   the loop over members
 --   seq-none, -wide, -took, -bad                             a sequence: its size, then its elements
@@ -185,17 +185,28 @@ module _ (T shapes : List ℕ) (f : shapes ≡ shapesOf T) where
     unfolding stepOf
     part-wide s w g h k = rw (part-takes s w g h k)
 
-    part-text : isTextIn shapes e ≡ true → partTy T t e ≡ string
-    part-text h = go (ltb e (typeRows T)) refl
+    part-as : (X : Ty) → tyOf T e ≡ X → (X ≡ broken → ⊥) → partTy T t e ≡ X
+    part-as X g n = go (ltb e (typeRows T)) refl
       where
-        go : (b : Bool) → ltb e (typeRows T) ≡ b → partTy T t e ≡ string
-        go true q = part-there T t e l (ltb-true _ _ q) ∙ text-row T e shapes f h
-        go false q = absurd (let z = sym (text-row T e shapes f h) ∙ ty-past T e (ltb-false _ _ q) in let y : _≡_ {A = ℕ} 0 1 = cc in omega arith)
+        go : (b : Bool) → ltb e (typeRows T) ≡ b → partTy T t e ≡ X
+        go true q = part-there T t e l (ltb-true _ _ q) ∙ g
+        go false q = absurd (n (sym g ∙ ty-past T e (ltb-false _ _ q)))
+
+    part-text : isTextIn shapes e ≡ true → partTy T t e ≡ string
+    part-text h = part-as string (text-row T e shapes f h) λ z. let y : _≡_ {A = ℕ} 0 1 = cc in omega arith
+
+    part-bool : isBoolIn shapes e ≡ true → partTy T t e ≡ bool
+    part-bool h = part-as bool (bool-row T e shapes f h) λ z. let y : _≡_ {A = ℕ} 0 1 = cc in omega arith
 
     pub text-values : (b : Bool) → b ≡ isTextIn shapes e → b ≡ true → (s : List ℕ) (r : Step) (n : ℕ)
         → r ≡ stepOf (times n Proxy.text s) → r ≡ stepOf (times n (value (partTy T t e)) s)
     unfolding value
     text-values b g h s r n q = rw (part-text (sym g ∙ h)) q
+
+    pub bool-values : (b : Bool) → b ≡ isBoolIn shapes e → b ≡ true → (s : List ℕ) (r : Step) (n : ℕ)
+        → r ≡ stepOf (times n Number.bool s) → r ≡ stepOf (times n (value (partTy T t e)) s)
+    unfolding value
+    bool-values b g h s r n q = rw (part-bool (sym g ∙ h)) q
 
   -- by what the shapes say of a part
   module _ (t e : ℕ) where

@@ -2,9 +2,11 @@
 --
 --   isTextBelow    row e is a string as a part of row t, by the array of shapes
 --   entry k v      one entry of a dictionary
+--   AreBools s i k   the k bytes at i are there, each 0 or 1
 use mathlib.Core.Bool.{Bool, false}
 use mathlib.Core.List.{List}
-use Prim.Native.Nat.{ℕ}
+use Prim.Native.Nat.{ℕ, _+_, _≤_, _<_}
+use lib.ListN.{length, getD}
 use lib.Dec.{leb}
 use Rattle.encoding.specs.Result.{Parser, pick, _>>=_}
 use Rattle.encoding.specs.Types.{Ty}
@@ -18,3 +20,8 @@ isTextBelow l t e = pick (leb t e) false (isTextIn l e)
 -- a key, then a value
 unfoldable pub entry : Ty → Ty → Parser (Unit {0})
 entry k v = value k >>= λ _. value v
+
+-- the k bytes at i are bools
+pub record AreBools (s : List ℕ) (i k : ℕ) : Type 0 where
+  pub there : i + k ≤ length s
+  pub below : (j : ℕ) → i ≤ j → j < i + k → getD s j 0 < 2

@@ -152,6 +152,9 @@ fn elements(
         if shapes::is_text(shapes, e) {
             return plain::texts(s, n);
         }
+        if shapes::is_bool(shapes, e) {
+            return plain::bools(s, n);
+        }
     }
     let mut left = n;
     let mut at: usize = 0;

@@ -407,11 +407,16 @@ fn large(rng: &mut Rng) -> Call {
     let table = spec.bytes();
     let total = 65_533 + rng.below(6);
     let value = |rng: &mut Rng, bytes: usize| {
-        let count = (bytes - 5) / if part == shorts { 2 } else { 1 };
+        let more = if rng.one_in(4) { rng.below(9) } else { 0 };
+        let count = (bytes - 5) / if part == shorts { 2 } else { 1 } + more;
         let size = [&[255][..], &(count as u32).to_le_bytes()].concat();
         let mut content = if part == string { rng.text(bytes - 5) } else { vec![1; bytes - 5] };
         if part == string && rng.one_in(4) {
             rng.spoil(&mut content);
+        }
+        if part == bools && rng.one_in(2) {
+            let place = rng.below(content.len());
+            content[place] = rng.pick(&[0, 2, 3, 128, 255]);
         }
         [size, content].concat()
     };

@@ -1,16 +1,32 @@
 //! Times the proved library and this implementation on the same inputs, in one run: nanoseconds a call, each the least
-//! of several rounds, the rounds of the two in turn. Then times two calls of C against the reader's in the same way, and
-//! the reader of a message that is one long string against the standard library's check of that string.
+//! of several rounds, the rounds of the two in turn. Then times two calls of C against the reader's in the same way, the
+//! reader of a message that is one long string against the standard library's check of that string, and sequences of
+//! 20,000 elements against those of 20. Some ratios have a bar; one that is missed is told at the end, and the exit
+//! status is 1 then. With the argument `logs` only the sequences are timed.
 
 use independent::spec::Spec;
 use independent::{convert, ffi, read, write};
+use std::cell::RefCell;
+use std::env;
 use std::hint::black_box;
+use std::process::ExitCode;
 use std::time::{Duration, Instant};
 
 /// Rounds are short and many, so that some of them are not disturbed by other programs.
 const ROUND: Duration = Duration::from_micros(50);
 const WHILE: Duration = Duration::from_millis(500);
 const LEAST_ROUNDS: usize = 20;
+
+/// A ratio above its bar is measured on for at most so many times as long: the least times only fall.
+const PATIENCE: u32 = 20;
+
+/// Bars. A long sequence of numbers is read in at most twice the time of a short one (document 02, M-103), and one of
+/// shorts in at most 1.2 times it. One of shorts is written in at most 1.1 times the time of plain Rust, and one of bools
+/// read in at most 2.8 times: a quarter of what it was when they were judged one by one.
+const LONG: f64 = 2.0;
+const LONG_SHORTS: f64 = 1.2;
+const WRITTEN: f64 = 1.1;
+const BOOLS: f64 = 2.8;
 
 /// A table and a message under it, with the rows that the reader gives.
 struct Case {
@@ -42,24 +58,9 @@ impl Case {
     }
 
     fn run(&self) {
-        let Case { name, table, top, format, message, rows } = self;
-        let mut lent = vec![0; rows.len()];
-        let mut other = lent.clone();
-        report(
-            &format!("{name}: read, {} bytes", message.len()),
-            || ffi::read(black_box(table), *top, black_box(message), &mut lent),
-            || number(read(black_box(table), *top, black_box(message), &mut other)),
-            0,
-        );
-        let count = (rows.len() / 12) as u32;
-        let mut out = vec![0; message.len()];
-        let mut other = out.clone();
-        report(
-            &format!("{name}: write, {count} rows"),
-            || ffi::write(black_box(table), *top, *format, count, black_box(rows), black_box(message), &mut out),
-            || number(write(black_box(table), *top, *format, count, black_box(rows), black_box(message), &mut other)),
-            0,
-        );
+        let Case { name, table, top, .. } = self;
+        // Without a bar none is missed.
+        let _ = (self.run_read(None), self.run_write(None));
         // The empty input is refused by 4 right after the rules of the table.
         report(
             &format!("{name}: table check, {} bytes", table.len()),
@@ -67,6 +68,55 @@ impl Case {
             || number(read(black_box(table), *top, &[], &mut [])),
             4,
         );
+    }
+
+    /// The writer; both write to the same bytes, since the time of a long copy depends on where they lie.
+    fn run_write(&self, bar: Option<f64>) -> Result<(), String> {
+        let Case { name, table, top, format, message, rows } = self;
+        let count = (rows.len() / 12) as u32;
+        let out = RefCell::new(vec![0; message.len()]);
+        let out = || out.borrow_mut();
+        compare(
+            &format!("{name}: write, {count} rows"),
+            || ffi::write(black_box(table), *top, *format, count, black_box(rows), black_box(message), &mut out()),
+            || number(write(black_box(table), *top, *format, count, black_box(rows), black_box(message), &mut out())),
+            0,
+            bar,
+        )
+    }
+
+    /// The reader, without the table check.
+    fn run_read(&self, bar: Option<f64>) -> Result<(), String> {
+        let Case { name, table, top, message, rows, .. } = self;
+        let mut lent = vec![0; rows.len()];
+        let mut other = lent.clone();
+        compare(
+            &format!("{name}: read, {} bytes", message.len()),
+            || ffi::read(black_box(table), *top, black_box(message), &mut lent),
+            || number(read(black_box(table), *top, black_box(message), &mut other)),
+            0,
+            bar,
+        )
+    }
+
+    /// The library's reader and writer on this case against the same on a shorter one.
+    fn run_lengths(&self, short: &Case, bar: f64) -> Result<(), String> {
+        let name = format!("{} : {}", self.name, short.name);
+        let reader = |case: &Case| {
+            let Case { table, top, message, rows, .. } = case;
+            let mut lent = vec![0; rows.len()];
+            let (table, top, message) = (table.clone(), *top, message.clone());
+            move || ffi::read(black_box(&table), top, black_box(&message), &mut lent)
+        };
+        let writer = |case: &Case| {
+            let Case { table, top, format, message, rows, .. } = case;
+            let mut out = vec![0; message.len()];
+            let (table, top, format, message, rows) = (table.clone(), *top, *format, message.clone(), rows.clone());
+            move || ffi::write(black_box(&table), top, format, 1, black_box(&rows), black_box(&message), &mut out)
+        };
+        let met = compare(&format!("{name}: read"), reader(self), reader(short), 0, Some(bar));
+        report(&format!("{name}: write"), writer(self), writer(short), 0);
+        met
     }
 
     /// The reader of a message of one string against the standard library's check of that string.
@@ -153,17 +203,38 @@ fn number<T>(result: Result<T, (u32, u32)>) -> u32 {
 }
 
 /// One line: both must give `answer`.
-fn report(name: &str, mut call: impl FnMut() -> u32, mut other: impl FnMut() -> u32, answer: u32) {
+fn report(name: &str, call: impl FnMut() -> u32, other: impl FnMut() -> u32, answer: u32) {
+    let _ = compare(name, call, other, answer, None);
+}
+
+/// The same with a bar that the ratio has to meet; if it is missed, which and by what.
+fn compare(
+    name: &str,
+    mut call: impl FnMut() -> u32,
+    mut other: impl FnMut() -> u32,
+    answer: u32,
+    bar: Option<f64>,
+) -> Result<(), String> {
     assert_eq!((call(), other()), (answer, answer), "{name}");
     let (calls, other_calls) = (calls_a_round(&mut call), calls_a_round(&mut other));
     let (mut least, mut other_least) = (f64::MAX, f64::MAX);
     let (start, mut rounds) = (Instant::now(), 0);
-    while rounds < LEAST_ROUNDS || start.elapsed() < WHILE {
+    let most = bar.unwrap_or(f64::MAX);
+    while rounds < LEAST_ROUNDS
+        || start.elapsed() < WHILE
+        || least / other_least > most && start.elapsed() < WHILE * PATIENCE
+    {
         least = least.min(round(&mut call, calls));
         other_least = other_least.min(round(&mut other, other_calls));
         rounds += 1;
     }
-    println!("{name:<46} {least:>12.1} {other_least:>12.1} {:>8.2}", least / other_least);
+    let ratio = least / other_least;
+    let told = bar.map_or(String::new(), |bar| format!("  at most {bar}"));
+    println!("{name:<46} {least:>12.1} {other_least:>12.1} {ratio:>8.2}{told}");
+    if ratio > most {
+        return Err(format!("{name}: {ratio:.2}, the bar is {most}"));
+    }
+    Ok(())
 }
 
 /// How many calls a round takes.
@@ -201,7 +272,72 @@ fn heads(call: &str, other: &str) {
     println!("{:<46} {call:>12} {other:>12} {:>8}", "ns a call", "ratio");
 }
 
-fn main() {
+/// A message of one sequence of so many elements of a basic kind, each of so many bytes.
+fn sequence(kind: u8, what: &str, width: usize, count: usize) -> Case {
+    let mut spec = Spec::default();
+    let element = spec.basic(kind);
+    let log = spec.row(10, [element, 0, 0, 0, 0]);
+    let top = spec.owner(15, &[(log, None)]);
+    let count_bytes = if count < 255 { vec![count as u8] } else { size(count as u32) };
+    let name = format!("{} {what}", grouped(count)).leak();
+    Case::new(name, &spec, top, &[(0, [count_bytes, vec![1; count * width]].concat())])
+}
+
+/// A number below a million with a comma between its thousands and the rest.
+fn grouped(n: usize) -> String {
+    if n < 1_000 {
+        n.to_string()
+    } else {
+        format!("{},{:03}", n / 1_000, n % 1_000)
+    }
+}
+
+/// Sequences of 20 elements and of 20,000, or of as many as a message holds; gives the bars that were missed.
+fn logs() -> Vec<String> {
+    let kinds =
+        [("shorts", 2, 2), ("bytes", 1, 1), ("ints", 3, 4), ("longs", 4, 8), ("floats", 5, 4), ("doubles", 6, 8)];
+    let log = |(what, kind, width): (&str, u8, usize)| {
+        let most = (65_536 - 6 - 5) / width;
+        (sequence(kind, what, width, most.min(20_000)), sequence(kind, what, width, 20))
+    };
+    let logs = kinds.map(log);
+    let bools = log(("bools", 0, 1));
+
+    println!();
+    heads("library", "independent");
+    let mut bars = vec![];
+    for (long, short) in &logs {
+        let written = (long.name == "20,000 shorts").then_some(WRITTEN);
+        bars.extend([long.run_read(None), long.run_write(written), short.run_read(None), short.run_write(None)]);
+    }
+    let (long, short) = &bools;
+    bars.extend([long.run_read(Some(BOOLS)), long.run_write(None), short.run_read(None), short.run_write(None)]);
+
+    println!();
+    heads("long", "short");
+    for (long, short) in &logs {
+        bars.push(long.run_lengths(short, if long.name == "20,000 shorts" { LONG_SHORTS } else { LONG }));
+    }
+    bars.into_iter().filter_map(Result::err).collect()
+}
+
+fn main() -> ExitCode {
+    if env::args().nth(1).is_none_or(|only| only != "logs") {
+        all_but_logs();
+    }
+    let missed = logs();
+    for bar in &missed {
+        eprintln!("missed: {bar}");
+    }
+    if missed.is_empty() {
+        ExitCode::SUCCESS
+    } else {
+        ExitCode::FAILURE
+    }
+}
+
+/// Everything else.
+fn all_but_logs() {
     heads("library", "independent");
 
     let mut spec = Spec::default();
@@ -252,13 +388,6 @@ fn main() {
     record.run();
     let compact = compact(&record.message);
     record.run_conversion(&compact);
-
-    let mut spec = Spec::default();
-    let short = spec.basic(2);
-    let log = spec.row(10, [short, 0, 0, 0, 0]);
-    let top = spec.owner(15, &[(log, None)]);
-    Case::new("20,000 shorts", &spec, top, &[(0, [size(20_000), vec![5; 40_000]].concat())]).run();
-    Case::new("20 shorts", &spec, top, &[(0, [vec![20], vec![5; 40]].concat())]).run();
 
     let mut spec = Spec::default();
     let text = spec.basic(7);
