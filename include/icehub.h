@@ -58,12 +58,12 @@ enum {
 
 /* The format of a record. A parameter list has ICEHUB_SLICED. */
 enum icehub_format {
-    ICEHUB_COMPACT = 0, /* only the first slice has a type ID, none has a size */
+    ICEHUB_COMPACT = 0, /* only the first slice has a type ID, none has a size; it is read, and not written */
     ICEHUB_SLICED = 1   /* each slice has a type ID and a size */
 };
 
 /* What a call may be refused for, and what its place is then (icehub_read_place, icehub_write_place,
- * icehub_table_place). A place counts bytes from the start of the message; of the table for 31 to 39; or it is the
+ * icehub_convert_place, icehub_table_place). A place counts bytes from the start of the message; of the table for 31 to 39; or it is the
  * number named. */
 enum icehub_refusal {
     /* Not refused. */
@@ -114,7 +114,7 @@ enum icehub_refusal {
     ICEHUB_BAD_ROW_BYTES = 21,
     /* the output is longer than its room or 65,536 bytes. Place: the number of bytes needed. */
     ICEHUB_OUTPUT_TOO_LONG = 22,
-    /* the format is not 0 or 1, or is 0 for a parameter list. Place: 0. */
+    /* writer: the format is not 1. Place: 0. */
     ICEHUB_BAD_FORMAT = 23,
     /* a string is not well-formed UTF-8. Place: its size. */
     ICEHUB_BAD_TEXT = 24,
@@ -144,7 +144,11 @@ enum icehub_refusal {
     /* an enum's list of enumerators is not taken in turn, is empty, reaches beyond the entries, does not rise or does
      * not end with the greatest, or entries are left over. Place: the row's first byte, in the table; 0 for entries
      * left over. */
-    ICEHUB_BAD_TABLE_ENUMERATORS = 39
+    ICEHUB_BAD_TABLE_ENUMERATORS = 39,
+    /* converter: the message is no compact record. Place: 0. */
+    ICEHUB_NOT_COMPACT = 47,
+    /* converter: something in the message is skipped, as the table does not know it. Place: 0. */
+    ICEHUB_SKIPPED = 48
 };
 
 /* ---- The table by itself ----
@@ -249,7 +253,7 @@ uint32_t icehub_read_slices_skipped(const uint8_t *table, size_t table_len, uint
  *
  *   table, table_len    the type table
  *   type                the number of the row to write: an exception, a class or a parameter list
- *   format              ICEHUB_COMPACT or ICEHUB_SLICED; a parameter list takes ICEHUB_SLICED
+ *   format              ICEHUB_SLICED; every other format is refused (a parameter list has it too)
  *   count               how many rows there are
  *   rows, rows_len      the rows: count * ICEHUB_ROW_SIZE bytes (fewer are an ICEHUB_BAD_ROW, more are ignored).
  *                       They go through the slices of the type from itself to its last base: in each the required
@@ -277,6 +281,35 @@ uint32_t icehub_write_place(const uint8_t *table, size_t table_len, uint32_t typ
 uint32_t icehub_write_length(const uint8_t *table, size_t table_len, uint32_t type, uint32_t format, uint32_t count,
                              const uint8_t *rows, size_t rows_len, const uint8_t *buffer, size_t buffer_len,
                              size_t out_len);
+
+/* ---- The converter ----
+ *
+ *   table, table_len      the type table
+ *   top                   the number of the row wanted
+ *   message, message_len  a compact record, of an archive or from an old sender
+ *   out, out_len          the lent output
+ */
+
+/* Converts an accepted compact record, of which nothing is skipped, to the sliced one with the same first known type, the
+ * same members and the same bytes, as the writer makes it of the record's own rows. An old hub, whose table lacks the
+ * record's type, refuses the compact record by ICEHUB_UNKNOWN_COMPACT and reads the sliced one. Returns ICEHUB_OK: the
+ * sliced record is at the start of `out`, as long as icehub_convert_length says, and the bytes after it are unchanged. Or
+ * returns a refusal, `out` unchanged: one of icehub_read with a list of ICEHUB_MOST_ROWS rows, then ICEHUB_NOT_COMPACT,
+ * ICEHUB_SKIPPED, ICEHUB_OUTPUT_TOO_LONG. */
+uint32_t icehub_convert(const uint8_t *table, size_t table_len, uint32_t top, const uint8_t *message,
+                        size_t message_len, uint8_t *out, size_t out_len);
+
+/* The other numbers of a conversion. Each call checks the same input again, as icehub_convert does with an output of
+ * out_len bytes, and changes nothing. */
+
+/* The place of the refusal; 0 where the record is converted. With an out_len of 0, a record that can be converted is
+ * refused by ICEHUB_OUTPUT_TOO_LONG, and the place is the length that its sliced form needs. */
+uint32_t icehub_convert_place(const uint8_t *table, size_t table_len, uint32_t top, const uint8_t *message,
+                              size_t message_len, size_t out_len);
+
+/* The length of the sliced record that icehub_convert makes; 0 where it refuses. */
+uint32_t icehub_convert_length(const uint8_t *table, size_t table_len, uint32_t top, const uint8_t *message,
+                               size_t message_len, size_t out_len);
 
 /* ---- Rows, numbers and refusals, for C callers ----
  *
@@ -389,6 +422,8 @@ static inline const char *icehub_refusal_name(uint32_t refusal)
     case ICEHUB_BAD_TABLE_NAME: return "BAD_TABLE_NAME";
     case ICEHUB_BAD_TABLE_TAG: return "BAD_TABLE_TAG";
     case ICEHUB_BAD_TABLE_ENUMERATORS: return "BAD_TABLE_ENUMERATORS";
+    case ICEHUB_NOT_COMPACT: return "NOT_COMPACT";
+    case ICEHUB_SKIPPED: return "SKIPPED";
     default: return "";
     }
 }
@@ -427,7 +462,7 @@ static inline const char *icehub_refusal_text(uint32_t refusal)
     case ICEHUB_BAD_ROW: return "writer: a row is wrong, missing, out of order or outside the buffer";
     case ICEHUB_BAD_ROW_BYTES: return "writer: the bytes are not exactly a value of the member's type";
     case ICEHUB_OUTPUT_TOO_LONG: return "the output is longer than its room or 65,536 bytes";
-    case ICEHUB_BAD_FORMAT: return "the format is not 0 or 1, or is 0 for a parameter list";
+    case ICEHUB_BAD_FORMAT: return "writer: the format is not 1";
     case ICEHUB_BAD_TEXT: return "a string is not well-formed UTF-8";
     case ICEHUB_BAD_TABLE_HEADER: return "the table's header is wrong, or its length is not what the header says";
     case ICEHUB_BAD_TABLE_ZEROS:
@@ -446,6 +481,8 @@ static inline const char *icehub_refusal_text(uint32_t refusal)
     case ICEHUB_BAD_TABLE_ENUMERATORS:
         return "an enum's list of enumerators is not taken in turn, is empty, reaches beyond the entries, does not "
                "rise or does not end with the greatest, or entries are left over";
+    case ICEHUB_NOT_COMPACT: return "converter: the message is no compact record";
+    case ICEHUB_SKIPPED: return "converter: something in the message is skipped, as the table does not know it";
     default: return "";
     }
 }

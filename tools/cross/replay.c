@@ -18,7 +18,7 @@
 enum { LENT = 0xAA, MOST_LINE = 1 << 20, MOST_INPUT = 1 << 18 };
 
 /* The kinds of records, and how many numbers begin one. */
-enum { TABLE, READ, VIEW, WRITE, RECORDS, CHECK, KINDS, HEAD = 7 };
+enum { TABLE, READ, VIEW, WRITE, RECORDS, CHECK, CONVERT, KINDS, HEAD = 7 };
 
 static uint8_t table[ICEHUB_MOST_BYTES], input[MOST_INPUT], rows[ICEHUB_MOST_BYTES], again[ICEHUB_MOST_BYTES],
     out[ICEHUB_MOST_BYTES];
@@ -208,6 +208,24 @@ static void write_call(uint32_t type, uint32_t format, uint32_t count, const uin
     }
 }
 
+static void convert_call(uint32_t top, const uint8_t *message, size_t message_len, size_t room)
+{
+    uint32_t refusal, length;
+    memset(out, LENT, sizeof out);
+    refusal = icehub_convert(table, table_len, top, message, message_len, out, room);
+    length = icehub_convert_length(table, table_len, top, message, message_len, room);
+    put("%" PRIu32 " %" PRIu32 " %" PRIu32 " ", refusal,
+        icehub_convert_place(table, table_len, top, message, message_len, room), length);
+    if (length > room) {
+        put("more bytes than room");
+        return;
+    }
+    put_hex(out, length);
+    if (!is_kept(out + length, sizeof out - length)) {
+        put(" touched");
+    }
+}
+
 static void view_call(uint32_t top, const uint8_t *message, size_t message_len, uint32_t member,
                       const uint8_t *fallback, size_t fallback_len)
 {
@@ -297,6 +315,12 @@ static void replay(FILE *calls, FILE *answers)
             break;
         case RECORDS: records_call(n[2], input, length); break;
         case CHECK: check_call(); break;
+        case CONVERT:
+            if (n[3] > sizeof out) {
+                stop("an output is too long");
+            }
+            convert_call(n[2], input, length, n[3]);
+            break;
         default: stop("a record of an unknown kind");
         }
         compare(answers, n[0]);
@@ -318,7 +342,9 @@ int main(int argc, char **argv)
     if (fgets(expected, sizeof expected, answers) != NULL) {
         stop("more answers than calls");
     }
-    printf("%lu of %lu recorded calls agree: %lu readings, %lu writings, %lu views, %lu row records, %lu tables\n",
-           lines - differed, lines, agreed[READ], agreed[WRITE], agreed[VIEW], agreed[RECORDS], agreed[CHECK]);
+    printf("%lu of %lu recorded calls agree: %lu readings, %lu writings, %lu views, %lu row records, %lu tables, "
+           "%lu conversions\n",
+           lines - differed, lines, agreed[READ], agreed[WRITE], agreed[VIEW], agreed[RECORDS], agreed[CHECK],
+           agreed[CONVERT]);
     return differed > 0 || lines == 0;
 }

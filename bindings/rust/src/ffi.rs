@@ -40,6 +40,15 @@ extern "C" {
         out: *mut u8,
         out_len: usize,
     ) -> u32;
+    fn icehub_convert(
+        table: *const u8,
+        table_len: usize,
+        top: u32,
+        message: *const u8,
+        message_len: usize,
+        out: *mut u8,
+        out_len: usize,
+    ) -> u32;
 }
 
 /// Checks a table: 0, or the number of the first rule that it breaks.
@@ -138,7 +147,16 @@ pub fn write(given: Given, out: &mut [u8]) -> u32 {
     }
 }
 
-/// The other numbers of a reading with a list of so many bytes, and of a writing with an output of so many bytes.
+/// Converts a message: 0, and the sliced record is in `out`, or the number of a refusal.
+pub fn convert(table: &[u8], top: u32, message: &[u8], out: &mut [u8]) -> u32 {
+    // SAFETY: each pointer comes with the length of its slice; only `out` is written.
+    unsafe {
+        icehub_convert(table.as_ptr(), table.len(), top, message.as_ptr(), message.len(), out.as_mut_ptr(), out.len())
+    }
+}
+
+/// The other numbers of a reading with a list of so many bytes, of a conversion and of a writing with an output of so
+/// many bytes.
 macro_rules! numbers {
     (read { $($read:ident = $icehub_read:ident;)* } write { $($write:ident = $icehub_write:ident;)* }) => {
         extern "C" {
@@ -148,7 +166,7 @@ macro_rules! numbers {
                 top: u32,
                 message: *const u8,
                 message_len: usize,
-                rows_len: usize,
+                lent_len: usize,
             ) -> u32;)*
             $(fn $icehub_write(
                 table: *const u8,
@@ -163,9 +181,9 @@ macro_rules! numbers {
                 out_len: usize,
             ) -> u32;)*
         }
-        $(pub fn $read(table: &[u8], top: u32, message: &[u8], rows_len: usize) -> u32 {
+        $(pub fn $read(table: &[u8], top: u32, message: &[u8], lent_len: usize) -> u32 {
             // SAFETY: each pointer comes with the length of its slice; nothing is written.
-            unsafe { $icehub_read(table.as_ptr(), table.len(), top, message.as_ptr(), message.len(), rows_len) }
+            unsafe { $icehub_read(table.as_ptr(), table.len(), top, message.as_ptr(), message.len(), lent_len) }
         })*
         $(pub fn $write(given: Given, out_len: usize) -> u32 {
             let Given { table, of, format, count, rows, buffer } = given;
@@ -191,6 +209,8 @@ macro_rules! numbers {
 numbers! {
     read {
         read_place = icehub_read_place;
+        convert_place = icehub_convert_place;
+        convert_length = icehub_convert_length;
     }
     write {
         write_place = icehub_write_place;

@@ -31,12 +31,14 @@
 #![deny(unsafe_code)]
 #![deny(missing_docs)]
 
+mod convert;
 #[allow(unsafe_code)]
 mod ffi;
 mod refusal;
 mod table;
 mod value;
 
+pub use convert::convert;
 pub use refusal::{Reason, Refusal};
 pub use table::{Allowed, Enumerators, Kind, MemberRow, Table, TypeRow};
 pub use value::{Elements, Endpoint, Endpoints, Entries, Fields, Proxy, Value};
@@ -56,7 +58,7 @@ pub const MOST_BYTES: usize = 65_536;
 /// The format of a record. A parameter list is [`Format::Sliced`].
 #[derive(Clone, Copy, Debug, PartialEq, Eq, Hash)]
 pub enum Format {
-    /// Only the first slice has a type ID, none has a size.
+    /// Only the first slice has a type ID, none has a size. It is read, and not written: see [`convert`](convert()).
     Compact = 0,
     /// Each slice has a type ID and a size.
     Sliced = 1,
@@ -288,7 +290,7 @@ pub fn member<'a>(
     }
 }
 
-/// Writes the message of a type in a format, and gives its length.
+/// Writes the message of a type in a format, and gives its length. Every format but [`Format::Sliced`] is refused.
 ///
 /// `of` is the row of an exception, a class or a parameter list. `rows` has [`ROW_SIZE`] bytes for each row, a rest is
 /// ignored; their places point into `buffer`, where they may overlap. They go through the slices of the type from

@@ -129,7 +129,7 @@ reasons! {
         "the row's number";
     OutputTooLong = 22, "OUTPUT_TOO_LONG": "the output is longer than its room or 65,536 bytes",
         "the number of bytes needed";
-    BadFormat = 23, "BAD_FORMAT": "the format is not 0 or 1, or is 0 for a parameter list", "0";
+    BadFormat = 23, "BAD_FORMAT": "writer: the format is not 1", "0";
     BadText = 24, "BAD_TEXT": "a string is not well-formed UTF-8", "its size";
     BadTableHeader = 31, "BAD_TABLE_HEADER": "the table's header is wrong, or its length is not what the header says",
         "0";
@@ -156,6 +156,8 @@ reasons! {
         "an enum's list of enumerators is not taken in turn, is empty, reaches beyond the entries, does not rise or \
         does not end with the greatest, or entries are left over",
         "the row's first byte, in the table; 0 for entries left over";
+    NotCompact = 47, "NOT_COMPACT": "converter: the message is no compact record", "0";
+    Skipped = 48, "SKIPPED": "converter: something in the message is skipped, as the table does not know it", "0";
 }
 
 /// `refusal 19 at 3 (the number of rows needed): the lent list is too short`; without the brackets where the place is
@@ -223,12 +225,12 @@ mod tests {
     fn numbers() {
         assert_eq!(
             Reason::ALL.iter().map(|reason| reason.number()).collect::<Vec<_>>(),
-            (2..=24).chain(31..=39).collect::<Vec<_>>()
+            (2..=24).chain(31..=39).chain([47, 48]).collect::<Vec<_>>()
         );
         for reason in Reason::ALL {
             assert_eq!(Reason::from_number(reason.number()), Some(*reason));
         }
-        assert!([0, 1, 25, 30, 40].into_iter().all(|number| Reason::from_number(number).is_none()));
+        assert!([0, 1, 25, 30, 40, 46, 49].into_iter().all(|number| Reason::from_number(number).is_none()));
     }
 
     #[test]

@@ -90,19 +90,21 @@ fn damaged_fault() {
     assert_eq!((refusal.number, refusal.place), (4, 52));
 }
 
-/// The members of a sliced exception, written in compact format and read back: the same members and bytes.
+/// The members of an exception with nothing skipped, written again: the same message. Not in compact format.
 #[test]
-fn sliced_to_compact() {
+fn sliced_again() {
     let (table, message) = (sample!("fault-newer.table"), sample!("fault.message"));
     let members = |reading: &Reading| {
         reading.members().map(|member| (member.number(), member.part().to_vec())).collect::<Vec<_>>()
     };
-    let (mut lent, mut out) = ([0; ROOM], [0; 64]);
+    let (mut lent, mut out) = ([0; ROOM], [0; 256]);
     let reading = read(table, 4, message, &mut lent).unwrap();
-    let length = write(table, reading.first_type, Format::Compact, reading.list(), message, &mut out).unwrap();
+    let refusal = write(table, reading.first_type, Format::Compact, reading.list(), message, &mut out).unwrap_err();
+    assert_eq!((refusal.number, refusal.place), (23, 0));
+    let length = write(table, reading.first_type, reading.format, reading.list(), message, &mut out).unwrap();
     let before = members(&reading);
     let reading = read(table, 4, &out[..length], &mut lent).unwrap();
-    assert_eq!((reading.first_type, reading.format), (5, Format::Compact));
+    assert_eq!((reading.first_type, reading.format, reading.message()), (5, Format::Sliced, &message[..]));
     assert_eq!(members(&reading), before);
 }
 

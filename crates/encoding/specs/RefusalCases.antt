@@ -174,7 +174,7 @@ short-list = refl
 
 -- opens the writer's definitions, beside `computed`
 unfoldable writerComputed : ℕ
-unfolding Write.next Write.above Write.begin Write.reachDue Write.optionalRow Write.orAbove Write.entered Write.reachMay Write.reach Write.anyOf Write.stillDue Write.given Write.partOf Write.judge Write.prepend Write.judgeAll Write.piecesOf Write.slicesOf Write.gathered Write.noFormat Write.formatOfNumber Write.bounded Write.rowAt Write.tableRules Write.early Write.stoppedFirst Write.rowsGiven Write.message Write.writing Write.writingOf Write.writingNumbers
+unfolding Write.next Write.above Write.begin Write.reachDue Write.optionalRow Write.orAbove Write.entered Write.reachMay Write.reach Write.anyOf Write.stillDue Write.given Write.partOf Write.judge Write.prepend Write.judgeAll Write.piecesOf Write.slicesOf Write.gathered Write.noFormat Write.bounded Write.rowAt Write.tableRules Write.early Write.stoppedFirst Write.rowsGiven Write.message Write.writing Write.writingOf Write.writingNumbers
 writerComputed = 0
 
 -- a call under the table of one byte, and its three numbers
@@ -224,6 +224,11 @@ writer-refuses = refl
 pub record-written : Write.writing records 2 1 2 (row 1 0 1 ++ row 0 1 1) (9 ∷ 7 ∷ []) 24 ≡ Write.out (sent (21 ∷ 1 ∷ 68 ∷ 7 ∷ 0 ∷ 0 ∷ 0 ∷ 8 ∷ 9 ∷ 255 ∷ 49 ∷ 1 ∷ 66 ∷ 5 ∷ 0 ∷ 0 ∷ 0 ∷ 7 ∷ []))
 unfolding computed writerComputed
 record-written = refl
+
+-- 23 for format 0: no compact record is written
+pub compact-refused : Write.writing records 2 0 2 (row 1 0 1 ++ row 0 1 1) (9 ∷ 7 ∷ []) 24 ≡ Write.stop 23 0
+unfolding computed writerComputed
+compact-refused = refl
 
 -- 21 for a row whose bytes are no text
 pub wrong-text : Write.writing (lone (basic 7)) 1 1 1 (row 0 0 2) (1 ∷ 0x80 ∷ []) 8 ≡ Write.stop 21 0

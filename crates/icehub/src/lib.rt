@@ -1,5 +1,8 @@
 // The calls of the firmware in C, with numbers and byte slices only: 0 or the refusal number comes back, place and other numbers by further calls on the same input.
 // `room` is the length in bytes of the lent list or output, so that a further call judges what the first one judged.
+// conversion.rt has the converter's calls.
+mod conversion;
+
 ghost use mathlib.Core.Path.{_≡_};
 ghost use lib.ListN.{length, getD};
 ghost use Rattle.encoding.specs.Table.{verdictNumbers};
@@ -201,7 +204,7 @@ pub extern "C" fn icehub_member(
 }
 
 // Number i of the writer's answer.
-fn written_number(a: Writing, i: usize) -> u32
+pub fn written_number(a: Writing, i: usize) -> u32
     ensures { λ r. ⌜ r ≡ getD (writingNumbers a) i 0 ⌝ }
 {
     match a {

@@ -26,8 +26,8 @@
 --   ExactForms     an optional's form is the one that its type has, said apart from the equations
 --   Viewed         the member view: where it shows a part of the message, the fallback, nothing
 --   ReadBack       demand 2: what the writer makes is read as the members given; ReadBackReading of the reader's answer
---   WriteAgain     demand 2: an accepted message with nothing skipped, written again in any format, is the encoding of its pieces in that format
---   WriteSame      demand 2: in its own format, it is the same message
+--   WriteAgain     demand 2: an accepted message with nothing skipped, written again, is the sliced encoding of its pieces: so a compact record comes back converted
+--   WriteSame      demand 2: an accepted message that is no compact record, with nothing skipped, is written again as it was
 --   OneMessage     demand 2: the members and their bytes, type and format fix the message
 --   EarlyRefused   when the writer answers 31 to 39, 2, 23 or 3; the only other refusals are 20, 21 and 22
 --   RightLists     when it answers 20, and where
@@ -42,6 +42,7 @@
 --   NewerRead      demand 3: an old table accepts what a new one that extends it accepts, and lists the rows of the members that it knows
 --   NewerRefused   the one exception of demand 3; NewerRefusedReading of the reader's answer
 --   NewerReading   demand 3 of the reader's answer, given room
+--   NewerWritten   demand 3 of a message that the writer makes: without exception
 --   OneCounterpart, NewerThere   a new member has at most one match in the old table; demand 3 is about some message
 use mathlib.Core.Path.{_≡_}
 use mathlib.Core.List.{List, [], _∷_, _++_, map}
@@ -65,7 +66,7 @@ use Rattle.encoding.specs.Table
 use Rattle.encoding.specs.Optional.{Piece, required, optional, skipped, extent}
 use Rattle.encoding.specs.Slice.{Format, compact, sliced, formatNumber, Slice, known, passed, idOf}
 use Rattle.encoding.specs.Message.{Pieces, list, exception, class, Read, encode, encapsulate, noTop, limit, rules, Row, rows, rowBytes, firstKnown, optionalsSkipped, slicesSkipped, Answer, numbers, answer, reading, room, listed, readingOf, readingNumbers}
-use Rattle.encoding.specs.Write.{Right, out, stop, partOf, rowAt, writing, noFormat, output, writingOf, writingNumbers}
+use Rattle.encoding.specs.Write.{Right, out, stop, partOf, rowAt, writing, output, writingOf, writingNumbers}
 use Rattle.encoding.specs.View.{part, fallback, nothing, viewing, seenBytes}
 use Rattle.encoding.specs.Conform.{Conform}
 use Rattle.encoding.specs.Extends.{Extends, TopsMatch, Counterpart}
@@ -454,20 +455,19 @@ ReadBackReading =
     → writing T type format count rs buffer room ≡ out m → UnderTop T top type → (bytes : ℕ) → 12 * count ≤ bytes
     → ReadBackAnswer type format (rowList count rs) buffer m (reading T top m bytes)
 
--- An accepted message with nothing skipped, written again from itself with its own rows in a format that its type may have, is the encoding of its
--- pieces in that format, where limit and room allow.
+-- An accepted message with nothing skipped, written again from itself with its own rows, is the sliced encoding of its pieces, where limit and room allow.
 abbrev pub WriteAgain : Type 0
 WriteAgain =
-    (T : List ℕ) (top : ℕ) (m : List ℕ) (f : Format) (p : Pieces) (n : ℕ) (g : Format) (room : ℕ) → Bytes m → rules T top m ≡ ok (readAs f p) n
-    → Complete p → noFormat (kind T (firstKnown T top p)) (formatNumber g) ≡ false → length (encapsulate (encode g p)) ≤ limit → length (encapsulate (encode g p)) ≤ room
-    → writing T (firstKnown T top p) (formatNumber g) (length (rows T top f p)) (concat rowBytes (rows T top f p)) m room ≡ out (encapsulate (encode g p))
+    (T : List ℕ) (top : ℕ) (m : List ℕ) (f : Format) (p : Pieces) (n room : ℕ) → Bytes m → rules T top m ≡ ok (readAs f p) n
+    → Complete p → length (encapsulate (encode sliced p)) ≤ limit → length (encapsulate (encode sliced p)) ≤ room
+    → writing T (firstKnown T top p) 1 (length (rows T top f p)) (concat rowBytes (rows T top f p)) m room ≡ out (encapsulate (encode sliced p))
 
--- written again in its own format, it is the same message
+-- if it is no compact record, that is the message itself
 abbrev pub WriteSame : Type 0
 WriteSame =
-    (T : List ℕ) (top : ℕ) (m : List ℕ) (f : Format) (p : Pieces) (n room : ℕ) → Bytes m → rules T top m ≡ ok (readAs f p) n
+    (T : List ℕ) (top : ℕ) (m : List ℕ) (p : Pieces) (n room : ℕ) → Bytes m → rules T top m ≡ ok (readAs sliced p) n
     → Complete p → length m ≤ room
-    → writing T (firstKnown T top p) (formatNumber f) (length (rows T top f p)) (concat rowBytes (rows T top f p)) m room ≡ out m
+    → writing T (firstKnown T top p) 1 (length (rows T top sliced p)) (concat rowBytes (rows T top sliced p)) m room ≡ out m
 
 -- two accepted messages of one first known type and one format, nothing skipped, with the same members and the same bytes, are equal
 abbrev pub OneMessage : Type 0
@@ -478,19 +478,19 @@ OneMessage =
 
 -- ---- demand 2: which answer the writer gives
 
--- nothing is refused before the rows: the table breaks no rule, it has the type, the type may have the format, and the buffer is within the limit
+-- nothing is refused before the rows: the table breaks no rule, it has the type, the format is 1, and the buffer is within the limit
 pub record Ready (T : List ℕ) (type format : ℕ) (buffer : List ℕ) : Type 0 where
   pub table : faults T ≡ fine
   pub there : noTop T type ≡ false
-  pub formed : noFormat (kind T type) format ≡ false
+  pub formed : format ≡ 1
   pub short : length buffer ≤ limit
 
 -- what is refused before the rows, by number and place: the first of the four that fails
 pub data Early (T : List ℕ) (type format : ℕ) (buffer : List ℕ) : (number place : ℕ) → Type 0 where
   table-refused : {c p : ℕ} → FirstBroken T c p → Early T type format buffer c p
   type-refused : faults T ≡ fine → noTop T type ≡ true → Early T type format buffer 2 0
-  format-refused : faults T ≡ fine → noTop T type ≡ false → noFormat (kind T type) format ≡ true → Early T type format buffer 23 0
-  buffer-refused : faults T ≡ fine → noTop T type ≡ false → noFormat (kind T type) format ≡ false → limit < length buffer → Early T type format buffer 3 0
+  format-refused : faults T ≡ fine → noTop T type ≡ false → (format ≡ 1 → ⊥) → Early T type format buffer 23 0
+  buffer-refused : faults T ≡ fine → noTop T type ≡ false → format ≡ 1 → limit < length buffer → Early T type format buffer 3 0
 
 -- 31 to 39, 2, 23 and 3 come exactly where the table, the type, the format or the buffer is refused, and no other number but 20, 21 and 22 comes
 abbrev pub EarlyRefused : Type 0
@@ -587,11 +587,6 @@ RightWritten =
     → (writing T type format count rs buffer room ≡ out m → WrittenAs T type format count rs buffer room m)
     × (WrittenAs T type format count rs buffer room m → writing T type format count rs buffer room ≡ out m)
 
--- format not 0 or 1, or 0 for a parameter list
-pub data WrongFormat (T : List ℕ) (type format : ℕ) : Type 0 where
-  unknown-format : 1 < format → WrongFormat T type format
-  compact-list : format ≡ 0 → kind T type ≡ 15 → WrongFormat T type format
-
 -- demand 1 of the writer, its numbers and places: 20 and 21 at a row, 20 also at the count, 22 at the bytes needed
 pub data WriterRefusal (T : List ℕ) (type format count : ℕ) (rs buffer : List ℕ) (room : ℕ) : ℕ → ℕ → Type 0 where
   wrong-table : {c p : ℕ} → FirstBroken T c p → WriterRefusal T type format count rs buffer room c p
@@ -600,7 +595,7 @@ pub data WriterRefusal (T : List ℕ) (type format count : ℕ) (rs buffer : Lis
   wrong-row : {i : ℕ} → i ≤ count → WriterRefusal T type format count rs buffer room 20 i
   wrong-bytes : {i : ℕ} → i < count → WriterRefusal T type format count rs buffer room 21 i
   no-room : {i : ℕ} → TwentyTwo T type format count rs buffer room i → WriterRefusal T type format count rs buffer room 22 i
-  wrong-format : WrongFormat T type format → WriterRefusal T type format count rs buffer room 23 0
+  wrong-format : (format ≡ 1 → ⊥) → WriterRefusal T type format count rs buffer room 23 0
 
 -- and no byte of the output changes
 abbrev pub WriterRefuses : Type 0
@@ -695,6 +690,14 @@ abbrev pub NewerRefusedReading : Type 0
 NewerRefusedReading =
     (old new : List ℕ) (top top′ : ℕ) (m : List ℕ) (f : Format) (p : Pieces) → Newer old new top top′ m f p
     → (place : ℕ) → Foreign old f p place → (lent : ℕ) → (reading old top m lent .refusal ≡ 15) × (reading old top m lent .place ≡ place)
+
+-- A message that the writer makes under the new table, of a type below the new top: the new table accepts it, and so does the old one.
+-- Rules out a writer whose messages old hubs refuse by 15.
+abbrev pub NewerWritten : Type 0
+NewerWritten =
+    (old new : List ℕ) (top top′ type format count : ℕ) (rs buffer : List ℕ) (room : ℕ) (m : List ℕ) → Extends old new → TopsMatch old new top top′ → Bytes m
+    → writing new type format count rs buffer room ≡ out m → UnderTop new top′ type
+    → (p : Pieces) × Newer old new top top′ m sliced p × Understood old new top top′ m sliced p
 
 -- a member of the new table matches at most one member of the old one, so the rows that are kept are fixed
 abbrev pub OneCounterpart : Type 0

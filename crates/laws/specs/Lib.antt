@@ -36,6 +36,7 @@ pub mod RowsRight
 pub mod RightLists
 pub mod WriterAnswers
 pub mod WriterRefusals
+pub mod WrittenNewer
 pub mod LentFilled
 pub mod Reads
 pub mod Viewed

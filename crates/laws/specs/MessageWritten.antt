@@ -1,23 +1,25 @@
 -- The writer's judgements one after another, and when 22 comes.
 --
+--   formed-one, one-formed               what 23 lets pass
 --   Composed, message-ok, message-step   a message is made exactly when each judgement lets pass
 --   writing-ok, writing-step             the same of what is written, within limit and room
 --   too-long                             22 comes exactly where the message is too long
 use mathlib.Core.Path.{_≡_, refl, sym, ap, _∙_, subst}
-use mathlib.Core.Bool.{Bool, true, false, _&&_, true≢false}
+use mathlib.Core.Bool.{Bool, true, false, _&&_, not, true≢false}
 use mathlib.Core.Option.{Option, none, some}
 use mathlib.Core.List.{List, [], _∷_, map}
 use Prim.Native.Nat.{ℕ, zero, suc, _+_, _*_, _≤_}
 use native.Mathlib.Omega.{arith}
 use lib.ListN.{length}
-use lib.Dec.{leb, ltb}
-use borrow.Author.Tests.{leb-true, ltb-false, le-leb, le-ltb}
+use lib.Dec.{eqb, leb, ltb}
+use borrow.Author.Tests.{eqb-true, leb-true, ltb-false, le-leb, le-ltb}
 use Rattle.encoding.specs.Result.{pick, firstOf}
 use Rattle.encoding.specs.ResultLaws.{both-true, firstOf-ok}
 use Rattle.encoding.specs.Value.{exact}
-use Rattle.encoding.specs.Table.{kind, chain, range, Fault, fine, fault, faults, ruleNumber}
+use Rattle.encoding.specs.Table.{chain, range, Fault, fine, fault, faults, ruleNumber}
+use Rattle.encoding.specs.Slice.{sliced}
 use Rattle.encoding.specs.Message.{Row, encode, encapsulate, noTop, limit}
-use Rattle.encoding.specs.Write.{Out, out, stop, next, Given, noFormat, formatOfNumber, rowAt, tableRules, early, stoppedFirst, rowsGiven, judgeAll, judge, State, Reached, prepend, stillDue, reach, given, partOf, above, begin, gathered, message, bounded, writing}
+use Rattle.encoding.specs.Write.{Out, out, stop, next, Given, noFormat, rowAt, tableRules, early, stoppedFirst, rowsGiven, judgeAll, judge, State, Reached, prepend, stillDue, reach, given, partOf, above, begin, gathered, message, bounded, writing}
 use Rattle.laws.specs.TableFault.{fault-class}
 use Rattle.laws.specs.Demands.{rowList}
 use Rattle.laws.specs.PlanLaws.{out≢stop, next-ok}
@@ -27,12 +29,25 @@ use Rattle.laws.specs.PlanRules.{judging}
 pub record Composed (T : List ℕ) (type format count : ℕ) (rs buffer m : List ℕ) : Type 0 where
   pub table : faults T ≡ fine
   pub there : noTop T type ≡ false
-  pub formed : noFormat (kind T type) format ≡ false
+  pub formed : noFormat format ≡ false
   pub short : length buffer ≤ limit
   pub enough : 12 * count ≤ length rs
   pub given : List Given
   pub judged : judging T type buffer (rowList count rs) ≡ out given
-  pub made : m ≡ encapsulate (encode (formatOfNumber format) (gathered T type given))
+  pub made : m ≡ encapsulate (encode sliced (gathered T type given))
+
+-- the one format is 1
+pub formed-one : (format : ℕ) → noFormat format ≡ false → format ≡ 1
+unfolding noFormat
+formed-one format h = eqb-true format 1 (go (eqb format 1) h)
+  where
+    go : (a : Bool) → not a ≡ false → a ≡ true
+    go true h = refl
+    go false h = absurd (true≢false h)
+
+pub one-formed : (format : ℕ) → format ≡ 1 → noFormat format ≡ false
+unfolding noFormat
+one-formed format h = rw h
 
 tableRules-ok : (T : List ℕ) → {u : Unit {0}} → tableRules T ≡ out u → faults T ≡ fine
 unfolding tableRules
@@ -65,7 +80,7 @@ module _ (T : List ℕ) (type format count : ℕ) (rs buffer : List ℕ) where
       let D = next-ok (judgeAll T buffer (begin T type (above (chain T type))) 0 (C .0)) _ (C .2) in
       let R = rowsGiven-ok count rs (C .1) in
       let a = firstOf-ok 1 (noTop T type) _ (unless-ok (early T type format buffer) (B .1)) in
-      let b = firstOf-ok 22 (noFormat (kind T type) format) _ (a .1) in
+      let b = firstOf-ok 22 (noFormat format) _ (a .1) in
       let c = firstOf-ok 2 (ltb limit (length buffer)) _ (b .1) in
       record {
         table = tableRules-ok T (A .1);
@@ -142,7 +157,7 @@ module _ (T : List ℕ) (type format count : ℕ) (rs buffer : List ℕ) where
   unfolding message rowsGiven tableRules ruleNumber stoppedFirst early firstOf
   others-message =
       others-next (tableRules T) _ (table (faults T) refl)
-      (λ _. others-next (stoppedFirst (early T type format buffer)) _ (first (noTop T type) (noFormat (kind T type) format) (ltb limit (length buffer)))
+      (λ _. others-next (stoppedFirst (early T type format buffer)) _ (first (noTop T type) (noFormat format) (ltb limit (length buffer)))
       (λ _. others-next (rowsGiven count rs) _ (given (leb (12 * count) (length rs)))
       (λ l. others-next (judgeAll T buffer (begin T type (above (chain T type))) 0 l) _ (others-judge T buffer l (begin T type (above (chain T type))) 0) (λ gs. tt))))
     where

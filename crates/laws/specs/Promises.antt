@@ -4,7 +4,7 @@ use Rattle.encoding.specs.OptionalForm.{HasForm}
 use Rattle.encoding.specs.OptionalFormLaws.{form-has, is-form}
 use Rattle.encoding.specs.Utf8Laws.{utf8-ok, utf8-step}
 use Rattle.encoding.specs.ExactLaws.{exact-is, is-exact, extent-is, is-extent}
-use Rattle.laws.specs.Demands.{ExactTable, OneOwner, TableFault, ReaderRefuses, NumbersTold, ExactUtf8, NumbersTogether, NumbersCounted, Exact, Reads, ExactRows, ListedRows, RowsApart, RowsRight, RowsOnce, Unambiguous, ExactCounts, ExactValues, TypesRise, ExactEnums, EqualSets, ExactExtents, ExactForms, Viewed, ReadBack, ReadBackReading, WriteAgain, WriteSame, OneMessage, EarlyRefused, RightLists, WrongBytes, RightMakes, TooLong, RightWritten, WriterRefuses, WritingNumbersTold, ListFilled, OutputFilled, NewerRead, NewerRefused, NewerReading, NewerRefusedReading, OneCounterpart, NewerThere}
+use Rattle.laws.specs.Demands.{ExactTable, OneOwner, TableFault, ReaderRefuses, NumbersTold, ExactUtf8, NumbersTogether, NumbersCounted, Exact, Reads, ExactRows, ListedRows, RowsApart, RowsRight, RowsOnce, Unambiguous, ExactCounts, ExactValues, TypesRise, ExactEnums, EqualSets, ExactExtents, ExactForms, Viewed, ReadBack, ReadBackReading, WriteAgain, WriteSame, OneMessage, EarlyRefused, RightLists, WrongBytes, RightMakes, TooLong, RightWritten, WriterRefuses, WritingNumbersTold, ListFilled, OutputFilled, NewerRead, NewerRefused, NewerReading, NewerRefusedReading, NewerWritten, OneCounterpart, NewerThere}
 use Rattle.laws.specs.TableExact.{exact-table, one-owner}
 use Rattle.laws.specs.TableFault.{table-fault}
 use Rattle.laws.specs.SetsExact.{types-rise, exact-enums}
@@ -24,6 +24,7 @@ use Rattle.laws.specs.WriterRefusals.{writer-refuses, writing-numbers-to
 use Rattle.laws.specs.LentFilled.{list-filled, output-filled}
 use Rattle.laws.specs.Reads.{reads, read-back-reading, newer-refused-reading}
 use Rattle.laws.specs.MessageNewer.{newer-read, newer-refused, newer-reading}
+use Rattle.laws.specs.WrittenNewer.{newer-written}
 use Rattle.laws.specs.CounterpartsOne.{one-counterpart}
 use Rattle.laws.specs.Witness.{newer-there}
 
@@ -71,6 +72,7 @@ pub record Promises : Type 0 where
   pub newer-exception : NewerRefused
   pub newer-answer : NewerReading
   pub newer-exception-answer : NewerRefusedReading
+  pub newer-written : NewerWritten
   pub counterparts : OneCounterpart
   pub newer-some : NewerThere
 
@@ -119,6 +121,7 @@ promises = record {
   newer-exception = newer-refused;
   newer-answer = newer-reading;
   newer-exception-answer = newer-refused-reading;
+  newer-written = newer-written;
   counterparts = one-counterpart;
   newer-some = newer-there;
 }

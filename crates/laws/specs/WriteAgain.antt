@@ -3,7 +3,8 @@
 --   keptPieces, keptSlices, kept  what was not skipped; all, where nothing was
 --   level-judged, follow-judged   the rows of an owner, of a chain, are judged right and give just what was kept
 --   Again, again                  the rows of a whole message
---   write-again, write-same       demand 2: it is the encoding of the pieces in the format asked for, and in its own format the same message
+--   message-again                 the message that they make, however long: the sliced encoding of the pieces
+--   write-again, write-same       demand 2: that is written, and it is the same message where that is sliced
 --   one-pieces, one-message       demand 2: members and bytes, type and format fix the message
 use mathlib.Core.Path.{_≡_, refl, sym, ap, ap₂, _∙_, subst, subst₂}
 use mathlib.Core.Bool.{Bool, true, false}
@@ -13,23 +14,24 @@ use Prim.Native.Nat.{ℕ, suc, _+_, _≤_}
 use native.Mathlib.Omega.{arith}
 use lib.ListN.{length}
 use lib.Dec.{leb}
-use borrow.Author.Tests.{leb-true, leb-false, ne-eqb}
-use Rattle.encoding.specs.Result.{pick, concat}
+use borrow.Author.Tests.{leb-true, leb-false}
+use Rattle.encoding.specs.Result.{pick, ok, concat}
+use Rattle.encoding.specs.Number.{Bytes}
 use Rattle.encoding.specs.Types.{Form}
 use Rattle.encoding.specs.Grammar.{IsValue, ListsRise}
 use Rattle.encoding.specs.Table.{kind, fine, faults, chain, Member, lookup}
 use Rattle.encoding.specs.Table
 use Rattle.encoding.specs.RuleLaws.{named-ok}
 use Rattle.encoding.specs.Optional.{Piece, required, optional, skipped, pieceBytes, frontBytes, contentBytes, isSkipped}
-use Rattle.encoding.specs.Slice.{Format, compact, sliced, formatNumber, Slice, known, passed, Stand, first, later, slicesBytes, dataBytes, sliceFront, isLast}
-use Rattle.encoding.specs.Message.{Pieces, list, exception, class, encode, encapsulate, noTop, Row, listRow, pieceMember, pieceRows, sliceRows, orZero, firstIn, firstKnown, rows, rowBytes, skippedPieces, skippedIn, passedIn, optionalsSkipped, slicesSkipped}
+use Rattle.encoding.specs.Slice.{Format, sliced, Slice, known, passed, Stand, first, later, slicesBytes, dataBytes, sliceFront, isLast}
+use Rattle.encoding.specs.Message.{Pieces, list, exception, class, encode, encapsulate, noTop, rules, Row, listRow, pieceMember, pieceRows, sliceRows, orZero, firstIn, firstKnown, rows, rowBytes, skippedPieces, skippedIn, passedIn, optionalsSkipped, slicesSkipped}
 use Rattle.encoding.specs.MessageLaws.{length-rows}
-use Rattle.encoding.specs.Write.{Slot, rising, slot, slots, planOf, plan, out, Given, partOf, piecesOf, slicesOf, gathered, noFormat, formatOfNumber}
+use Rattle.encoding.specs.Write.{Slot, rising, slot, slots, planOf, plan, out, Given, partOf, piecesOf, slicesOf, gathered}
 use Rattle.encoding.specs.OptionalFormLaws.{is-form}
 use Rattle.encoding.specs.Conform.{Level, Owned, Follow, Slices, Conform}
 use Rattle.encoding.specs.ListLaws.{found-rises, required-rise, optional-rise}
 use Rattle.encoding.specs.ExactLaws.{is-exact}
-use Rattle.laws.specs.Demands.{Follows, All, more, SameMembers, same-member, Complete, WriteAgain, WriteSame, OneMessage}
+use Rattle.laws.specs.Demands.{readAs, Follows, All, more, SameMembers, same-member, Complete, WriteAgain, WriteSame, OneMessage}
 use Rattle.laws.specs.OptionalNewer.{lookup-key}
 use Rattle.laws.specs.RowsExact.{Stands, stands-first, stands-next, stands-inside, stands-there, stands-encapsulated, content-stands, others-stand, data-stand, slices-stand, Found, required-found}
 use Rattle.laws.specs.TableExact.{sound}
@@ -38,7 +40,7 @@ use Rattle.laws.specs.RowsBack.{rows-back, accepted-rows-small}
 use Rattle.laws.specs.PlanLaws.{Pairs, alone, before, Ordered, from, from-zero, optional-spot, givenOf, Judged, over, taken, missed, SlotsDiffer, find-judged, judged-chosen, first-among, judged-step}
 use Rattle.laws.specs.PlanRules.{Owner, owner-ordered, slots-owner, Falls, plan-owner, chain-falls, chain-owners, chain-top, plan-differ, list-chain, record-there, top-owner, judging, judging-slots}
 use Rattle.laws.specs.GatherLaws.{piecesIn, judged-append, judged-owner, slices-own, owns-all}
-use Rattle.laws.specs.MessageWritten.{writing-step}
+use Rattle.laws.specs.MessageWritten.{one-formed, Composed, writing-step}
 
 -- ---- what was not skipped
 
@@ -192,10 +194,9 @@ module _ (T m : List ℕ) (right : faults T ≡ fine) where
 
 -- ---- the rows of a message
 
--- rows that are judged right for a type and make just what was kept of the pieces, which may have the format
-pub record Again (T m : List ℕ) (f : Format) (p : Pieces) (rs : List Row) (type : ℕ) : Type 0 where
+-- rows that are judged right for a type and make just what was kept of the pieces
+pub record Again (T m : List ℕ) (p : Pieces) (rs : List Row) (type : ℕ) : Type 0 where
   pub there : noTop T type ≡ false
-  pub formed : noFormat (kind T type) (formatNumber f) ≡ false
   pub gives : List Given
   pub judged : Judged m (plan T type) rs gives
   pub same : gathered T type gives ≡ kept p
@@ -205,11 +206,6 @@ record AgainIn (T m : List ℕ) (top : ℕ) (rs : List Row) (ss : List Slice) (t
   there : noTop T type ≡ false
   alike : kind T type ≡ kind T top
   regains : Regains T m (chain T type) rs ss
-
-formed-record : (k : ℕ) (f : Format) → (k ≡ 15 → ⊥) → noFormat k (formatNumber f) ≡ false
-unfolding noFormat
-formed-record k compact h = ne-eqb k 15 h
-formed-record k sliced h = refl
 
 module _ (T : List ℕ) (right : faults T ≡ fine) (top : ℕ) where
   slices-again : (m : List ℕ) (f : Format) (ss : List Slice) → Slices T top f ss → (s : Stand) (at : ℕ) → Stands m at (slicesBytes f s ss)
@@ -229,20 +225,19 @@ module _ (T : List ℕ) (right : faults T ≡ fine) (top : ℕ) where
       let A = slices-again m f ss C (later f) _ (slices-stand T m f s (passed b nm d) ss at S) in
       record { there = A .there; alike = A .alike; regains = record { gives = A .regains .gives; judged = A .regains .judged; same = A .regains .same } }
 
-  record-again : (m : List ℕ) (f : Format) (ss : List Slice) (rs : List Row) (type : ℕ) → AgainIn T m top rs ss type → (kind T top ≡ 15 → ⊥)
-      → (p : Pieces) → ((gs : List Given) → kind T type ≡ kind T top → slicesOf T gs (chain T type) ≡ keptSlices ss → gathered T type gs ≡ kept p) → Again T m f p rs type
+  record-again : (m : List ℕ) (ss : List Slice) (rs : List Row) (type : ℕ) → AgainIn T m top rs ss type
+      → (p : Pieces) → ((gs : List Given) → kind T type ≡ kind T top → slicesOf T gs (chain T type) ≡ keptSlices ss → gathered T type gs ≡ kept p) → Again T m p rs type
   unfolding plan
-  record-again m f ss rs type A other p makes = record {
+  record-again m ss rs type A p makes = record {
     there = A .there;
-    formed = formed-record (kind T type) f (λ e. other (sym (A .alike) ∙ e));
     gives = A .regains .gives;
     judged = A .regains .judged;
     same = makes (A .regains .gives) (A .alike) (A .regains .same);
   }
 
   module _ (there : noTop T top ≡ false) where
-    list-again : (f : Format) (ps : List Piece) → Conform T top f (list ps) → Again T (encapsulate (encode f (list ps))) f (list ps) (rows T top f (list ps)) top
-    unfolding rows encode plan planOf gathered noFormat kept
+    list-again : (f : Format) (ps : List Piece) → Conform T top f (list ps) → Again T (encapsulate (encode f (list ps))) (list ps) (rows T top f (list ps)) top
+    unfolding rows encode plan planOf gathered kept
     list-again f ps (k, g, L) =
         let m : List ℕ = encapsulate (concat pieceBytes ps) in
         let K : Judged m (slots T top) (pieceRows T top 6 ps) (map (givenTo top) (keptPieces ps)) =
@@ -250,61 +245,57 @@ module _ (T : List ℕ) (right : faults T ≡ fine) (top : ℕ) where
         let own : piecesOf top (map (givenTo top) (keptPieces ps)) ≡ keptPieces ps = owns-all (judged-owner (λ (o : ℕ). o ≡ top) (slots-owner T top) K) ∙ pieces-given top (keptPieces ps) in
         record {
           there = there;
-          formed = rw g;
           gives = map (givenTo top) (keptPieces ps);
           judged = subst (λ (ss : List Slot). Judged m ss (pieceRows T top 6 ps) (map (givenTo top) (keptPieces ps))) (sym (ap (planOf T) (list-chain T top k) ∙ append-nil (slots T top))) K;
           same = rw k (ap list own);
         }
 
-    pub again : (f : Format) (p : Pieces) → Conform T top f p → Again T (encapsulate (encode f p)) f p (rows T top f p) (firstKnown T top p)
+    pub again : (f : Format) (p : Pieces) → Conform T top f p → Again T (encapsulate (encode f p)) p (rows T top f p) (firstKnown T top p)
     unfolding rows encode firstKnown gathered kept
     again f (list ps) C = list-again f ps C
     again f (exception ss) (k, C) =
-        record-again _ f ss _ _ (slices-again _ f ss C first 6 (stands-encapsulated _)) (λ e. omega arith) (exception ss) (λ gs e s. rw (e, k) (ap exception s))
+        record-again _ ss _ _ (slices-again _ f ss C first 6 (stands-encapsulated _)) (exception ss) (λ gs e s. rw (e, k) (ap exception s))
     again f (class ss) (k, C) =
-        record-again _ f ss _ _ (slices-again _ f ss C first 7 (stands-next (1 ∷ []) _ (stands-encapsulated _) 7 refl)) (λ e. omega arith) (class ss) (λ gs e s. rw (e, k) (ap class s))
+        record-again _ ss _ _ (slices-again _ f ss C first 7 (stands-next (1 ∷ []) _ (stands-encapsulated _) 7 refl)) (class ss) (λ gs e s. rw (e, k) (ap class s))
 
 -- ---- written again
 
-pub format-again : (f : Format) → formatOfNumber (formatNumber f) ≡ f
-unfolding formatOfNumber
-format-again compact = refl
-format-again sliced = refl
-
 -- the rows of a message that follows the rules
-pub follows-again : (T : List ℕ) (top : ℕ) (m : List ℕ) (f : Format) (p : Pieces) → Follows T top m f p → Again T m f p (rows T top f p) (firstKnown T top p)
+pub follows-again : (T : List ℕ) (top : ℕ) (m : List ℕ) (f : Format) (p : Pieces) → Follows T top m f p → Again T m p (rows T top f p) (firstKnown T top p)
 follows-again T top m f p F =
-    subst (λ (z : List ℕ). Again T z f p (rows T top f p) (firstKnown T top p)) (sym (F .encoded)) (again T (sound T (F .table)) top (F .top-there) f p (F .conforms))
+    subst (λ (z : List ℕ). Again T z p (rows T top f p) (firstKnown T top p)) (sym (F .encoded)) (again T (sound T (F .table)) top (F .top-there) f p (F .conforms))
 
-pub write-again : WriteAgain
-write-again T top m f p n g room yM h Z formed short fits =
+-- what its rows make, however long
+pub message-again : (T : List ℕ) (top : ℕ) (m : List ℕ) (f : Format) (p : Pieces) (n : ℕ) → Bytes m → rules T top m ≡ ok (readAs f p) n → Complete p
+    → Composed T (firstKnown T top p) 1 (length (rows T top f p)) (concat rowBytes (rows T top f p)) m (encapsulate (encode sliced p))
+message-again T top m f p n yM h Z =
     let F = exact-message T top m f p n yM .0 h .0 in
     let A = follows-again T top m f p F in
     let type : ℕ = firstKnown T top p in
     let rs : List Row = rows T top f p in
     let S = accepted-rows-small T top m f p n yM h in
     let right : judging T type m rs ≡ out (A .gives) = judging-slots T (sound T (F .table)) type (A .there) m rs ∙ judged-step 0 (plan-differ T (sound T (F .table)) type (A .there)) (A .judged) in
-    writing-step T type (formatNumber g) (length rs) (concat rowBytes rs) m room (record {
-      composed = record {
-        table = sound T (F .table);
-        there = A .there;
-        formed = formed;
-        short = F .short;
-        enough = omega (arith, length-rows rs);
-        given = A .gives;
-        judged = ap (judging T type m) (rows-back S (concat rowBytes rs) [] (sym (append-nil (concat rowBytes rs)))) ∙ right;
-        made = ap₂ (λ (g : Format) (q : Pieces). encapsulate (encode g q)) (sym (format-again g)) (sym (A .same ∙ complete-kept p Z));
-      };
-      short = short;
-      fits = fits;
-    })
+    record {
+      table = sound T (F .table);
+      there = A .there;
+      formed = one-formed 1 refl;
+      short = F .short;
+      enough = omega (arith, length-rows rs);
+      given = A .gives;
+      judged = ap (judging T type m) (rows-back S (concat rowBytes rs) [] (sym (append-nil (concat rowBytes rs)))) ∙ right;
+      made = ap (λ (q : Pieces). encapsulate (encode sliced q)) (sym (A .same ∙ complete-kept p Z));
+    }
+
+pub write-again : WriteAgain
+write-again T top m f p n room yM h Z short fits =
+    writing-step T (firstKnown T top p) 1 (length (rows T top f p)) (concat rowBytes (rows T top f p)) m room
+    (record { composed = message-again T top m f p n yM h Z; short = short; fits = fits })
 
 pub write-same : WriteSame
-write-same T top m f p n room yM h Z fits =
-    let F = exact-message T top m f p n yM .0 h .0 in
-    let A = follows-again T top m f p F in
-    let l : length m ≡ length (encapsulate (encode f p)) = ap length (F .encoded) in
-    write-again T top m f p n f room yM h Z (A .formed) (omega (arith, F .short)) (omega arith) ∙ ap out (sym (F .encoded))
+write-same T top m p n room yM h Z fits =
+    let F = exact-message T top m sliced p n yM .0 h .0 in
+    let l : length m ≡ length (encapsulate (encode sliced p)) = ap length (F .encoded) in
+    write-again T top m sliced p n room yM h Z (omega (arith, F .short)) (omega arith) ∙ ap out (sym (F .encoded))
 
 -- ---- one message
 

@@ -23,7 +23,7 @@ use Rattle.encoding.specs.Optional.{Piece, pieceBytes, frontBytes, contentBytes
 use Rattle.encoding.specs.Slice.{Format, compact, sliced, formatNumber, Slice, known, Stand, first, later, slicesBytes, dataBytes, sliceFront, isLast}
 use Rattle.encoding.specs.Message.{Pieces, list, exception, class, encode, encapsulate, noTop, limit, Row, listRow, pieceRows, sliceRows, orZero, firstIn, firstKnown, rows, skippedPieces, skippedIn, passedIn, optionalsSkipped, slicesSkipped}
 use Rattle.encoding.specs.Write
-use Rattle.encoding.specs.Write.{Slot, rising, slot, slots, planOf, plan, Given, partOf, piecesOf, slicesOf, gathered, noFormat, formatOfNumber}
+use Rattle.encoding.specs.Write.{Slot, rising, slot, slots, planOf, plan, Given, partOf, piecesOf, slicesOf, gathered}
 use Rattle.encoding.specs.OptionalFormLaws.{form-has}
 use Rattle.encoding.specs.Conform.{Level, Owned, Follow, Slices, Conform}
 use Rattle.encoding.specs.ListLaws.{MembersRise, required-rise}
@@ -36,7 +36,7 @@ use Rattle.laws.specs.MessageExact.{rules-written}
 use Rattle.laws.specs.PlanLaws.{Pairs, before, KeysRise, all-rising, givenOf, Judged, over, taken, missed, judged-ok}
 use Rattle.laws.specs.PlanRules.{all-any, all-with, Owner, Fit, slots-owner, owner-ordered, optional-fit, slots-fit, fit-rises, Falls, plan-owner, chain-falls, chain-owners, chain-above, chain-top, list-chain, top-step, top-owner, base-record, judging-slots}
 use Rattle.laws.specs.GatherLaws.{piecesIn, judged-split, judged-owner, slices-own, owns-all, part-length, piece-content, piece-given, piece-member}
-use Rattle.laws.specs.MessageWritten.{writing-ok}
+use Rattle.laws.specs.MessageWritten.{formed-one, writing-ok}
 
 -- ---- the pieces of one owner
 
@@ -167,75 +167,67 @@ module _ (T buffer : List ℕ) (right : faults T ≡ fine) (short : length buffe
   unfolding plan
   carries = judged-slices T buffer right short (chain T type) (chain-owners T right type there) (chain-falls T right type there) K
 
-  record-slices : isRecord (kind T type) ≡ true → (f : Format) → Slices T top f (slicesOf T gs (chain T type)) × (firstIn T (slicesOf T gs (chain T type)) ≡ type)
+  record-slices : isRecord (kind T type) ≡ true → Slices T top sliced (slicesOf T gs (chain T type)) × (firstIn T (slicesOf T gs (chain T type)) ≡ type)
   unfolding slicesOf firstIn orZero
-  record-slices i f =
+  record-slices i =
       let e : chain T type ≡ type ∷ Write.above (chain T type) = chain-above T right type there in
       let n : named T (nameOf T type) ≡ some type = named-at T right type (top-owner T right type there .below) i in
-      subst (λ (l : List ℕ). Slices T top f (slicesOf T gs l) × (firstIn T (slicesOf T gs l) ≡ type)) (sym e) (
+      subst (λ (l : List ℕ). Slices T top sliced (slicesOf T gs l) × (firstIn T (slicesOf T gs l) ≡ type)) (sym e) (
         record { row = type; known = n; descends = below; follow = subst (λ (l : List ℕ). Follow T (chain T type) (slicesOf T gs l)) e (carries .follow) },
         ap orZero n,
       )
 
-  class-makes : kind T type ≡ 14 → (f : Format) → Makes f (class (slicesOf T gs (chain T type)))
+  class-makes : kind T type ≡ 14 → Makes sliced (class (slicesOf T gs (chain T type)))
   unfolding firstKnown rows encode optionalsSkipped slicesSkipped
-  class-makes k f =
-      let S = record-slices (ap (λ (x : ℕ). isRecord x) k) f in
+  class-makes k =
+      let S = record-slices (ap (λ (x : ℕ). isRecord x) k) in
       record {
         conforms = (chain-top T right type there top below .alike ∙ k, S .0);
         complete = record { optionals = carries .none-skipped; slices = carries .none-passed };
         of-type = S .1;
-        listed = subst (λ (t : ℕ). SameMembers buffer (encapsulate (encode f (class (slicesOf T gs (chain T type))))) rs (sliceRows T f first 7 (chain T t) (slicesOf T gs (chain T type)))) (sym (S .1))
-            (carries .listed _ f first 7 (stands-next (1 ∷ []) _ (stands-encapsulated _) 7 refl));
+        listed = subst (λ (t : ℕ). SameMembers buffer (encapsulate (encode sliced (class (slicesOf T gs (chain T type))))) rs (sliceRows T sliced first 7 (chain T t) (slicesOf T gs (chain T type)))) (sym (S .1))
+            (carries .listed _ sliced first 7 (stands-next (1 ∷ []) _ (stands-encapsulated _) 7 refl));
       }
 
-  exception-makes : kind T type ≡ 13 → (f : Format) → Makes f (exception (slicesOf T gs (chain T type)))
+  exception-makes : kind T type ≡ 13 → Makes sliced (exception (slicesOf T gs (chain T type)))
   unfolding firstKnown rows encode optionalsSkipped slicesSkipped
-  exception-makes k f =
-      let S = record-slices (ap (λ (x : ℕ). isRecord x) k) f in
+  exception-makes k =
+      let S = record-slices (ap (λ (x : ℕ). isRecord x) k) in
       record {
         conforms = (chain-top T right type there top below .alike ∙ k, S .0);
         complete = record { optionals = carries .none-skipped; slices = carries .none-passed };
         of-type = S .1;
-        listed = subst (λ (t : ℕ). SameMembers buffer (encapsulate (encode f (exception (slicesOf T gs (chain T type))))) rs (sliceRows T f first 6 (chain T t) (slicesOf T gs (chain T type)))) (sym (S .1))
-            (carries .listed _ f first 6 (stands-encapsulated _));
+        listed = subst (λ (t : ℕ). SameMembers buffer (encapsulate (encode sliced (exception (slicesOf T gs (chain T type))))) rs (sliceRows T sliced first 6 (chain T t) (slicesOf T gs (chain T type)))) (sym (S .1))
+            (carries .listed _ sliced first 6 (stands-encapsulated _));
       }
 
-  pub gathers : (format : ℕ) → noFormat (kind T type) format ≡ false → Makes (formatOfNumber format) (gathered T type gs) × (formatNumber (formatOfNumber format) ≡ format)
-  unfolding gathered noFormat formatOfNumber
-  gathers format h =
-      let s = either-false (ltb 1 format) (eqb format 0 && eqb (kind T type) 15) h in
-      let l = ltb-false 1 format (s .0) in
-      (go (eqb (kind T type) 15) refl (eqb (kind T type) 14) refl (eqb format 0) refl (s .1), number (eqb format 0) refl l)
+  pub gathers : Makes sliced (gathered T type gs)
+  unfolding gathered
+  gathers = go (eqb (kind T type) 15) refl (eqb (kind T type) 14) refl
     where
-      go : (a : Bool) → eqb (kind T type) 15 ≡ a → (b : Bool) → eqb (kind T type) 14 ≡ b → (c : Bool) → eqb format 0 ≡ c → c && a ≡ false
-          → Makes (pick c compact sliced) (pick a (list (piecesOf type gs)) (pick b (class (slicesOf T gs (chain T type))) (exception (slicesOf T gs (chain T type)))))
-      go true e b f true g h = absurd (true≢false h)
-      go true e b f false g h = list-makes (eqb-true (kind T type) 15 e)
-      go false e true f c g h = class-makes (eqb-true (kind T type) 14 f) (pick c compact sliced)
-      go false e false f c g h =
+      go : (a : Bool) → eqb (kind T type) 15 ≡ a → (b : Bool) → eqb (kind T type) 14 ≡ b
+          → Makes sliced (pick a (list (piecesOf type gs)) (pick b (class (slicesOf T gs (chain T type))) (exception (slicesOf T gs (chain T type)))))
+      go true e b f = list-makes (eqb-true (kind T type) 15 e)
+      go false e true f = class-makes (eqb-true (kind T type) 14 f)
+      go false e false f =
           let t = top-there T type there in
-          exception-makes (omega (arith, t .1, kind-known T right type (t .0), eqb-false (kind T type) 15 e, eqb-false (kind T type) 14 f)) (pick c compact sliced)
-
-      number : (c : Bool) → eqb format 0 ≡ c → format ≤ 1 → formatNumber (pick c compact sliced) ≡ format
-      number true e l = sym (eqb-true format 0 e)
-      number false e l = omega (arith, eqb-false format 0 e)
+          exception-makes (omega (arith, t .1, kind-known T right type (t .0), eqb-false (kind T type) 15 e, eqb-false (kind T type) 14 f))
 
 pub read-back : ReadBack
 read-back T top type format count rs buffer room m h below =
     let W = writing-ok T type format count rs buffer room h in
     let C = W .composed in
     let K = judged-ok buffer (rowList count rs) (plan T type) 0 (sym (judging-slots T (C .table) type (C .there) buffer (rowList count rs)) ∙ C .judged) in
-    let G = gathers T buffer (C .table) (C .short) type (C .there) top below K format (C .formed) in
+    let G = gathers T buffer (C .table) (C .short) type (C .there) top below K in
     let p : Pieces = gathered T type (C .given) in
     let R = chain-top T (C .table) type (C .there) top below in
     let there : noTop T top ≡ false = top-step T top (R .below) (omega (arith, R .alike, top-there T type (C .there) .1)) in
     record {
-      read = readAs (formatOfNumber format) p;
+      read = readAs sliced p;
       taken = length m;
-      accepted = rules-written T top m (formatOfNumber format) p (record { table = valid T (C .table); top-there = there; short = W .short; conforms = G .0 .conforms; encoded = C .made });
-      of-type = G .0 .of-type;
-      in-format = G .1;
-      complete = G .0 .complete;
-      members = subst (λ (z : List ℕ). SameMembers buffer z (rowList count rs) (rows T top (formatOfNumber format) p)) (sym (C .made)) (G .0 .listed);
+      accepted = rules-written T top m sliced p (record { table = valid T (C .table); top-there = there; short = W .short; conforms = G .conforms; encoded = C .made });
+      of-type = G .of-type;
+      in-format = sym (formed-one format (C .formed));
+      complete = G .complete;
+      members = subst (λ (z : List ℕ). SameMembers buffer z (rowList count rs) (rows T top sliced p)) (sym (C .made)) (G .listed);
     }

@@ -20,10 +20,10 @@ use Rattle.encoding.specs.Value.{exact}
 use Rattle.encoding.specs.Table.{types, kind, isRecord, range, nameOf, chain, any, Fault, fine, fault, faults, ruleNumber}
 use Rattle.encoding.specs.RuleLaws.{kind-known, types-most, named-at, named-short, fault-place, length-range}
 use Rattle.encoding.specs.Optional.{Piece, required, optional, skipped, headerBytes, lengthBytes, frontBytes, contentBytes, pieceBytes}
-use Rattle.encoding.specs.Slice.{Format, isSliced, Slice, known, Stand, first, later, due, isLast, anyOptional, idOf, dataBytes, sliceFront, slicesBytes}
+use Rattle.encoding.specs.Slice.{Format, isSliced, sliced, Slice, known, Stand, first, later, due, isLast, anyOptional, idOf, dataBytes, sliceFront, slicesBytes}
 use Rattle.encoding.specs.Message.{Row, list, exception, class, encode, noTop, limit}
 use Rattle.encoding.specs.MessageLaws.{top-there, length-encapsulate}
-use Rattle.encoding.specs.Write.{Slot, slots, planOf, plan, Out, out, stop, next, State, Reached, Given, reach, stillDue, partOf, judge, prepend, judgeAll, begin, above, piecesOf, slicesOf, gathered, noFormat, formatOfNumber, bounded, rowAt, tableRules, early, stoppedFirst, rowsGiven, message, writing}
+use Rattle.encoding.specs.Write.{Slot, slots, planOf, plan, Out, out, stop, next, State, Reached, Given, reach, stillDue, partOf, judge, prepend, judgeAll, begin, above, piecesOf, slicesOf, gathered, noFormat, bounded, rowAt, tableRules, early, stoppedFirst, rowsGiven, message, writing}
 use Rattle.laws.specs.Demands.{All, end, more, SameMembers, no-members, same-member, UnderTop, rowList}
 use Rattle.laws.specs.TableFault.{fault-class}
 use Rattle.laws.specs.RowsExact.{all-map}
@@ -176,8 +176,8 @@ module _ (T : List ℕ) (type format count : ℕ) (rs buffer : List ℕ) where
 
     given-most : length given ≤ 1024
     given-most =
-        let G = gathers T buffer (C .table) (C .short) type (C .there) type (own-line (C .table) (C .there)) judged format (C .formed) .0 in
-        omega (arith, judged-count judged, same-count (G .listed), rows-most T (C .table) type (formatOfNumber format) (gathered T type given) (top-there T type (C .there) .0) (G .conforms))
+        let G = gathers T buffer (C .table) (C .short) type (C .there) type (own-line (C .table) (C .there)) judged in
+        omega (arith, judged-count judged, same-count (G .listed), rows-most T (C .table) type sliced (gathered T type given) (top-there T type (C .there) .0) (G .conforms))
 
     chain-most : length (chain T type) ≤ 256
     chain-most =
@@ -192,16 +192,16 @@ module _ (T : List ℕ) (type format count : ℕ) (rs buffer : List ℕ) where
         all-map (λ (r : ℕ) (R : Rung T (C .table) type r). named-short T (C .table) (nameOf T r) r (named-at T (C .table) r (R .below) (ap (λ (k : ℕ). isRecord k) (R .alike) ∙ i)))
         (chain-rungs T (C .table) type (C .there))
 
-    chained : isRecord (kind T type) ≡ true → length (slicesBytes (formatOfNumber format) first (slicesOf T given (chain T type))) ≤ 65547 * length given + 266 * length (chain T type)
+    chained : isRecord (kind T type) ≡ true → length (slicesBytes sliced first (slicesOf T given (chain T type))) ≤ 65547 * length given + 266 * length (chain T type)
     unfolding plan
-    chained i = slices-most T buffer (C .short) (formatOfNumber format) (chain T type) (chain-falls T (C .table) type (C .there)) (names-most i) judged first
+    chained i = slices-most T buffer (C .short) sliced (chain T type) (chain-falls T (C .table) type (C .there)) (names-most i) judged first
 
-    encoded : length (encode (formatOfNumber format) (gathered T type given)) ≤ 65547 * length given + 266 * length (chain T type) + 1
+    encoded : length (encode sliced (gathered T type given)) ≤ 65547 * length given + 266 * length (chain T type) + 1
     unfolding gathered encode
     encoded = go (eqb (kind T type) 15) refl (eqb (kind T type) 14) refl
       where
         go : (a : Bool) → eqb (kind T type) 15 ≡ a → (b : Bool) → eqb (kind T type) 14 ≡ b
-            → length (encode (formatOfNumber format) (pick a (list (piecesOf type given)) (pick b (class (slicesOf T given (chain T type))) (exception (slicesOf T given (chain T type))))))
+            → length (encode sliced (pick a (list (piecesOf type given)) (pick b (class (slicesOf T given (chain T type))) (exception (slicesOf T given (chain T type))))))
             ≤ 65547 * length given + 266 * length (chain T type) + 1
         go true e b f = omega (arith, pieces-most (C .short) type judged)
         go false e true f = omega (arith, chained (ap (λ (k : ℕ). isRecord k) (eqb-true (kind T type) 14 f)))
@@ -211,7 +211,7 @@ module _ (T : List ℕ) (type format count : ℕ) (rs buffer : List ℕ) where
             omega (arith, chained (ap (λ (x : ℕ). isRecord x) k))
 
     message-most : length m < 4294967296
-    message-most = omega (arith, ap length (C .made), length-encapsulate (encode (formatOfNumber format) (gathered T type given)), encoded, given-most, chain-most)
+    message-most = omega (arith, ap length (C .made), length-encapsulate (encode sliced (gathered T type given)), encoded, given-most, chain-most)
 
 -- ---- the refusals
 
@@ -250,7 +250,7 @@ module _ (T : List ℕ) (type format count : ℕ) (rs buffer : List ℕ) (few : 
   unfolding message rowsGiven tableRules ruleNumber stoppedFirst early firstOf
   stops-message =
       stops-next (tableRules T) _ (table (faults T) refl)
-      (λ _ e. stops-next (stoppedFirst (early T type format buffer)) _ (before-rows (noTop T type) (noFormat (kind T type) format) (ltb limit (length buffer)))
+      (λ _ e. stops-next (stoppedFirst (early T type format buffer)) _ (before-rows (noTop T type) (noFormat format) (ltb limit (length buffer)))
       (λ _ e. stops-next (rowsGiven count rs) _ (enough (leb (12 * count) (length rs)))
       (λ l e. stops-next (judgeAll T buffer (begin T type (above (chain T type))) 0 l) _ (stops-judge T buffer l (begin T type (above (chain T type))) 0 (given-few (leb (12 * count) (length rs)) l e)) (λ gs e. tt))))
     where

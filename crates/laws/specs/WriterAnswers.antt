@@ -3,34 +3,40 @@
 --   Ends, message-ends, ends-message   where no message is made: before the rows, for too few row bytes, or at a row
 --   early-refused                      31 to 39, 2, 23 and 3
 --   right-lists, wrong-bytes           20 and 21
+--   format-one                         formats of one number are one
 --   message-one                        rows have one message
 --   right-makes                        a right list has a message: what `message` makes
 --   too-long-written, right-written    22, and what is written
 use mathlib.Core.Path.{_≡_, refl, sym, ap, _∙_, subst, subst₂}
-use mathlib.Core.Bool.{Bool, true, false, _&&_}
+use mathlib.Core.Bool.{Bool, true, false, _&&_, not, true≢false}
 use mathlib.Core.Logic.{_⊎_, inl, inr, ⊎-elim}
 use mathlib.Core.List.{List}
 use Prim.Native.Nat.{ℕ, _*_, _≤_, _<_}
 use native.Mathlib.Omega.{arith}
 use lib.ListN.{length}
 use lib.Dec.{leb, ltb}
-use borrow.Author.Tests.{leb-true, leb-false, ltb-true, ltb-false, le-leb, lt-leb, lt-ltb, le-ltb, eq-eqb}
+use borrow.Author.Tests.{leb-true, leb-false, ltb-true, ltb-false, le-leb, lt-leb, lt-ltb, le-ltb, eq-eqb, ne-eqb}
 use Rattle.encoding.specs.Result.{pick, firstOf}
-use Rattle.encoding.specs.Table.{kind, Fault, fine, fault, faults, ruleNumber, any}
-use Rattle.encoding.specs.Slice.{Format, formatNumber}
+use Rattle.encoding.specs.Table.{Fault, fine, fault, faults, ruleNumber, any}
+use Rattle.encoding.specs.Slice.{Format, compact, sliced, formatNumber}
 use Rattle.encoding.specs.Message.{Pieces, Row, encode, encapsulate, noTop, limit, rows}
-use Rattle.encoding.specs.Write.{Out, out, stop, next, Given, noFormat, formatOfNumber, tableRules, early, stoppedFirst, rowsGiven, gathered, plan, message, bounded, writing}
+use Rattle.encoding.specs.Write.{Out, out, stop, next, Given, noFormat, tableRules, early, stoppedFirst, rowsGiven, gathered, plan, message, bounded, writing}
 use Rattle.encoding.specs.Conform.{Conform}
 use Rattle.laws.specs.Demands.{readAs, SameMembers, no-members, same-member, UnderTop, rowList, Ready, Early, table-refused, type-refused, format-refused, buffer-refused, EarlyRefused, Twenty, too-few, none-right, RightLists, TwentyOne, WrongBytes, Writable, MessageOf, RightMakes, TwentyTwo, TooLong, WrittenAs, RightWritten}
 use Rattle.laws.specs.TableFault.{table-fault, broken-class}
 use Rattle.laws.specs.PlanLaws.{out≢stop, judged-ok}
 use Rattle.laws.specs.PlanRules.{chain-above, judging, judging-slots}
-use Rattle.laws.specs.MessageWritten.{Composed, message-ok, message-step, writing-ok, writing-step, too-long}
+use Rattle.laws.specs.MessageWritten.{formed-one, one-formed, Composed, message-ok, message-step, writing-ok, writing-step, too-long}
 use Rattle.laws.specs.WriteBack.{gathers}
-use Rattle.laws.specs.WriteAgain.{format-again, one-pieces}
+use Rattle.laws.specs.WriteAgain.{one-pieces}
 use Rattle.laws.specs.RightLists.{judging-twenty, judging-twentyOne, judging-number, judging-right, right-judging}
 
 -- ---- refusals
+
+-- 23 refuses every format but 1
+not-formed : (format : ℕ) → (format ≡ 1 → ⊥) → noFormat format ≡ true
+unfolding noFormat
+not-formed format h = ap not (ne-eqb format 1 h)
 
 module _ (T : List ℕ) (type format count : ℕ) (rs buffer : List ℕ) where
   -- where no message is made
@@ -43,14 +49,14 @@ module _ (T : List ℕ) (type format count : ℕ) (rs buffer : List ℕ) where
   unfolding message tableRules ruleNumber early stoppedFirst firstOf rowsGiven next
   ends-message (before (table-refused {c} {p} B)) = rw (table-fault T c p .1 B)
   ends-message (before (type-refused e a)) = rw (e, a)
-  ends-message (before (format-refused e a b)) = rw (e, a, b)
-  ends-message (before (buffer-refused e a b c)) = rw (e, a, b, lt-ltb limit (length buffer) c)
-  ends-message (few R l n i) = rw (R .table, R .there, R .formed, le-ltb limit (length buffer) (R .short), lt-leb (12 * count) (length rs) l, n, i)
-  ends-message (at-rows R l h) = rw (R .table, R .there, R .formed, le-ltb limit (length buffer) (R .short), le-leb (12 * count) (length rs) l, h)
+  ends-message (before (format-refused e a b)) = rw (e, a, not-formed format b)
+  ends-message (before (buffer-refused e a b c)) = rw (e, a, one-formed format b, lt-ltb limit (length buffer) c)
+  ends-message (few R l n i) = rw (R .table, R .there, one-formed format (R .formed), le-ltb limit (length buffer) (R .short), lt-leb (12 * count) (length rs) l, n, i)
+  ends-message (at-rows R l h) = rw (R .table, R .there, one-formed format (R .formed), le-ltb limit (length buffer) (R .short), le-leb (12 * count) (length rs) l, h)
 
   message-ends : {n i : ℕ} → message T type format count rs buffer ≡ stop n i → Ends n i
   message-ends {n} {i} h =
-      go (faults T) refl (noTop T type) refl (noFormat (kind T type) format) refl (ltb limit (length buffer)) refl (leb (12 * count) (length rs)) refl (judging T type buffer (rowList count rs)) refl
+      go (faults T) refl (noTop T type) refl (noFormat format) refl (ltb limit (length buffer)) refl (leb (12 * count) (length rs)) refl (judging T type buffer (rowList count rs)) refl
     where
       same : {k p : ℕ} → Ends k p → Ends n i
       same {k} {p} E =
@@ -59,21 +65,21 @@ module _ (T : List ℕ) (type format count : ℕ) (rs buffer : List ℕ) where
           let b : p ≡ i = cc in
           subst₂ Ends a b E
 
-      go : (f : Fault) → faults T ≡ f → (a : Bool) → noTop T type ≡ a → (b : Bool) → noFormat (kind T type) format ≡ b → (c : Bool) → ltb limit (length buffer) ≡ c
+      go : (f : Fault) → faults T ≡ f → (a : Bool) → noTop T type ≡ a → (b : Bool) → noFormat format ≡ b → (c : Bool) → ltb limit (length buffer) ≡ c
           → (d : Bool) → leb (12 * count) (length rs) ≡ d → (o : Out (List Given)) → judging T type buffer (rowList count rs) ≡ o → Ends n i
       go (fault k p) e a ea b eb c ec d ed o eo = same (before (table-refused (table-fault T k p .0 e)))
       go fine e true ea b eb c ec d ed o eo = same (before (type-refused e ea))
-      go fine e false ea true eb c ec d ed o eo = same (before (format-refused e ea eb))
-      go fine e false ea false eb true ec d ed o eo = same (before (buffer-refused e ea eb (ltb-true limit (length buffer) ec)))
+      go fine e false ea true eb c ec d ed o eo = same (before (format-refused e ea (λ q. true≢false (sym eb ∙ one-formed format q))))
+      go fine e false ea false eb true ec d ed o eo = same (before (buffer-refused e ea (formed-one format eb) (ltb-true limit (length buffer) ec)))
       go fine e false ea false eb false ec d ed o eo =
-          rows d ed o eo (record { table = e; there = ea; formed = eb; short = ltb-false limit (length buffer) ec })
+          rows d ed o eo (record { table = e; there = ea; formed = formed-one format eb; short = ltb-false limit (length buffer) ec })
         where
           rows : (d : Bool) → leb (12 * count) (length rs) ≡ d → (o : Out (List Given)) → judging T type buffer (rowList count rs) ≡ o → Ready T type format buffer → Ends n i
           rows false ed o eo R = same (few R (leb-false (12 * count) (length rs) ed) refl refl)
           rows true ed (stop k p) eo R = same (at-rows R (leb-true (12 * count) (length rs) ed) eo)
           rows true ed (out gs) eo R =
-              let C : Composed T type format count rs buffer (encapsulate (encode (formatOfNumber format) (gathered T type gs))) =
-              record { table = R .table; there = R .there; formed = R .formed; short = R .short; enough = leb-true (12 * count) (length rs) ed; given = gs; judged = eo; made = refl } in
+              let C : Composed T type format count rs buffer (encapsulate (encode sliced (gathered T type gs))) =
+              record { table = R .table; there = R .there; formed = one-formed format (R .formed); short = R .short; enough = leb-true (12 * count) (length rs) ed; given = gs; judged = eo; made = refl } in
               absurd (out≢stop (message-step T type format count rs buffer C) h)
 
   -- what stops before the message is made stops the writer, and only 22 comes after
@@ -141,29 +147,29 @@ module _ (T : List ℕ) (type format count : ℕ) (rs buffer : List ℕ) where
   composed-writable : {m : List ℕ} → Composed T type format count rs buffer m → Writable T type format count rs buffer
   composed-writable C =
       let R = right-judging T type buffer (rowList count rs) (C .table) (C .there) (C .judged) in
-      record { ready = record { table = C .table; there = C .there; formed = C .formed; short = C .short }; enough = C .enough; right = R .0; fits = R .1 }
+      record { ready = record { table = C .table; there = C .there; formed = formed-one format (C .formed); short = C .short }; enough = C .enough; right = R .0; fits = R .1 }
 
   composed-message : {m : List ℕ} → Composed T type format count rs buffer m → MessageOf T type format (rowList count rs) buffer m
   composed-message C =
       let K = judged-ok buffer (rowList count rs) (plan T type) 0 (sym (judging-slots T (C .table) type (C .there) buffer (rowList count rs)) ∙ C .judged) in
-      let G = gathers T buffer (C .table) (C .short) type (C .there) type (below-itself T (C .table) type (C .there)) K format (C .formed) in
+      let G = gathers T buffer (C .table) (C .short) type (C .there) type (below-itself T (C .table) type (C .there)) K in
       let p : Pieces = gathered T type (C .given) in
       record {
-        read = readAs (formatOfNumber format) p;
-        in-format = G .1;
-        conforms = G .0 .conforms;
-        of-type = G .0 .of-type;
-        complete = G .0 .complete;
+        read = readAs sliced p;
+        in-format = sym (formed-one format (C .formed));
+        conforms = G .conforms;
+        of-type = G .of-type;
+        complete = G .complete;
         encoded = C .made;
-        members = subst (λ (z : List ℕ). SameMembers buffer z (rowList count rs) (rows T type (formatOfNumber format) p)) (sym (C .made)) (G .0 .listed);
+        members = subst (λ (z : List ℕ). SameMembers buffer z (rowList count rs) (rows T type sliced p)) (sym (C .made)) (G .listed);
       }
 
   writable-composed : Writable T type format count rs buffer → (m : List ℕ) × Composed T type format count rs buffer m
   writable-composed W =
       let R = W .ready in
       let J = judging-right T type buffer (rowList count rs) (R .table) (R .there) (W .right) (W .fits) in (
-        encapsulate (encode (formatOfNumber format) (gathered T type (J .0))),
-        record { table = R .table; there = R .there; formed = R .formed; short = R .short; enough = W .enough; given = J .0; judged = J .1; made = refl },
+        encapsulate (encode sliced (gathered T type (J .0))),
+        record { table = R .table; there = R .there; formed = one-formed format (R .formed); short = R .short; enough = W .enough; given = J .0; judged = J .1; made = refl },
       )
 
 same-across : {b m o : List ℕ} {rs ms os : List Row} → SameMembers b m rs ms → SameMembers b o rs os → SameMembers m o ms os
@@ -171,8 +177,11 @@ same-across no-members no-members = no-members
 same-across (same-member e p l M) (same-member f q k O) = same-member (sym e ∙ f) (sym p ∙ q) (sym l ∙ k) (same-across M O)
 
 -- formats of one number are one
-format-one : (f g : Format) → formatNumber f ≡ formatNumber g → f ≡ g
-format-one f g e = sym (format-again f) ∙ ap formatOfNumber e ∙ format-again g
+pub format-one : (f g : Format) → formatNumber f ≡ formatNumber g → f ≡ g
+format-one compact compact e = refl
+format-one compact sliced e = absurd (omega arith)
+format-one sliced compact e = absurd (omega arith)
+format-one sliced sliced e = refl
 
 -- rows have one message
 message-one : (T : List ℕ) (type format : ℕ) (rs : List Row) (buffer m o : List ℕ) → faults T ≡ fine → noTop T type ≡ false

@@ -5,33 +5,21 @@
 --   writer-refuses         of the writer
 --   writing-numbers-told   the numbers of its public calls
 use mathlib.Core.Path.{_≡_, refl, sym, ap, _∙_, subst}
-use mathlib.Core.Bool.{Bool, true, false, _&&_, _||_}
 use mathlib.Core.Logic.{⊎-elim}
 use mathlib.Core.List.{List, [], _∷_}
 use Prim.Native.Nat.{ℕ, _≤_}
 use native.Mathlib.Omega.{arith}
 use lib.ListN.{length, length-map}
-use lib.Dec.{eqb, ltb}
-use borrow.Author.Tests.{eqb-true, ltb-true}
-use Rattle.encoding.specs.ResultLaws.{both-true}
-use Rattle.encoding.specs.Table.{kind, range}
+use Rattle.encoding.specs.Table.{range}
 use Rattle.encoding.specs.RuleLaws.{length-range}
-use Rattle.encoding.specs.Write.{Out, out, stop, rowAt, noFormat, writing, output, writingOf, writingNumbers}
-use Rattle.laws.specs.Demands.{rowList, Early, table-refused, type-refused, format-refused, buffer-refused, at-row, at-count, Twenty, too-few, none-right, WrongFormat, unknown-format, compact-list, WriterRefusal, wrong-table, no-type, great-buffer, wrong-row, wrong-bytes, no-room, wrong-format, WriterRefuses, WritingNumbersTold}
+use Rattle.encoding.specs.Write.{Out, out, stop, rowAt, writing, output, writingOf, writingNumbers}
+use Rattle.laws.specs.Demands.{rowList, Early, table-refused, type-refused, format-refused, buffer-refused, at-row, at-count, Twenty, too-few, none-right, WriterRefusal, wrong-table, no-type, great-buffer, wrong-row, wrong-bytes, no-room, wrong-format, WriterRefuses, WritingNumbersTold}
 use Rattle.laws.specs.TableFault.{broken-class}
 use Rattle.laws.specs.WriterAnswers.{early-refused, right-lists, too-long-written}
 use Rattle.laws.specs.WriterAnswers
 
 pub length-rowList : (count : ℕ) (rs : List ℕ) → length (rowList count rs) ≡ count
 length-rowList count rs = length-map (range 0 count) (rowAt rs) ∙ length-range 0 count
-
-format-wrong : (T : List ℕ) (type format : ℕ) → noFormat (kind T type) format ≡ true → WrongFormat T type format
-unfolding noFormat
-format-wrong T type format h = go (ltb 1 format) refl h
-  where
-    go : (a : Bool) → ltb 1 format ≡ a → a || (eqb format 0 && eqb (kind T type) 15) ≡ true → WrongFormat T type format
-    go true e h = unknown-format (ltb-true 1 format e)
-    go false e h = let b = both-true (eqb format 0) (eqb (kind T type) 15) h in compact-list (eqb-true format 0 (b .0)) (eqb-true (kind T type) 15 (b .1))
 
 module _ (T : List ℕ) (type format count : ℕ) (rs buffer : List ℕ) (room : ℕ) where
   abbrev Refused : ℕ → ℕ → Type 0
@@ -40,7 +28,7 @@ module _ (T : List ℕ) (type format count : ℕ) (rs buffer : List ℕ) (room :
   early-placed : {n p : ℕ} → Early T type format buffer n p → Refused n p
   early-placed (table-refused B) = wrong-table B
   early-placed (type-refused e t) = no-type
-  early-placed (format-refused e t f) = wrong-format (format-wrong T type format f)
+  early-placed (format-refused e t f) = wrong-format f
   early-placed (buffer-refused e t f l) = great-buffer l
 
   twenty-placed : (i : ℕ) → Twenty T type count rs buffer i → i ≤ count

@@ -2,7 +2,6 @@
 --
 --   bytes-known, bytes-none                           a list whose elements are below 256 is one of bytes
 --   top-beyond, top-kind                              2
---   format-great, format-list, format-known           23
 --   early-top, early-format, early-long, early-none   2, 23 and 3 in turn
 --   broken-checks, early-checks, ready-checks         what `checks` gives
 use mathlib.Core.Path.{_≡_, refl, sym, ap, _∙_}
@@ -11,8 +10,8 @@ use mathlib.Core.List.{List, [], _∷_}
 use Prim.Native.Nat.{ℕ, zero, suc, _≤_, _<_}
 use native.Mathlib.Omega.{arith}
 use lib.ListN.{length, getD}
-use lib.Dec.{eqb, ltb}
-use borrow.Author.Tests.{le-leb, lt-leb, le-ltb, lt-ltb, eq-eqb, ne-eqb}
+use lib.Dec.{ltb}
+use borrow.Author.Tests.{le-leb, lt-leb, le-ltb, lt-ltb, ne-eqb}
 use Rattle.encoding.specs.Result.{firstOf}
 use Rattle.encoding.specs.Number.{Bytes}
 use Rattle.encoding.specs.Table.{types, kind, Fault, fine, fault, faults, ruleNumber}
@@ -44,41 +43,24 @@ module _ (T : List ℕ) (top : ℕ) (n : ℕ) (en : n ≡ types T) where
   unfolding noTop
   top-kind h k ek = rw (lt-leb (types T) top (omega arith), ek)
 
-module _ (kind format : ℕ) where
-  pub format-great : 1 < format → true ≡ noFormat kind format
-  unfolding noFormat
-  format-great h = rw (lt-ltb 1 format h)
-
-  module _ (h : format ≤ 1) where
-    pub format-list : format ≡ 0 → eqb kind 15 ≡ noFormat kind format
-    unfolding noFormat
-    format-list e = rw (le-ltb 1 format h, eq-eqb format 0 e)
-
-    pub format-known : (format ≡ 0 → ⊥) → false ≡ noFormat kind format
-    unfolding noFormat
-    format-known e = rw (le-ltb 1 format h, ne-eqb format 0 e)
-
 module _ (T : List ℕ) (top format len : ℕ) (a : Bool) (ea : a ≡ noTop T top) where
   pub early-top : a ≡ true → 2 ≡ before T top format len
   unfolding before firstOf
   early-top q = rw (sym ea ∙ q)
 
-  module _ (qa : a ≡ false) (k : ℕ) (ek : k ≡ kind T top) (b : Bool) (eb : b ≡ noFormat k format) where
-    form : b ≡ noFormat (kind T top) format
-    form = eb ∙ ap (λ (x : ℕ). noFormat x format) ek
+  module _ (qa : a ≡ false) where
+    pub early-format : (format ≡ 1 → ⊥) → 23 ≡ before T top format len
+    unfolding before firstOf noFormat
+    early-format q = rw (sym ea ∙ qa, ne-eqb format 1 q)
 
-    pub early-format : b ≡ true → 23 ≡ before T top format len
-    unfolding before firstOf
-    early-format q = rw (sym ea ∙ qa, sym form ∙ q)
-
-    module _ (qb : b ≡ false) where
+    module _ (q : format ≡ 1) where
       pub early-long : limit < len → 3 ≡ before T top format len
-      unfolding before firstOf
-      early-long h = rw (sym ea ∙ qa, sym form ∙ qb, lt-ltb limit len h)
+      unfolding before firstOf noFormat
+      early-long h = rw (sym ea ∙ qa, q, lt-ltb limit len h)
 
       pub early-none : len ≤ limit → 0 ≡ before T top format len
-      unfolding before firstOf
-      early-none h = rw (sym ea ∙ qa, sym form ∙ qb, le-ltb limit len h)
+      unfolding before firstOf noFormat
+      early-none h = rw (sym ea ∙ qa, q, le-ltb limit len h)
 
 -- ---- all checks
 

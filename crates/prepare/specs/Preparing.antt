@@ -6,14 +6,14 @@ use mathlib.Core.List.{List, [], _∷_}
 use Prim.Native.Nat.{ℕ, zero, suc}
 use lib.Dec.{ltb}
 use Rattle.encoding.specs.Result.{firstOf}
-use Rattle.encoding.specs.Table.{kind, Fault, fine, fault, faults, ruleNumber}
+use Rattle.encoding.specs.Table.{Fault, fine, fault, faults, ruleNumber}
 use Rattle.encoding.specs.Message.{noTop, limit}
 use Rattle.encoding.specs.Write.{noFormat}
 use Rattle.prepare.specs.declared.Prepared.{Prepared}
 use Rattle.prepare.specs.declared.Prepared.the-variants.{Ready, Refused}
 
 unfoldable pub before : List ℕ → ℕ → ℕ → ℕ → ℕ
-before T top format len = firstOf ((2, noTop T top) ∷ (23, noFormat (kind T top) format) ∷ (3, ltb limit len) ∷ [])
+before T top format len = firstOf ((2, noTop T top) ∷ (23, noFormat format) ∷ (3, ltb limit len) ∷ [])
 
 -- the table's refusal comes first, at the place of the rule; the others are at 0
 unfoldable pub checked : Fault → ℕ → Prepared

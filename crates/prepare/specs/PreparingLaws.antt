@@ -13,7 +13,7 @@ use lib.Dec.{ltb}
 use borrow.Author.Tests.{ltb-false}
 use Rattle.encoding.specs.Result.{Res, bad, firstOf}
 use Rattle.encoding.specs.ResultLaws.{firstOf-ok}
-use Rattle.encoding.specs.Table.{kind, Fault, fine, fault, faults, ruleNumber}
+use Rattle.encoding.specs.Table.{Fault, fine, fault, faults, ruleNumber}
 use Rattle.encoding.specs.RuleLaws.{types-most}
 use Rattle.encoding.specs.Message.{Read, body, noTop, limit, afterRules, refusedFirst, rules}
 use Rattle.encoding.specs.MessageLaws.{rules-body, top-there}
@@ -45,20 +45,20 @@ module _ (T : List ℕ) (top format len : ℕ) (r : Prepared) (er : r ≡ checks
 
     has-top : noTop T top ≡ false
     unfolding before
-    has-top = firstOf-ok 1 (noTop T top) ((23, noFormat (kind T top) format) ∷ (3, ltb limit len) ∷ []) ready-early .0
+    has-top = firstOf-ok 1 (noTop T top) ((23, noFormat format) ∷ (3, ltb limit len) ∷ []) ready-early .0
 
     pub ready-short : len ≤ 65536
     unfolding before
     ready-short =
-        let a = firstOf-ok 1 (noTop T top) ((23, noFormat (kind T top) format) ∷ (3, ltb limit len) ∷ []) ready-early in
-        let b = firstOf-ok 22 (noFormat (kind T top) format) ((3, ltb limit len) ∷ []) (a .1) in
+        let a = firstOf-ok 1 (noTop T top) ((23, noFormat format) ∷ (3, ltb limit len) ∷ []) ready-early in
+        let b = firstOf-ok 22 (noFormat format) ((3, ltb limit len) ∷ []) (a .1) in
         let c = firstOf-ok 2 (ltb limit len) [] (b .1) in
         ltb-false limit len (c .0)
 
     pub ready-top : top < 65536
     ready-top = omega (arith, top-there T top has-top .0, types-most T ready-table)
 
--- no top is refused for format 1
+-- format 1 is not refused
 module _ (T : List ℕ) (top : ℕ) (m : List ℕ) (len : ℕ) (el : len ≡ length m) (r : Prepared) (er : r ≡ checks T top 1 len) where
   pub reading-ready : r ≡ Ready → rules T top m ≡ body T top m
   reading-ready e = rules-body T top m (ready-table T top 1 len r er e) (has-top T top 1 len r er e) (omega (arith, ready-short T top 1 len r er e))
@@ -67,7 +67,7 @@ module _ (T : List ℕ) (top : ℕ) (m : List ℕ) (len : ℕ) (el : len ≡ len
   unfolding checks checked before rules afterRules refusedFirst firstOf noFormat
   reading-refused c p e = table (faults T) (sym er ∙ e)
     where
-      early : (b d : Bool) → checked fine (firstOf ((2, b) ∷ (23, noFormat (kind T top) 1) ∷ (3, d) ∷ [])) ≡ Refused c p
+      early : (b d : Bool) → checked fine (firstOf ((2, b) ∷ (23, noFormat 1) ∷ (3, d) ∷ [])) ≡ Refused c p
           → refusedFirst (firstOf ((2, b) ∷ (3, d) ∷ [])) (body T top m) ≡ bad c p
       early true d h = let ec : 2 ≡ c = cc in let ep : 0 ≡ p = cc in rw (ec, ep)
       early false true h = let ec : 3 ≡ c = cc in let ep : 0 ≡ p = cc in rw (ec, ep)

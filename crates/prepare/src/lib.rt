@@ -4,7 +4,6 @@ ghost use lib.ListN.{length};
 ghost use Rattle.encoding.specs.Number.{Bytes};
 ghost use Rattle.encoding.specs.Table.{typesAt, kind};
 ghost use Rattle.encoding.specs.Message.{noTop};
-ghost use Rattle.encoding.specs.Write.{noFormat};
 ghost use Rattle.prepare.specs.Preparing.{before, checks};
 use rules::Finding;
 
@@ -35,19 +34,6 @@ fn no_top(table: &[u8], top: usize, k: usize) -> bool
     k < 13
 }
 
-// The format is not 0 or 1, or is 0 for a parameter list.
-fn no_format(kind: usize, format: usize) -> bool
-    ensures { λ r. ⌜ r ≡ noFormat kind format ⌝ }
-{
-    if 1 < format {
-        return true;
-    }
-    if format == 0 {
-        return kind == 15;
-    }
-    false
-}
-
 // The first of 2, 23 and 3 that applies to a message or buffer of `len` bytes; 0 if none does.
 fn early(table: &[u8], begin: usize, top: usize, format: usize, len: usize) -> usize
     requires { ⌜ begin ≡ typesAt (now table) ⌝ }
@@ -57,7 +43,7 @@ fn early(table: &[u8], begin: usize, top: usize, format: usize, len: usize) -> u
     if no_top(table, top, k) {
         return 2;
     }
-    if no_format(k, format) {
+    if format != 1 {
         return 23;
     }
     if 65536 < len {
@@ -66,8 +52,8 @@ fn early(table: &[u8], begin: usize, top: usize, format: usize, len: usize) -> u
     0
 }
 
-// Checks the table, the top, the format and the length of a message or buffer. A reader, which knows no format yet, passes 1: no top is refused for it.
-// Wrong and ruled out: a call that lets format 0 pass for a parameter list; one that refuses exactly 65,536 bytes.
+// Checks the table, the top, the format and the length of a message or buffer. A reader, which knows no format yet, passes 1: so 23 does not come.
+// Wrong and ruled out: a call that lets format 0 pass; one that refuses exactly 65,536 bytes.
 pub fn prepare(table: &[u8], top: usize, format: usize, len: usize) -> Prepared
     ensures { λ r. ⌜ r ≡ checks (now (table .entry)) top format len ⌝ }
 {

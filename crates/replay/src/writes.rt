@@ -26,6 +26,11 @@ pub fn write_call(
 ) {
     print::mark(out);
     let a = codec::write(table, top, format, count, rows, buffer, out);
+    show_answer(a, out);
+}
+
+// Prints an answer and the message in its output.
+pub fn show_answer(a: Writing, out: &[u8]) {
     match a {
         Writing::Written(n) => {
             print::number(0);

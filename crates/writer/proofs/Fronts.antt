@@ -2,25 +2,23 @@
 --
 --   still-wrong                  rows that are refused stay refused
 --   data-marked, data-plain      the rows of an owner, with and without byte 255 after them
---   front-sized, front-plain     flags, type ID and, in sliced format, a size
---   front-long, front-short      how many bytes come before the data
+--   front-put                    flags, type ID and size
 --   slice-laid                   the front put before the data
 use mathlib.Core.Path.{_≡_, refl, sym, ap, _∙_}
 use mathlib.Core.Bool.{Bool, true, false}
 use mathlib.Core.List.{List, [], _∷_, _++_}
 use Prim.Native.Nat.{ℕ, _+_, _-_, _≤_, _<_}
 use native.Mathlib.Omega.{arith}
-use native.Mathlib.Nat.{add-zero}
 use lib.ListN.{length, length-append}
-use Rattle.encoding.specs.Result.{pick}
-use Rattle.encoding.specs.Number.{leBytes}
+use Rattle.encoding.specs.Number.{leBytes, stringBytes}
 use Rattle.encoding.specs.NumberLaws.{length-leBytes}
-use Rattle.encoding.specs.Slice.{sliced, compact, isSliced, worth, flagBits, anyOptional, dataBytes}
+use Rattle.encoding.specs.Slice.{sliced, worth, flagBits, anyOptional, dataBytes}
+use Rattle.encoding.specs.Table.{nameOf}
 use Rattle.wire.specs.Put.{put}
 use Rattle.writer.specs.declared.Laid.{Laid}
 use Rattle.pieces.specs.Puts.{Puts}
 use Rattle.pieces.specs.PutsLaws.{puts-none, puts-is, puts-number, puts-byte, puts-then, puts-under}
-use Rattle.writer.specs.Slices.{groupOf, sliceOf, formatBy, idField, frontField, sliceField, Judges, RowsPut, DataPut, SlicePut}
+use Rattle.writer.specs.Slices.{groupOf, sliceOf, frontField, sliceField, Judges, RowsPut, DataPut, SlicePut}
 
 -- ---- the data
 
@@ -63,57 +61,49 @@ module _ (T rows buffer : List ℕ) (judged : Bool) (count o i at : ℕ) (out mi
 
 -- ---- the front
 
-flags-small : (s id opt last : Bool) → flagBits (formatBy s) id opt last < 256
+flags-small : (opt last : Bool) → flagBits sliced true opt last < 256
 unfolding flagBits
-flags-small s id opt last = omega (arith, small id 1 (omega arith), small opt 4 (omega arith), small (isSliced (formatBy s)) 16 (omega arith), small last 32 (omega arith))
+flags-small opt last = omega (arith, small opt 4 (omega arith), small last 32 (omega arith))
   where
     small : (b : Bool) (w : ℕ) → w ≤ 32 → worth b w ≤ 32
     small true w h = h
     small false w h = omega arith
 
-module _ (T : List ℕ) (o : ℕ) (id s opt last : Bool) (n : ℕ) where
-  front-parts : frontField T o (formatBy s) id opt last n ≡ (flagBits (formatBy s) id opt last ∷ []) ++ idField T o id ++ pick (isSliced (formatBy s)) (leBytes 4 (4 + n)) []
+module _ (T : List ℕ) (o : ℕ) (opt last : Bool) (n : ℕ) where
+  -- the type ID
+  abbrev id : List ℕ
+  id = stringBytes (nameOf T o)
+
+  front-parts : frontField T o opt last n ≡ (flagBits sliced true opt last ∷ []) ++ id ++ leBytes 4 (4 + n)
   unfolding frontField
   front-parts = refl
 
-  module _ (at f a : ℕ) (out one two : List ℕ) (ef : f ≡ flagBits (formatBy s) id opt last) (e : one ≡ put at (leBytes 1 f) out) (p : Puts (at + 1) (idField T o id) one two a) where
-    front-start : Puts at ((flagBits (formatBy s) id opt last ∷ []) ++ idField T o id) out two a
-    front-start = puts-then at _ out one (at + 1) (puts-byte (flagBits (formatBy s) id opt last) at out one (flags-small s id opt last) (rw (← ef) e)) (idField T o id) two a p
+  pub front-put : (at f a : ℕ) (out one two end : List ℕ) → f ≡ flagBits sliced true opt last → one ≡ put at (leBytes 1 f) out → Puts (at + 1) id one two a
+      → end ≡ put a (leBytes 4 (4 + n)) two → Puts at (frontField T o opt last n) out end (a + 4)
+  front-put at f a out one two end ef e p g =
+      let start : Puts at ((flagBits sliced true opt last ∷ []) ++ id) out two a =
+      puts-then at _ out one (at + 1) (puts-byte (flagBits sliced true opt last) at out one (flags-small opt last) (rw (← ef) e)) id two a p in
+      puts-is at _ _ out end (a + 4) (sym front-parts) (puts-then at _ out two a start (leBytes 4 (4 + n)) end (a + 4) (puts-number 4 (4 + n) a two end g))
 
-    pub front-sized : s ≡ true → (end : List ℕ) → end ≡ put a (leBytes 4 (4 + n)) two → Puts at (frontField T o (formatBy s) id opt last n) out end (a + 4)
-    front-sized q end g = puts-is at _ _ out end (a + 4) (sym (front-parts ∙ rw q)) (puts-then at _ out two a front-start (leBytes 4 (4 + n)) end (a + 4) (puts-number 4 (4 + n) a two end g))
-
-    pub front-plain : s ≡ false → Puts at (frontField T o (formatBy s) id opt last n) out two a
-    front-plain q = puts-is at _ _ out two a (sym (front-parts ∙ rw q)) (puts-then at _ out two a front-start [] two a (puts-none a two))
-
-  front-length : length (frontField T o (formatBy s) id opt last n) ≡ 1 + length (idField T o id) + pick s 4 0
-  front-length = ap length front-parts ∙ go s
-    where
-      go : (s : Bool) → length ((flagBits (formatBy s) id opt last ∷ []) ++ idField T o id ++ pick (isSliced (formatBy s)) (leBytes 4 (4 + n)) []) ≡ 1 + length (idField T o id) + pick s 4 0
-      go true = omega (arith, length-append ((flagBits sliced id opt last ∷ []) ++ idField T o id) (leBytes 4 (4 + n)), length-append (flagBits sliced id opt last ∷ []) (idField T o id), length-leBytes 4 (4 + n))
-      go false = omega (arith, length-append ((flagBits compact id opt last ∷ []) ++ idField T o id) [], length-append (flagBits compact id opt last ∷ []) (idField T o id))
-
-pub front-long : (T : List ℕ) (o : ℕ) (id s : Bool) (k : ℕ) → k ≡ length (idField T o id) → s ≡ true → 1 + k + 4 ≡ 1 + length (idField T o id) + pick s 4 0
-front-long T o id s k e q = rw (q, e)
-
-pub front-short : (T : List ℕ) (o : ℕ) (id s : Bool) (k : ℕ) → k ≡ length (idField T o id) → s ≡ false → 1 + k ≡ 1 + length (idField T o id) + pick s 4 0
-front-short T o id s k e q = rw (q, e) (sym (add-zero _))
+  front-length : length (frontField T o opt last n) ≡ 5 + length id
+  front-length =
+      omega (arith, ap length front-parts, length-append ((flagBits sliced true opt last ∷ []) ++ id) (leBytes 4 (4 + n)), length-append (flagBits sliced true opt last ∷ []) id, length-leBytes 4 (4 + n))
 
 -- ---- the slice
 
-pub slice-laid : (T rows buffer : List ℕ) (judged : Bool) (count o i at : ℕ) (id s end : Bool) (k n e : ℕ) (out mid last : List ℕ) (d : Laid)
-    → k ≡ 1 + length (idField T o id) + pick s 4 0 → k ≤ 65545 → DataPut T rows buffer judged count o i (at + k) out mid d → d .fault ≡ 0
-    → n ≡ d .end - (at + k) → Puts at (frontField T o (formatBy s) id (d .optionals) end n) mid last e
-    → SlicePut T rows buffer judged count (formatBy s) id end o i at out last d
+pub slice-laid : (T rows buffer : List ℕ) (judged : Bool) (count o i at : ℕ) (end : Bool) (k n e : ℕ) (out mid last : List ℕ) (d : Laid)
+    → k ≡ length (stringBytes (nameOf T o)) → k ≤ 65540 → DataPut T rows buffer judged count o i (at + 5 + k) out mid d → d .fault ≡ 0
+    → n ≡ d .end - (at + 5 + k) → Puts at (frontField T o (d .optionals) end n) mid last e
+    → SlicePut T rows buffer judged count end o i at out last d
 unfolding sliceField
-slice-laid T rows buffer judged count o i at id s end k n e out mid last d ek h j z en p =
+slice-laid T rows buffer judged count o i at end k n e out mid last d ek h j z en p =
     let l = j .right z in
     let w = dataBytes (sliceOf T rows buffer count o i) in
     let y : n ≡ length w = omega (arith, l .puts .ends) in
-    let q : frontField T o (formatBy s) id (d .optionals) end n ≡ frontField T o (formatBy s) id (anyOptional (groupOf T rows buffer count o i)) end (length w) = rw (l .flag, y) in
+    let q : frontField T o (d .optionals) end n ≡ frontField T o (anyOptional (groupOf T rows buffer count o i)) end (length w) = rw (l .flag, y) in
     record {
       right = λ _. record {
-        puts = puts-under at (at + k) _ w out mid last e (d .end) (omega (arith, front-length T o id s (anyOptional (groupOf T rows buffer count o i)) end (length w))) (l .puts) (puts-is at _ _ mid last e q p);
+        puts = puts-under at (at + 5 + k) _ w out mid last e (d .end) (omega (arith, front-length T o (anyOptional (groupOf T rows buffer count o i)) end (length w))) (l .puts) (puts-is at _ _ mid last e q p);
         next = l .next;
         within = l .within;
         rest = l .rest;

@@ -15,7 +15,7 @@ use borrow.Author.Tests.{lt-ltb, le-ltb, eq-eqb, ne-eqb}
 use Rattle.encoding.specs.Number.{leBytes}
 use Rattle.encoding.specs.Table.{kind, base, upward, chain}
 use Rattle.encoding.specs.TableLaws.{chain-row}
-use Rattle.encoding.specs.Slice.{Format, isSliced, Stand, first, later, due, Slice, hasOptionals, idOf, isLast, sliceFront, slicesBytes}
+use Rattle.encoding.specs.Slice.{sliced, Stand, first, later, due, Slice, hasOptionals, idOf, isLast, sliceFront, slicesBytes}
 use Rattle.encoding.specs.Message.{encapsulate}
 use Rattle.encoding.specs.Write.{out, stop}
 use Rattle.wire.specs.Put.{put}
@@ -27,7 +27,7 @@ use Rattle.pieces.specs.Judged.{verdictFrom, verdictAbove, Gives}
 use Rattle.pieces.specs.JudgedLaws.{gives-then}
 use Rattle.pieces.specs.Puts.{Puts, Leaves}
 use Rattle.pieces.specs.PutsLaws.{puts-is, puts-number, puts-byte, puts-then, puts-under, leaves-begin, leaves-next, leaves-end}
-use Rattle.writer.specs.Slices.{groupOf, sliceOf, slicesFrom, formatBy, idField, frontField, sliceField, RowsPut, SlicePut}
+use Rattle.writer.specs.Slices.{groupOf, sliceOf, slicesFrom, frontField, sliceField, RowsPut, SlicePut}
 use Rattle.writer.specs.Messages.{contentsOf, AllPut}
 
 -- ---- the last owner
@@ -44,33 +44,33 @@ module _ (T rows buffer : List ℕ) (count up i : ℕ) (z : up ≡ 0) where
 
 -- ---- the slices of a chain
 
-module _ (T rows buffer : List ℕ) (count : ℕ) (g : Format) where
+module _ (T rows buffer : List ℕ) (count : ℕ) where
   -- the slices after that of owner o
   abbrev behind : ℕ → ℕ → ℕ → List Slice
   behind o i up = slicesFrom T rows buffer count (i + length (groupOf T rows buffer count o i)) (upward (chain T) up)
 
-  slices-more : (st : Stand) (o i : ℕ) → slicesBytes g st (slicesFrom T rows buffer count i (chain T o))
-      ≡ sliceField T rows buffer count g (due st g) (isLast (behind o i (base T o))) o i ++ slicesBytes g (later g) (behind o i (base T o))
-  unfolding slicesBytes slicesFrom sliceFront hasOptionals idOf frontField idField sliceOf sliceField
-  slices-more st o i = rw (chain-row T o)
+  slices-more : (st : Stand) (o i : ℕ) → due st sliced ≡ true → slicesBytes sliced st (slicesFrom T rows buffer count i (chain T o))
+      ≡ sliceField T rows buffer count (isLast (behind o i (base T o))) o i ++ slicesBytes sliced (later sliced) (behind o i (base T o))
+  unfolding slicesBytes slicesFrom sliceFront hasOptionals idOf frontField sliceOf sliceField
+  slices-more st o i d = rw (chain-row T o, d)
 
   last-is : (o i up : ℕ) → isLast (behind o i up) ≡ eqb up 0
   unfolding isLast slicesFrom upward
   last-is o i zero = refl
   last-is o i (suc t) = ap (λ (l : List ℕ). isLast (slicesFrom T rows buffer count (i + length (groupOf T rows buffer count o i)) l)) (chain-row T t) ∙ sym (ne-eqb (suc t) 0 (λ q. omega arith))
 
-pub record Slicing (T rows buffer : List ℕ) (judged : Bool) (count t : ℕ) (g : Format) (begin : ℕ) (lent : List ℕ) (at o : ℕ) (id : Bool) (i : ℕ) (mid : List ℕ) : Type 0 where
+pub record Slicing (T rows buffer : List ℕ) (judged : Bool) (count t begin : ℕ) (lent : List ℕ) (at o i : ℕ) (mid : List ℕ) : Type 0 where
   pub stand : Stand
-  pub named : due stand g ≡ id
-  pub leaves : Leaves begin (slicesBytes g first (slicesFrom T rows buffer count 0 (chain T t))) lent at (slicesBytes g stand (slicesFrom T rows buffer count i (chain T o))) mid
+  pub named : due stand sliced ≡ true
+  pub leaves : Leaves begin (slicesBytes sliced first (slicesFrom T rows buffer count 0 (chain T t))) lent at (slicesBytes sliced stand (slicesFrom T rows buffer count i (chain T o))) mid
   pub rest : Gives judged (verdictFrom T rows buffer count (stateOf T (start t)) 0) (verdictFrom T rows buffer count (stateOf T (start o)) i)
   pub within : i ≤ count
   pub below : o ≤ t
   pub few : at ≤ begin + 66000 * (i + (t - o))
 
-pub slicing-begin : (T rows buffer : List ℕ) (judged : Bool) (count t : ℕ) (g : Format) (begin : ℕ) (lent : List ℕ) → Slicing T rows buffer judged count t g begin lent begin t true 0 lent
+pub slicing-begin : (T rows buffer : List ℕ) (judged : Bool) (count t begin : ℕ) (lent : List ℕ) → Slicing T rows buffer judged count t begin lent begin t 0 lent
 unfolding due
-slicing-begin T rows buffer judged count t g begin lent = record {
+slicing-begin T rows buffer judged count t begin lent = record {
   stand = first;
   named = refl;
   leaves = leaves-begin begin _ lent;
@@ -80,28 +80,23 @@ slicing-begin T rows buffer judged count t g begin lent = record {
   few = omega arith;
 }
 
-sliced-is : (s : Bool) → isSliced (formatBy s) ≡ s
-sliced-is true = refl
-sliced-is false = refl
-
-module _ (T rows buffer : List ℕ) (judged : Bool) (count t : ℕ) (s : Bool) (begin : ℕ) (lent : List ℕ) (at o : ℕ) (id : Bool) (i : ℕ) (mid : List ℕ)
-    (w : Slicing T rows buffer judged count t (formatBy s) begin lent at o id i mid) (up : ℕ) (e : up ≡ base T o)
-    (last : List ℕ) (d : Laid) (j : SlicePut T rows buffer judged count (formatBy s) id (eqb up 0) o i at mid last d) where
+module _ (T rows buffer : List ℕ) (judged : Bool) (count t begin : ℕ) (lent : List ℕ) (at o i : ℕ) (mid : List ℕ)
+    (w : Slicing T rows buffer judged count t begin lent at o i mid) (up : ℕ) (e : up ≡ base T o)
+    (last : List ℕ) (d : Laid) (j : SlicePut T rows buffer judged count (eqb up 0) o i at mid last d) where
   -- the slices of the chain
   abbrev slices : List ℕ
-  slices = slicesBytes (formatBy s) first (slicesFrom T rows buffer count 0 (chain T t))
+  slices = slicesBytes sliced first (slicesFrom T rows buffer count 0 (chain T t))
 
   pub slicing-wrong : (d .fault ≡ 0 → ⊥) → AllPut T rows buffer judged count t begin slices lent last (Wrong (d .fault) (d .row))
   slicing-wrong n = gives-then judged _ _ _ (w .rest) (j .wrong n)
 
   module _ (f : d .fault ≡ 0) where
-    slice-left : Leaves begin slices lent (d .end) (slicesBytes (formatBy s) (later (formatBy s)) (behind T rows buffer count (formatBy s) o i up)) last
+    slice-left : Leaves begin slices lent (d .end) (slicesBytes sliced (later sliced) (behind T rows buffer count o i up)) last
     slice-left =
-        let b : sliceField T rows buffer count (formatBy s) (due (w .stand) (formatBy s)) (isLast (behind T rows buffer count (formatBy s) o i (base T o))) o i
-        ≡ sliceField T rows buffer count (formatBy s) id (eqb up 0) o i
-        = rw (w .named, last-is T rows buffer count (formatBy s) o i (base T o), ← e) in
-        leaves-next begin _ lent at _ mid (w .leaves) (sliceField T rows buffer count (formatBy s) id (eqb up 0) o i) _ last (d .end)
-        (slices-more T rows buffer count (formatBy s) (w .stand) o i ∙ ap (λ (z : List ℕ). z ++ slicesBytes (formatBy s) (later (formatBy s)) (behind T rows buffer count (formatBy s) o i (base T o))) b ∙ rw e)
+        let b : sliceField T rows buffer count (isLast (behind T rows buffer count o i (base T o))) o i ≡ sliceField T rows buffer count (eqb up 0) o i
+        = rw (last-is T rows buffer count o i (base T o), ← e) in
+        leaves-next begin _ lent at _ mid (w .leaves) (sliceField T rows buffer count (eqb up 0) o i) _ last (d .end)
+        (slices-more T rows buffer count (w .stand) o i (w .named) ∙ ap (λ (z : List ℕ). z ++ slicesBytes sliced (later sliced) (behind T rows buffer count o i (base T o))) b ∙ rw e)
         (j .right f .puts)
 
     verdict-left : Gives judged (verdictFrom T rows buffer count (stateOf T (start t)) 0) (verdictAbove T rows buffer count up (d .row))
@@ -115,14 +110,14 @@ module _ (T rows buffer : List ℕ) (judged : Bool) (count t : ℕ) (s : Bool) (
       unfolding slicesBytes slicesFrom upward
       slicing-end h = ((λ a. verdict-left a ∙ above-right T rows buffer count up (d .row) z h), leaves-end begin _ lent (d .end) _ last slice-left (rw z))
 
-    pub slicing-next : (up ≡ 0 → ⊥) → up ≤ o → Slicing T rows buffer judged count t (formatBy s) begin lent (d .end) (up - 1) s (d .row) last
+    pub slicing-next : (up ≡ 0 → ⊥) → up ≤ o → Slicing T rows buffer judged count t begin lent (d .end) (up - 1) (d .row) last
     unfolding due upward verdictAbove
     slicing-next z h =
         let l = j .right f in
         let q : up ≡ suc (up - 1) = omega (arith, z) in
         record {
-          stand = later (formatBy s);
-          named = sliced-is s;
+          stand = later sliced;
+          named = refl;
           leaves = rw (l .next) (rw q at slice-left);
           rest = rw q at verdict-left;
           within = l .within;
@@ -140,11 +135,11 @@ module _ (T rows buffer : List ℕ) (judged : Bool) (count t k : ℕ) (ek : k �
   pub list-over : d .row < count → Gives judged (verdictFrom T rows buffer count (stateOf T (start t)) 0) (stop 20 (d .row))
   list-over h a = j .right f .rest a ∙ above-over T rows buffer count (base T t) (d .row) (no-base T t (sym ek ∙ z)) h
 
-  pub list-made : (g : Format) → count ≤ d .row → AllPut T rows buffer judged count t 6 (contentsOf T rows buffer count g t) lent last (Made (d .end))
+  pub list-made : count ≤ d .row → AllPut T rows buffer judged count t 6 (contentsOf T rows buffer count t) lent last (Made (d .end))
   unfolding contentsOf
-  list-made g h = ((λ a. j .right f .rest a ∙ above-right T rows buffer count (base T t) (d .row) (no-base T t (sym ek ∙ z)) h), rw (eq-eqb (kind T t) 15 (sym ek ∙ z)) (j .right f .puts))
+  list-made h = ((λ a. j .right f .rest a ∙ above-right T rows buffer count (base T t) (d .row) (no-base T t (sym ek ∙ z)) h), rw (eq-eqb (kind T t) 15 (sym ek ∙ z)) (j .right f .puts))
 
-module _ (T rows buffer : List ℕ) (judged : Bool) (count : ℕ) (g : Format) (t k : ℕ) (ek : k ≡ kind T t) (lent last : List ℕ) where
+module _ (T rows buffer : List ℕ) (judged : Bool) (count t k : ℕ) (ek : k ≡ kind T t) (lent last : List ℕ) where
   -- other bytes are put by the same answer
   all-put : (at to : ℕ) (b c one : List ℕ) (r : Put) → ((n : ℕ) → Puts at b one last n → Puts to c lent last n)
       → AllPut T rows buffer judged count t at b one last r → AllPut T rows buffer judged count t to c lent last r
@@ -153,14 +148,14 @@ module _ (T rows buffer : List ℕ) (judged : Bool) (count : ℕ) (g : Format) (
 
   module _ (n : k ≡ 15 → ⊥) (r : Put) where
     pub contents-class : k ≡ 14 → (mid : List ℕ) → mid ≡ put 6 (leBytes 1 1) lent
-        → AllPut T rows buffer judged count t 7 (slicesBytes g first (slicesFrom T rows buffer count 0 (chain T t))) mid last r → AllPut T rows buffer judged count t 6 (contentsOf T rows buffer count g t) lent last r
+        → AllPut T rows buffer judged count t 7 (slicesBytes sliced first (slicesFrom T rows buffer count 0 (chain T t))) mid last r → AllPut T rows buffer judged count t 6 (contentsOf T rows buffer count t) lent last r
     unfolding contentsOf
     contents-class z mid f p =
         all-put 7 6 _ _ mid r
         (λ e q. rw (ne-eqb (kind T t) 15 (λ h. n (ek ∙ h)), eq-eqb (kind T t) 14 (sym ek ∙ z)) (puts-then 6 (1 ∷ []) lent mid 7 (puts-byte 1 6 lent mid (omega arith) f) _ last e q)) p
 
     pub contents-other : (k ≡ 14 → ⊥)
-        → AllPut T rows buffer judged count t 6 (slicesBytes g first (slicesFrom T rows buffer count 0 (chain T t))) lent last r → AllPut T rows buffer judged count t 6 (contentsOf T rows buffer count g t) lent last r
+        → AllPut T rows buffer judged count t 6 (slicesBytes sliced first (slicesFrom T rows buffer count 0 (chain T t))) lent last r → AllPut T rows buffer judged count t 6 (contentsOf T rows buffer count t) lent last r
     unfolding contentsOf
     contents-other z p = all-put 6 6 _ _ lent r (λ e q. rw (ne-eqb (kind T t) 15 (λ h. n (ek ∙ h)), ne-eqb (kind T t) 14 (λ h. z (ek ∙ h))) q) p
 

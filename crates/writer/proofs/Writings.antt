@@ -6,17 +6,16 @@
 --   answer-short                 a message put into a draft is copied to the output's start
 --   answer-long                  a message put again is at the output's start
 use mathlib.Core.Path.{_≡_, refl, sym, ap, _∙_}
-use mathlib.Core.Bool.{Bool, true, false, _&&_, not}
+use mathlib.Core.Bool.{Bool, true, false, _&&_}
 use mathlib.Core.List.{List, _++_}
 use Prim.Native.Nat.{ℕ, _/_, _≤_, _<_}
 use native.Mathlib.Nat.{zero-add}
 use native.Mathlib.Omega.{arith}
 use lib.ListN.{length, take, drop}
 use lib.Seq.{take-at}
-use lib.Dec.{eqb, leb}
+use lib.Dec.{leb}
 use borrow.Author.Tests.{le-leb, lt-leb}
 use Rattle.encoding.specs.Result.{pick}
-use Rattle.encoding.specs.Slice.{Format}
 use Rattle.encoding.specs.Message.{encapsulate}
 use Rattle.encoding.specs.Write.{Out, out, stop, bounded, output}
 use Rattle.wire.specs.Put.{put}
@@ -28,29 +27,28 @@ use Rattle.pieces.specs.Cursors.{start, stateOf}
 use Rattle.pieces.specs.Judged.{verdictFrom}
 use Rattle.pieces.specs.JudgedLaws.{gives-all}
 use Rattle.pieces.specs.Puts.{Puts}
-use Rattle.writer.specs.Slices.{formatBy}
 use Rattle.writer.specs.Messages.{contentsOf, AllPut, written, outcomeOf}
-use Rattle.writer.specs.MessagesLaws.{written-few, written-wrong, written-right, format-is}
+use Rattle.writer.specs.MessagesLaws.{written-few, written-wrong, written-right}
 
-module _ (T : List ℕ) (top format count : ℕ) (rows buffer lent : List ℕ) where
+module _ (T : List ℕ) (top count : ℕ) (rows buffer lent : List ℕ) where
   -- what is written
   abbrev result : Out (List ℕ)
-  result = written T top format count rows buffer (length lent)
+  result = written T top count rows buffer (length lent)
 
   -- the message
   abbrev message : List ℕ
-  message = encapsulate (contentsOf T rows buffer count (formatBy (not (eqb format 0))) top)
+  message = encapsulate (contentsOf T rows buffer count top)
 
   refused : (n p : ℕ) → result ≡ stop n p → (Stopped n p ≡ outcomeOf result) × (lent ≡ output result lent)
   unfolding outcomeOf output
   refused n p w = (sym (ap outcomeOf w), sym (ap (λ (x : Out (List ℕ)). output x lent) w))
 
   pub answer-few : length rows / 12 < count → (Stopped 20 count ≡ outcomeOf result) × (lent ≡ output result lent)
-  answer-few h = refused 20 count (written-few T top format count rows buffer (length lent) h)
+  answer-few h = refused 20 count (written-few T top count rows buffer (length lent) h)
 
   module _ (enough : count ≤ length rows / 12) (few last : List ℕ) (r : Put) (j : AllPut T rows buffer false count top 0 message few last r) where
     pub answer-wrong : (n p : ℕ) → r ≡ Wrong n p → (Stopped n p ≡ outcomeOf result) × (lent ≡ output result lent)
-    answer-wrong n p q = refused n p (written-wrong T top format count rows buffer (length lent) enough n p (gives-all _ _ (rw q at j)))
+    answer-wrong n p q = refused n p (written-wrong T top count rows buffer (length lent) enough n p (gives-all _ _ (rw q at j)))
 
     module _ (n : ℕ) (q : r ≡ Made n) where
       all-right : (verdictFrom T rows buffer count (stateOf T (start top)) 0 ≡ out tt) × Puts 0 message few last n
@@ -65,9 +63,7 @@ module _ (T : List ℕ) (top format count : ℕ) (rows buffer lent : List ℕ) w
       result-is : (a b : Bool) → leb (length message) 65536 ≡ a → leb (length message) (length lent) ≡ b → result ≡ pick (a && b) (out message) (stop 22 n)
       unfolding bounded
       result-is a b f g =
-          written-right T top format count rows buffer (length lent) enough (all-right .0)
-          ∙ ap (λ (x : Format). bounded (length lent) (encapsulate (contentsOf T rows buffer count x top))) (format-is format)
-          ∙ rw (f, g, long)
+          written-right T top count rows buffer (length lent) enough (all-right .0) ∙ rw (f, g, long)
 
       pub answer-over : 65536 < n → (Stopped 22 n ≡ outcomeOf result) × (lent ≡ output result lent)
       answer-over h = refused 22 n (result-is false (leb (length message) (length lent)) (lt-leb (length message) 65536 (omega (arith, long))) refl)

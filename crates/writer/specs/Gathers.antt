@@ -21,7 +21,7 @@ use Rattle.encoding.specs.Value.{exact}
 use Rattle.encoding.specs.Table.{kind, range, Member, requiredMembers, optionalMembers, nameOf, base, upward, chain}
 use Rattle.encoding.specs.TableLaws.{base-below, chain-row}
 use Rattle.encoding.specs.Optional.{Piece, pieceBytes}
-use Rattle.encoding.specs.Slice.{Format, first, Slice, known, slicesBytes}
+use Rattle.encoding.specs.Slice.{sliced, first, Slice, known, slicesBytes}
 use Rattle.encoding.specs.Message.{Row, list, exception, class, encode}
 use Rattle.encoding.specs.Write.{Out, out, stop, next, State, above, begin, Reached, reachDue, optionalRow, orAbove, entered, reachMay, reach, stillDue, Given, given, partOf, judge, prepend, judgeAll, piecesOf, slicesOf, gathered, rowAt}
 use Rattle.pieces.specs.declared.Cursor.{Cursor}
@@ -308,10 +308,10 @@ module _ (T rows buffer : List ℕ) where
 
   -- ---- the message
 
-  pub contents-are : (count type : ℕ) (g : Format) (gs : List Given) → judgeAll T buffer (stateOf T (start type)) 0 (from 0 count) ≡ out gs
-      → encode g (gathered T type gs) ≡ contentsOf T rows buffer count g type
+  pub contents-are : (count type : ℕ) (gs : List Given) → judgeAll T buffer (stateOf T (start type)) 0 (from 0 count) ≡ out gs
+      → encode sliced (gathered T type gs) ≡ contentsOf T rows buffer count type
   unfolding encode gathered contentsOf stateOf slicesOf slicesFrom sliceOf groupOf
-  contents-are count type g gs j = go (eqb (kind T type) 15) (eqb (kind T type) 14)
+  contents-are count type gs j = go (eqb (kind T type) 15) (eqb (kind T type) 14)
     where
       S : Split count (stateOf T (start type)) 0 count gs
       S = split count count (stateOf T (start type)) 0 gs refl (omega arith) j
@@ -325,8 +325,8 @@ module _ (T rows buffer : List ℕ) where
           ∙ ap₂ (λ (x : List Piece) (y : List Slice). known (nameOf T type) x ∷ y) list-is (S .others ∙ ap (λ (x : List Piece). slicesFrom T rows buffer count (0 + length x) (bases T type)) (sym (S .mine) ∙ list-is))
           ∙ ap (slicesFrom T rows buffer count 0) (sym (chain-row T type))
 
-      go : (a b : Bool) → encode g (pick a (list (piecesOf type gs)) (pick b (class (slicesOf T gs (chain T type))) (exception (slicesOf T gs (chain T type)))))
-          ≡ pick a (concat pieceBytes (groupOf T rows buffer count type 0)) (pick b (1 ∷ slicesBytes g first (slicesFrom T rows buffer count 0 (chain T type))) (slicesBytes g first (slicesFrom T rows buffer count 0 (chain T type))))
+      go : (a b : Bool) → encode sliced (pick a (list (piecesOf type gs)) (pick b (class (slicesOf T gs (chain T type))) (exception (slicesOf T gs (chain T type)))))
+          ≡ pick a (concat pieceBytes (groupOf T rows buffer count type 0)) (pick b (1 ∷ slicesBytes sliced first (slicesFrom T rows buffer count 0 (chain T type))) (slicesBytes sliced first (slicesFrom T rows buffer count 0 (chain T type))))
       go true b = ap (concat pieceBytes) list-is
-      go false true = ap (λ (l : List Slice). 1 ∷ slicesBytes g first l) slices-are
-      go false false = ap (slicesBytes g first) slices-are
+      go false true = ap (λ (l : List Slice). 1 ∷ slicesBytes sliced first l) slices-are
+      go false false = ap (slicesBytes sliced first) slices-are

@@ -3,21 +3,20 @@
 --   groupOf                the pieces of an owner from row i on, of `count` rows
 --   sliceOf                its slice
 --   slicesFrom             the slices of owners, one after another, from row i on
---   formatBy               sliced or compact
---   idField, frontField    a slice's type ID, where one is due; all that comes before its data
+--   frontField             all that comes before a slice's data: flags, type ID, size
 --   RowsLaid, DataLaid, SliceLaid   what is put of an owner's rows, of its slice's data, of its slice, and what the code answers of it
 --   Judges                 the owner's rows are right and that much is put; or the verdict is their refusal
 --   RowsPut, DataPut, SlicePut      the code's answers
 use mathlib.Core.Path.{_≡_}
-use mathlib.Core.Bool.{Bool}
+use mathlib.Core.Bool.{Bool, true}
 use mathlib.Core.List.{List, [], _∷_, _++_}
 use Prim.Native.Nat.{ℕ, _+_, _-_, _*_, _≤_}
 use lib.ListN.{length}
-use Rattle.encoding.specs.Result.{pick, concat}
+use Rattle.encoding.specs.Result.{concat}
 use Rattle.encoding.specs.Number.{leBytes, stringBytes}
 use Rattle.encoding.specs.Table.{nameOf, base}
 use Rattle.encoding.specs.Optional.{Piece, pieceBytes}
-use Rattle.encoding.specs.Slice.{Format, compact, sliced, isSliced, Slice, known, anyOptional, dataBytes, flagBits}
+use Rattle.encoding.specs.Slice.{sliced, Slice, known, anyOptional, dataBytes, flagBits}
 use Rattle.encoding.specs.Write.{stop}
 use Rattle.writer.specs.declared.Laid.{Laid}
 use Rattle.pieces.specs.Cursors.{start, stateOf}
@@ -36,14 +35,8 @@ slicesFrom T rows buffer count i [] = []
 slicesFrom T rows buffer count i (t ∷ ts) =
     sliceOf T rows buffer count t i ∷ slicesFrom T rows buffer count (i + length (groupOf T rows buffer count t i)) ts
 
-abbrev pub formatBy : Bool → Format
-formatBy b = pick b sliced compact
-
-unfoldable pub idField : List ℕ → ℕ → Bool → List ℕ
-idField T o id = pick id (stringBytes (nameOf T o)) []
-
-unfoldable pub frontField : List ℕ → ℕ → Format → Bool → Bool → Bool → ℕ → List ℕ
-frontField T o g id optionals last n = flagBits g id optionals last ∷ (idField T o id ++ pick (isSliced g) (leBytes 4 (4 + n)) [])
+unfoldable pub frontField : List ℕ → ℕ → Bool → Bool → ℕ → List ℕ
+frontField T o optionals last n = flagBits sliced true optionals last ∷ (stringBytes (nameOf T o) ++ leBytes 4 (4 + n))
 
 pub record RowsLaid (T rows buffer : List ℕ) (judged : Bool) (count o i at : ℕ) (out last : List ℕ) (r : Laid) : Type 0 where
   pub puts : Puts at (concat pieceBytes (groupOf T rows buffer count o i)) out last (r .end)
@@ -62,13 +55,13 @@ pub record DataLaid (T rows buffer : List ℕ) (judged : Bool) (count o i at : �
   pub few : r .end ≤ at + 66000 * (r .row - i) + 1
 
 -- the slice's front and data
-unfoldable pub sliceField : List ℕ → List ℕ → List ℕ → ℕ → Format → Bool → Bool → ℕ → ℕ → List ℕ
-sliceField T rows buffer count g id last o i =
-    frontField T o g id (anyOptional (groupOf T rows buffer count o i)) last (length (dataBytes (sliceOf T rows buffer count o i)))
+unfoldable pub sliceField : List ℕ → List ℕ → List ℕ → ℕ → Bool → ℕ → ℕ → List ℕ
+sliceField T rows buffer count last o i =
+    frontField T o (anyOptional (groupOf T rows buffer count o i)) last (length (dataBytes (sliceOf T rows buffer count o i)))
     ++ dataBytes (sliceOf T rows buffer count o i)
 
-pub record SliceLaid (T rows buffer : List ℕ) (judged : Bool) (count : ℕ) (g : Format) (id end : Bool) (o i at : ℕ) (out last : List ℕ) (r : Laid) : Type 0 where
-  pub puts : Puts at (sliceField T rows buffer count g id end o i) out last (r .end)
+pub record SliceLaid (T rows buffer : List ℕ) (judged : Bool) (count : ℕ) (end : Bool) (o i at : ℕ) (out last : List ℕ) (r : Laid) : Type 0 where
+  pub puts : Puts at (sliceField T rows buffer count end o i) out last (r .end)
   pub next : r .row ≡ i + length (groupOf T rows buffer count o i)
   pub within : r .row ≤ count
   pub rest : Gives judged (verdictFrom T rows buffer count (stateOf T (start o)) i) (verdictAbove T rows buffer count (base T o) (r .row))
@@ -84,5 +77,5 @@ RowsPut T rows buffer judged count o i at out last r = Judges T rows buffer judg
 abbrev pub DataPut : List ℕ → List ℕ → List ℕ → Bool → ℕ → ℕ → ℕ → ℕ → List ℕ → List ℕ → Laid → Type 0
 DataPut T rows buffer judged count o i at out last r = Judges T rows buffer judged count o i r (DataLaid T rows buffer judged count o i at out last r)
 
-abbrev pub SlicePut : List ℕ → List ℕ → List ℕ → Bool → ℕ → Format → Bool → Bool → ℕ → ℕ → ℕ → List ℕ → List ℕ → Laid → Type 0
-SlicePut T rows buffer judged count g id end o i at out last r = Judges T rows buffer judged count o i r (SliceLaid T rows buffer judged count g id end o i at out last r)
+abbrev pub SlicePut : List ℕ → List ℕ → List ℕ → Bool → ℕ → Bool → ℕ → ℕ → ℕ → List ℕ → List ℕ → Laid → Type 0
+SlicePut T rows buffer judged count end o i at out last r = Judges T rows buffer judged count o i r (SliceLaid T rows buffer judged count end o i at out last r)

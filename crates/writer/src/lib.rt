@@ -39,7 +39,6 @@ fn write_by_draft(
     begin: usize,
     shapes: &[u8; 256],
     top: usize,
-    format: usize,
     count: usize,
     rows: &[u8],
     buffer: &[u8],
@@ -49,24 +48,12 @@ fn write_by_draft(
     requires { ⌜ begin ≡ typesAt (now table) ⌝ }
     requires { ⌜ now shapes ≡ shapesOf (now table) ⌝ }
     requires { ⌜ (top < 65536) × (count ≤ 4294967296) × (length (now buffer) ≤ 65536) ⌝ }
-    ensures { λ r. ⌜ (r ≡ outcomeOf (written (now (table .entry)) top format count (now (rows .entry)) (now (buffer .entry)) (length (now (out .entry))))) × (now (out .exit) ≡ output (written (now (table .entry)) top format count (now (rows .entry)) (now (buffer .entry)) (length (now (out .entry)))) (now (out .entry))) ⌝ }
+    ensures { λ r. ⌜ (r ≡ outcomeOf (written (now (table .entry)) top count (now (rows .entry)) (now (buffer .entry)) (length (now (out .entry))))) × (now (out .exit) ≡ output (written (now (table .entry)) top count (now (rows .entry)) (now (buffer .entry)) (length (now (out .entry)))) (now (out .entry))) ⌝ }
 {
     if rows.len() / 12 < count {
         return Outcome::Stopped(20, count);
     }
-    let sliced = format != 0;
-    let put = message::put_message(
-        table,
-        begin,
-        shapes,
-        draft,
-        top,
-        sliced,
-        false,
-        count,
-        rows,
-        buffer,
-    );
+    let put = message::put_message(table, begin, shapes, draft, top, false, count, rows, buffer);
     match put {
         Put::Wrong(number, place) => Outcome::Stopped(number, place),
         Put::Made(n) => {
@@ -80,18 +67,7 @@ fn write_by_draft(
                 wire::put_part(out, 0, draft, 0, n);
                 return Outcome::Made(n);
             }
-            message::put_message(
-                table,
-                begin,
-                shapes,
-                out,
-                top,
-                sliced,
-                true,
-                count,
-                rows,
-                buffer,
-            );
+            message::put_message(table, begin, shapes, out, top, true, count, rows, buffer);
             Outcome::Made(n)
         }
     }
@@ -104,7 +80,6 @@ pub fn write_rows(
     begin: usize,
     shapes: &[u8; 256],
     top: usize,
-    format: usize,
     count: usize,
     rows: &[u8],
     buffer: &[u8],
@@ -113,7 +88,7 @@ pub fn write_rows(
     requires { ⌜ begin ≡ typesAt (now table) ⌝ }
     requires { ⌜ now shapes ≡ shapesOf (now table) ⌝ }
     requires { ⌜ (top < 65536) × (count ≤ 4294967296) × (length (now buffer) ≤ 65536) ⌝ }
-    ensures { λ r. ⌜ (r ≡ outcomeOf (written (now (table .entry)) top format count (now (rows .entry)) (now (buffer .entry)) (length (now (out .entry))))) × (now (out .exit) ≡ output (written (now (table .entry)) top format count (now (rows .entry)) (now (buffer .entry)) (length (now (out .entry)))) (now (out .entry))) ⌝ }
+    ensures { λ r. ⌜ (r ≡ outcomeOf (written (now (table .entry)) top count (now (rows .entry)) (now (buffer .entry)) (length (now (out .entry))))) × (now (out .exit) ≡ output (written (now (table .entry)) top count (now (rows .entry)) (now (buffer .entry)) (length (now (out .entry)))) (now (out .entry))) ⌝ }
 {
     if buffer.len() <= 128 {
         let mut few = [0u8; 256];
@@ -122,7 +97,6 @@ pub fn write_rows(
             begin,
             shapes,
             top,
-            format,
             count,
             rows,
             buffer,
@@ -136,7 +110,6 @@ pub fn write_rows(
         begin,
         shapes,
         top,
-        format,
         count,
         rows,
         buffer,

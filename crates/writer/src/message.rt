@@ -5,10 +5,10 @@ ghost use mathlib.Core.Path.{_≡_};
 ghost use Prim.Native.Nat.{_≤_, _<_};
 ghost use lib.ListN.{length};
 ghost use Rattle.encoding.specs.Table.{typesAt, chain};
-ghost use Rattle.encoding.specs.Slice.{first, slicesBytes};
+ghost use Rattle.encoding.specs.Slice.{sliced, first, slicesBytes};
 ghost use Rattle.encoding.specs.Message.{encapsulate};
 ghost use Rattle.shapes.specs.Shapes.{shapesOf};
-ghost use Rattle.writer.specs.Slices.{formatBy, slicesFrom};
+ghost use Rattle.writer.specs.Slices.{slicesFrom};
 ghost use Rattle.writer.specs.Messages.{contentsOf, AllPut};
 
 // Checks the rows and puts the slices of row t and its bases.
@@ -19,7 +19,6 @@ fn put_slices(
     out: &mut [u8],
     start: usize,
     t: usize,
-    sliced: bool,
     judged: bool,
     count: usize,
     rows: &[u8],
@@ -28,11 +27,10 @@ fn put_slices(
     requires { ⌜ begin ≡ typesAt (now table) ⌝ }
     requires { ⌜ now shapes ≡ shapesOf (now table) ⌝ }
     requires { ⌜ (start ≤ 7) × (t < 65536) × (count ≤ 4294967296) × (length (now buffer) ≤ 65536) ⌝ }
-    ensures { λ r. ⌜ AllPut (now (table .entry)) (now (rows .entry)) (now (buffer .entry)) judged count t start (slicesBytes (formatBy sliced) first (slicesFrom (now (table .entry)) (now (rows .entry)) (now (buffer .entry)) count 0 (chain (now (table .entry)) t))) (now (out .entry)) (now (out .exit)) r ⌝ }
+    ensures { λ r. ⌜ AllPut (now (table .entry)) (now (rows .entry)) (now (buffer .entry)) judged count t start (slicesBytes sliced first (slicesFrom (now (table .entry)) (now (rows .entry)) (now (buffer .entry)) count 0 (chain (now (table .entry)) t))) (now (out .entry)) (now (out .exit)) r ⌝ }
 {
     let mut at = start;
     let mut o = t;
-    let mut id = true;
     let mut i = 0;
     loop {
         let up = table::chain::base(table, begin, o);
@@ -43,8 +41,6 @@ fn put_slices(
             out,
             at,
             o,
-            id,
-            sliced,
             up == 0,
             i,
             judged,
@@ -63,7 +59,6 @@ fn put_slices(
         }
         at = d.end;
         o = up - 1;
-        id = sliced;
         i = d.row;
     }
 }
@@ -75,7 +70,6 @@ fn put_contents(
     shapes: &[u8; 256],
     out: &mut [u8],
     t: usize,
-    sliced: bool,
     judged: bool,
     count: usize,
     rows: &[u8],
@@ -84,7 +78,7 @@ fn put_contents(
     requires { ⌜ begin ≡ typesAt (now table) ⌝ }
     requires { ⌜ now shapes ≡ shapesOf (now table) ⌝ }
     requires { ⌜ (t < 65536) × (count ≤ 4294967296) × (length (now buffer) ≤ 65536) ⌝ }
-    ensures { λ r. ⌜ AllPut (now (table .entry)) (now (rows .entry)) (now (buffer .entry)) judged count t 6 (contentsOf (now (table .entry)) (now (rows .entry)) (now (buffer .entry)) count (formatBy sliced) t) (now (out .entry)) (now (out .exit)) r ⌝ }
+    ensures { λ r. ⌜ AllPut (now (table .entry)) (now (rows .entry)) (now (buffer .entry)) judged count t 6 (contentsOf (now (table .entry)) (now (rows .entry)) (now (buffer .entry)) count t) (now (out .entry)) (now (out .exit)) r ⌝ }
 {
     let k = table::kind(table, begin, t);
     if k == 15 {
@@ -111,33 +105,9 @@ fn put_contents(
     }
     if k == 14 {
         wire::put_number(out, 6, 1, 1);
-        return put_slices(
-            table,
-            begin,
-            shapes,
-            out,
-            7,
-            t,
-            sliced,
-            judged,
-            count,
-            rows,
-            buffer,
-        );
+        return put_slices(table, begin, shapes, out, 7, t, judged, count, rows, buffer);
     }
-    put_slices(
-        table,
-        begin,
-        shapes,
-        out,
-        6,
-        t,
-        sliced,
-        judged,
-        count,
-        rows,
-        buffer,
-    )
+    put_slices(table, begin, shapes, out, 6, t, judged, count, rows, buffer)
 }
 
 // Checks the rows and puts the message: the data, then the size and the version before them.
@@ -147,7 +117,6 @@ pub fn put_message(
     shapes: &[u8; 256],
     out: &mut [u8],
     t: usize,
-    sliced: bool,
     judged: bool,
     count: usize,
     rows: &[u8],
@@ -156,20 +125,9 @@ pub fn put_message(
     requires { ⌜ begin ≡ typesAt (now table) ⌝ }
     requires { ⌜ now shapes ≡ shapesOf (now table) ⌝ }
     requires { ⌜ (t < 65536) × (count ≤ 4294967296) × (length (now buffer) ≤ 65536) ⌝ }
-    ensures { λ r. ⌜ AllPut (now (table .entry)) (now (rows .entry)) (now (buffer .entry)) judged count t 0 (encapsulate (contentsOf (now (table .entry)) (now (rows .entry)) (now (buffer .entry)) count (formatBy sliced) t)) (now (out .entry)) (now (out .exit)) r ⌝ }
+    ensures { λ r. ⌜ AllPut (now (table .entry)) (now (rows .entry)) (now (buffer .entry)) judged count t 0 (encapsulate (contentsOf (now (table .entry)) (now (rows .entry)) (now (buffer .entry)) count t)) (now (out .entry)) (now (out .exit)) r ⌝ }
 {
-    let put = put_contents(
-        table,
-        begin,
-        shapes,
-        out,
-        t,
-        sliced,
-        judged,
-        count,
-        rows,
-        buffer,
-    );
+    let put = put_contents(table, begin, shapes, out, t, judged, count, rows, buffer);
     match put {
         Put::Made(n) => {
             wire::put_number(out, 0, 4, n);

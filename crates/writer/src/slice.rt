@@ -7,11 +7,11 @@ use pieces::state;
 ghost use mathlib.Core.Path.{_≡_};
 ghost use Prim.Native.Nat.{_+_, _≤_};
 ghost use lib.ListN.{length};
-ghost use Rattle.encoding.specs.Result.{pick};
-ghost use Rattle.encoding.specs.Table.{typesAt};
+ghost use Rattle.encoding.specs.Number.{stringBytes};
+ghost use Rattle.encoding.specs.Table.{typesAt, nameOf};
 ghost use Rattle.shapes.specs.Shapes.{shapesOf};
 ghost use Rattle.pieces.specs.Puts.{Puts};
-ghost use Rattle.writer.specs.Slices.{formatBy, idField, frontField, RowsPut, DataPut, SlicePut};
+ghost use Rattle.writer.specs.Slices.{frontField, RowsPut, DataPut, SlicePut};
 
 // Checks and puts the rows of owner o from row `first` on.
 pub fn put_rows(
@@ -83,33 +83,27 @@ pub fn put_rows(
     }
 }
 
-// How many bytes the type ID of owner o takes, if it is due.
-fn id_len(table: &[u8], begin: usize, o: usize, id: bool) -> usize
+// How many bytes the type ID of owner o takes.
+pub fn id_len(table: &[u8], begin: usize, o: usize) -> usize
     requires { ⌜ begin ≡ typesAt (now table) ⌝ }
-    ensures { λ r. ⌜ (r ≡ length (idField (now (table .entry)) o id)) × (r ≤ 65540) ⌝ }
+    ensures { λ r. ⌜ (r ≡ length (stringBytes (nameOf (now (table .entry)) o))) × (r ≤ 65540) ⌝ }
 {
-    if id {
-        let n = table::naming::name_length(table, begin, o);
-        return wire::size_len(n) + n;
-    }
-    0
+    let n = table::naming::name_length(table, begin, o);
+    wire::size_len(n) + n
 }
 
-// Puts the type ID of owner o, if it is due, and returns its end.
-fn put_id(table: &[u8], begin: usize, out: &mut [u8], at: usize, o: usize, id: bool) -> usize
+// Puts the type ID of owner o and returns its end.
+fn put_id(table: &[u8], begin: usize, out: &mut [u8], at: usize, o: usize) -> usize
     requires { ⌜ begin ≡ typesAt (now table) ⌝ }
     requires { ⌜ at ≤ 1152921504606846976 ⌝ }
-    ensures { λ r. ⌜ Puts at (idField (now (table .entry)) o id) (now (out .entry)) (now (out .exit)) r × (r ≤ at + 65540) ⌝ }
+    ensures { λ r. ⌜ Puts at (stringBytes (nameOf (now (table .entry)) o)) (now (out .entry)) (now (out .exit)) r × (r ≤ at + 65540) ⌝ }
 {
-    if id {
-        let n = table::naming::name_length(table, begin, o);
-        let name = table::naming::name_start(table, begin, o);
-        let k = wire::size_len(n);
-        wire::put_size(out, at, n);
-        wire::put_part(out, at + k, table, name, n);
-        return at + k + n;
-    }
-    at
+    let n = table::naming::name_length(table, begin, o);
+    let name = table::naming::name_start(table, begin, o);
+    let k = wire::size_len(n);
+    wire::put_size(out, at, n);
+    wire::put_part(out, at + k, table, name, n);
+    at + k + n
 }
 
 // Checks the rows of owner o and puts a slice's data: the rows and, after optionals, byte 255.
@@ -159,42 +153,25 @@ fn put_data(
     d
 }
 
-// How many bytes come before a slice's data: flags, type ID, size.
-fn front_len(table: &[u8], begin: usize, o: usize, id: bool, sliced: bool) -> usize
-    requires { ⌜ begin ≡ typesAt (now table) ⌝ }
-    ensures { λ r. ⌜ (r ≡ 1 + length (idField (now (table .entry)) o id) + pick sliced 4 0) × (r ≤ 65545) ⌝ }
-{
-    let n = 1 + id_len(table, begin, o, id);
-    if sliced {
-        return n + 4;
-    }
-    n
-}
-
-// Puts what comes before a slice's data of n bytes and returns its end.
-fn put_front(
+// Puts what comes before a slice's data of n bytes, which are flags, type ID and size, and returns its end.
+pub fn put_front(
     table: &[u8],
     begin: usize,
     out: &mut [u8],
     at: usize,
     o: usize,
-    id: bool,
-    sliced: bool,
     optionals: bool,
     last: bool,
     n: usize,
 ) -> usize
     requires { ⌜ begin ≡ typesAt (now table) ⌝ }
     requires { ⌜ (at ≤ 576460752303423488) × (n ≤ 576460752303423488) ⌝ }
-    ensures { λ r. ⌜ Puts at (frontField (now (table .entry)) o (formatBy sliced) id optionals last n) (now (out .entry)) (now (out .exit)) r ⌝ }
+    ensures { λ r. ⌜ Puts at (frontField (now (table .entry)) o optionals last n) (now (out .entry)) (now (out .exit)) r × (r ≤ at + 65545) ⌝ }
 {
-    wire::put_number(out, at, 1, wire::slice_flags(id, optionals, sliced, last));
-    let a = put_id(table, begin, out, at + 1, o, id);
-    if sliced {
-        wire::put_number(out, a, 4, 4 + n);
-        return a + 4;
-    }
-    a
+    wire::put_number(out, at, 1, wire::slice_flags(true, optionals, true, last));
+    let a = put_id(table, begin, out, at + 1, o);
+    wire::put_number(out, a, 4, 4 + n);
+    a + 4
 }
 
 // Checks the rows of owner o and puts its slice: the data first, then what comes before them.
@@ -205,8 +182,6 @@ pub fn put_slice(
     out: &mut [u8],
     at: usize,
     o: usize,
-    id: bool,
-    sliced: bool,
     last: bool,
     first: usize,
     judged: bool,
@@ -217,9 +192,9 @@ pub fn put_slice(
     requires { ⌜ begin ≡ typesAt (now table) ⌝ }
     requires { ⌜ now shapes ≡ shapesOf (now table) ⌝ }
     requires { ⌜ (at ≤ 288230376151711744) × (first ≤ count) × (count ≤ 4294967296) × (length (now buffer) ≤ 65536) ⌝ }
-    ensures { λ r. ⌜ SlicePut (now (table .entry)) (now (rows .entry)) (now (buffer .entry)) judged count (formatBy sliced) id last o first at (now (out .entry)) (now (out .exit)) r ⌝ }
+    ensures { λ r. ⌜ SlicePut (now (table .entry)) (now (rows .entry)) (now (buffer .entry)) judged count last o first at (now (out .entry)) (now (out .exit)) r ⌝ }
 {
-    let start = at + front_len(table, begin, o, id, sliced);
+    let start = at + 5 + id_len(table, begin, o);
     let d = put_data(
         table,
         begin,
@@ -237,6 +212,6 @@ pub fn put_slice(
         return d;
     }
     let n = d.end - start;
-    put_front(table, begin, out, at, o, id, sliced, d.optionals, last, n);
+    put_front(table, begin, out, at, o, d.optionals, last, n);
     d
 }

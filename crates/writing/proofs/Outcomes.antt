@@ -73,7 +73,7 @@ module _ (T : List ℕ) (top format count : ℕ) (rows buffer : List ℕ) (room 
       go fine e zero i h = let z : _≡_ {A = ℕ} 0 1 = cc in absurd (omega arith)
       go fine e (suc n) i h = let ec : suc n ≡ c = cc in let ep : 0 ≡ p = cc in rw (e, i, ec, ep)
 
-  writing-rows : faults T ≡ fine → before T top format (length buffer) ≡ 0 → result ≡ written T top format count rows buffer room
+  writing-rows : faults T ≡ fine → before T top format (length buffer) ≡ 0 → result ≡ written T top count rows buffer room
   unfolding before early writing message tableRules stoppedFirst next written
   writing-rows f e =
       rw (f, e)
@@ -116,17 +116,17 @@ module _ (T : List ℕ) (top format count : ℕ) (rows buffer lent : List ℕ) w
       refused-output = stopped-output answered c p refused lent
 
     module _ (q : r ≡ Ready) where
-      rows-answered : written T top format count rows buffer (length lent) ≡ answered
+      rows-answered : written T top count rows buffer (length lent) ≡ answered
       rows-answered =
           sym (writing-rows T top format count rows buffer (length lent) (ready-table T top format (length buffer) r er q) (ready-early T top format (length buffer) r er q))
 
-      pub rows-outcome : (o : Outcome) → o ≡ outcomeOf (written T top format count rows buffer (length lent)) → o ≡ outcomeOf answered
+      pub rows-outcome : (o : Outcome) → o ≡ outcomeOf (written T top count rows buffer (length lent)) → o ≡ outcomeOf answered
       rows-outcome o e = e ∙ ap outcomeOf rows-answered
 
-      pub rows-fits : (o : Outcome) → o ≡ outcomeOf (written T top format count rows buffer (length lent)) → count < 4294967296 → Fits o
+      pub rows-fits : (o : Outcome) → o ≡ outcomeOf (written T top count rows buffer (length lent)) → count < 4294967296 → Fits o
       rows-fits o e few = outcome-fits few o (rows-outcome o e)
 
-      pub rows-output : (last : List ℕ) → last ≡ output (written T top format count rows buffer (length lent)) lent → last ≡ output answered lent
+      pub rows-output : (last : List ℕ) → last ≡ output (written T top count rows buffer (length lent)) lent → last ≡ output answered lent
       rows-output last e = e ∙ ap (λ (x : Out (List ℕ)). output x lent) rows-answered
 
 -- ---- the answer

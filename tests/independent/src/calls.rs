@@ -1,7 +1,7 @@
 //! Calls and their answers, as the recorded calls have them: one JSON object a line.
 
 use crate::json::{hex, Json};
-use crate::{check, member, read, write, Reading, Refusal};
+use crate::{check, convert, member, read, write, Reading, Refusal};
 
 #[derive(Clone, Debug)]
 pub enum Call {
@@ -32,6 +32,13 @@ pub enum Call {
         member: u32,
         fallback: Vec<u8>,
     },
+    /// `room` bytes of the output.
+    Convert {
+        table: Vec<u8>,
+        top: u32,
+        message: Vec<u8>,
+        room: usize,
+    },
 }
 
 #[derive(Clone, Debug, PartialEq)]
@@ -45,6 +52,7 @@ pub enum Answer {
         reading: Reading,
         rows: Vec<[u32; 3]>,
     },
+    /// The converter's too.
     Write {
         refusal: Refusal,
         out: Vec<u8>,
@@ -64,9 +72,11 @@ impl Call {
     /// The table that the call is made under.
     pub fn table(&self) -> &[u8] {
         match self {
-            Call::Check { table } | Call::Read { table, .. } | Call::Write { table, .. } | Call::View { table, .. } => {
-                table
-            }
+            Call::Check { table }
+            | Call::Read { table, .. }
+            | Call::Write { table, .. }
+            | Call::View { table, .. }
+            | Call::Convert { table, .. } => table,
         }
     }
 
@@ -99,6 +109,11 @@ impl Call {
                 };
                 Answer::View { from, bytes: bytes.to_vec() }
             }
+            Call::Convert { table, top, message, room } => {
+                let mut out = vec![LENT; *room];
+                let result = convert(table, *top, message, &mut out);
+                Answer::of_write(result.err().unwrap_or_default(), result.unwrap_or_default(), &out)
+            }
         }
     }
 
@@ -112,6 +127,16 @@ impl Call {
                 member,
                 fallback: vec![LENT; 3],
             }),
+            _ => None,
+        }
+    }
+
+    /// The conversion of the message that this call reads, into an output of so many bytes.
+    pub fn conversion(&self, room: usize) -> Option<Call> {
+        match self {
+            Call::Read { table, top, message, .. } => {
+                Some(Call::Convert { table: table.clone(), top: *top, message: message.clone(), room })
+            }
             _ => None,
         }
     }
@@ -153,6 +178,12 @@ impl Call {
                 let (message, fallback) = (call.bytes("msg")?, call.bytes("fallback")?);
                 (Call::View { table, top, message, member, fallback }, Answer::View { from, bytes })
             }
+            "convert" => {
+                let (top, room) = (call.number("top")?, call.number("room")? as usize);
+                let out = expect.bytes("out")?;
+                let call = Call::Convert { table, top, message: call.bytes("msg")?, room };
+                (call, Answer::Write { refusal: refusal()?, out })
+            }
             _ => return None,
         })
     }
@@ -176,6 +207,9 @@ impl Call {
                 hex(message),
                 hex(fallback)
             ),
+            Call::Convert { table, top, message, room } => {
+                format!(r#""op":"convert","table":"{}","top":{top},"msg":"{}","room":{room}"#, hex(table), hex(message))
+            }
         };
         format!(r#"{{{fields},"expect":{}}}"#, expect.json())
     }

@@ -51,9 +51,19 @@ extern "C" {
         out: *mut u8,
         out_length: usize,
     ) -> u32;
+    fn icehub_convert(
+        table: *const u8,
+        table_length: usize,
+        top: u32,
+        message: *const u8,
+        message_length: usize,
+        out: *mut u8,
+        out_length: usize,
+    ) -> u32;
 }
 
-/// Declares the further calls of the reader and the writer, which differ in their names only.
+/// Declares the further calls of the reader, which the converter's are like, and of the writer; they differ in their
+/// names only.
 macro_rules! further {
     (read: $($read:ident)*; write: $($write:ident)*) => {
         extern "C" {
@@ -83,7 +93,8 @@ macro_rules! further {
 
 further! {
     read: icehub_read_place icehub_read_type icehub_read_format icehub_read_count
-        icehub_read_optionals_skipped icehub_read_slices_skipped;
+        icehub_read_optionals_skipped icehub_read_slices_skipped
+        icehub_convert_place icehub_convert_length;
     write: icehub_write_place icehub_write_length
 }
 
@@ -156,6 +167,14 @@ pub fn write(table: &[u8], of: u32, format: u32, count: u32, rows: &[u8], buffer
     }
 }
 
+/// The converter: 0 or the refusal number.
+pub fn convert(table: &[u8], top: u32, message: &[u8], out: &mut [u8]) -> u32 {
+    // SAFETY: as above; only `out` is written.
+    unsafe {
+        icehub_convert(table.as_ptr(), table.len(), top, message.as_ptr(), message.len(), out.as_mut_ptr(), out.len())
+    }
+}
+
 type ReadNumber = unsafe extern "C" fn(*const u8, usize, u32, *const u8, usize, usize) -> u32;
 type WriteNumber =
     unsafe extern "C" fn(*const u8, usize, u32, u32, u32, *const u8, usize, *const u8, usize, usize) -> u32;
@@ -169,6 +188,8 @@ const READ_NUMBERS: [(&str, ReadNumber); 6] = [
     ("icehub_read_optionals_skipped", icehub_read_optionals_skipped),
     ("icehub_read_slices_skipped", icehub_read_slices_skipped),
 ];
+const CONVERT_NUMBERS: [(&str, ReadNumber); 2] =
+    [("icehub_convert_place", icehub_convert_place), ("icehub_convert_length", icehub_convert_length)];
 const WRITE_NUMBERS: [(&str, WriteNumber); 2] =
     [("icehub_write_place", icehub_write_place), ("icehub_write_length", icehub_write_length)];
 
@@ -292,6 +313,19 @@ pub fn each(call: &Call, mut run: impl FnMut(&'static str, &mut dyn FnMut())) {
             });
         }
         Call::View { .. } => {}
+        Call::Convert { table, top, message, room } => {
+            let mut lent = vec![LENT; *room];
+            run("icehub_convert", &mut || {
+                black_box(convert(table, *top, message, &mut lent));
+            });
+            let (table, message) = (&table[..], &message[..]);
+            for (name, number) in CONVERT_NUMBERS {
+                // SAFETY: as above.
+                run(name, &mut || unsafe {
+                    black_box(number(table.as_ptr(), table.len(), *top, message.as_ptr(), message.len(), *room));
+                });
+            }
+        }
     }
 }
 
@@ -329,6 +363,16 @@ pub fn answer(call: &Call) -> Option<Answer> {
                 number(table, length, *of, *format, *count, rows, rows_length, buffer, buffer_length, *room)
             };
             Some(Answer::of_write((refusal, further(icehub_write_place)), further(icehub_write_length), &lent))
+        }
+        Call::Convert { table, top, message, room } => {
+            let mut lent = vec![LENT; *room];
+            let refusal = convert(table, *top, message, &mut lent);
+            let (table, message) = (&table[..], &message[..]);
+            // SAFETY: as above.
+            let further = |number: ReadNumber| unsafe {
+                number(table.as_ptr(), table.len(), *top, message.as_ptr(), message.len(), *room)
+            };
+            Some(Answer::of_write((refusal, further(icehub_convert_place)), further(icehub_convert_length), &lent))
         }
         Call::View { table, top, message, member, fallback } => Some(view((table, *top, message), *member, fallback)),
         Call::Check { table } => {

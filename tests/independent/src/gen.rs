@@ -339,7 +339,7 @@ fn rows(rng: &mut Rng, types: &Types, top: u16, wrong: Wrong) -> Rows {
             buffer.extend(&message[place as usize..(place + length) as usize]);
         }
     }
-    Rows { table: types.spec.bytes(), of: reading.first, format: reading.format, rows, buffer }
+    Rows { table: types.spec.bytes(), of: reading.first, format: 1, rows, buffer }
 }
 
 impl Rows {

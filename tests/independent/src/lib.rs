@@ -3,6 +3,7 @@
 //! - [`check`]: the rules of a type table, [`forms`]: how its types are written as optionals.
 //! - [`read`]: the rows of a message, [`member`]: the bytes of one member.
 //! - [`write`]: a message from rows and the buffer they point into.
+//! - [`convert`]: the sliced form of a compact record.
 //!
 //! A refusal is its number and its place. No call panics on any input, and on a refusal every lent byte stays.
 
@@ -14,11 +15,13 @@ pub mod json;
 pub mod replay;
 pub mod spec;
 
+mod convert;
 mod read;
 mod table;
 mod value;
 mod write;
 
+pub use convert::convert;
 pub use read::{member, read, Reading};
 pub use table::{check, forms};
 pub use write::write;

@@ -55,6 +55,7 @@ impl<'a> Records<'a> {
             }
             4 => Call::Read { table: held, top: a, message: bytes.to_vec(), room: RECORDS },
             5 => Call::Check { table: held },
+            6 => Call::Convert { table: held, top: a, message: bytes.to_vec(), room: b as usize },
             _ => return None,
         };
         Some(Some(Recorded { call, is_of_records: kind == 4 }))
@@ -86,6 +87,7 @@ impl Recorded {
             Call::Write { of, format, count, rows, buffer, room, .. } => {
                 ([3, *of, *format, *count, rows.len() as u32, *room as u32], [&rows[..], buffer].concat())
             }
+            Call::Convert { top, message, room, .. } => ([6, *top, *room as u32, 0, 0, 0], message.clone()),
         };
         let [kind, a, b, c, d, e] = numbers;
         record(kind, [a, b, c, d, e], &bytes)
@@ -127,7 +129,8 @@ fn letter((optional, has_own_size): (u8, bool)) -> char {
     }
 }
 
-/// Whether a message with nothing skipped, written again from its own rows in its own format, is the same.
+/// Whether a message with nothing skipped, written again from its own rows in its own format, is the same. A compact
+/// record is not: its format is refused.
 fn is_written_again(call: &Call, reading: &Reading, rows: &[[u32; 3]]) -> bool {
     let Call::Read { table, message, .. } = call else { return false };
     let list: Vec<u8> = rows.iter().flatten().flat_map(|number| number.to_le_bytes()).collect();

@@ -17,7 +17,7 @@ pub fn write(
     let mut shapes = [Shape::NONE; 256];
     let table = Table::check(table, &mut shapes)?;
     let of = table.wanted(of)?;
-    if format > 1 || format == 0 && table.kind(of) == LIST {
+    if format != 1 {
         return Err((23, 0));
     }
     if buffer.len() > MOST {
@@ -26,7 +26,7 @@ pub fn write(
     let Some(rows) = rows.as_chunks().0.get(..count as usize) else {
         return Err((20, count));
     };
-    let writer = Writer { table: &table, of, sliced: format == 1, rows, buffer };
+    let writer = Writer { table: &table, of, rows, buffer };
     let length = writer.length()?;
     if length > MOST || length > out.len() {
         return Err((22, length as u32));
@@ -38,7 +38,6 @@ pub fn write(
 struct Writer<'w> {
     table: &'w Table<'w>,
     of: usize,
-    sliced: bool,
     rows: &'w [[u8; 12]],
     buffer: &'w [u8],
 }
@@ -52,7 +51,7 @@ impl<'w> Writer<'w> {
         let mut next = 0;
         for r in table.chain(self.of) {
             let owner = table.row(r);
-            length += self.frame(r, &owner);
+            length += self.frame(&owner);
             for m in owner.members() {
                 let member = table.member(m);
                 if member.required() {
@@ -102,17 +101,12 @@ impl<'w> Writer<'w> {
             let optionals = slice.last().is_some_and(|row| !required(row));
             let mut size = None;
             if owner.kind != LIST {
-                let has_id = self.sliced || r == self.of;
                 let last = owner.base().is_none();
-                out.put(&[has_id as u8 | (optionals as u8) << 2 | (self.sliced as u8) << 4 | (last as u8) << 5]);
-                if has_id {
-                    out.size(table.name(&owner).len());
-                    out.put(table.name(&owner));
-                }
-                if self.sliced {
-                    size = Some(out.at);
-                    out.put(&[0; 4]);
-                }
+                out.put(&[1 | (optionals as u8) << 2 | 1 << 4 | (last as u8) << 5]);
+                out.size(table.name(&owner).len());
+                out.put(table.name(&owner));
+                size = Some(out.at);
+                out.put(&[0; 4]);
             }
             for row in slice {
                 let (m, place, length) = (number(row, 0), number(row, 4), number(row, 8));
@@ -165,13 +159,12 @@ impl<'w> Writer<'w> {
     }
 
     /// The bytes of a slice's flags, type ID and size.
-    fn frame(&self, r: usize, owner: &TypeRow) -> usize {
+    fn frame(&self, owner: &TypeRow) -> usize {
         if owner.kind == LIST {
             return 0;
         }
         let name = self.table.name(owner).len();
-        let id = if self.sliced || r == self.of { size_length(name) + name } else { 0 };
-        1 + id + if self.sliced { 4 } else { 0 }
+        1 + size_length(name) + name + 4
     }
 
     /// The member row that a row names.

@@ -2,7 +2,7 @@
 
 use independent::json::unhex;
 use independent::spec::{Member, Spec};
-use independent::{check, member, read, write, Reading, Refusal};
+use independent::{check, convert, member, read, write, Reading, Refusal};
 
 type Row = [u32; 3];
 
@@ -180,9 +180,48 @@ fn exceptions() {
     assert_eq!(rows_of(&table, base.into(), &sliced([18, 50])), Err((13, 6)));
 
     let compact = wrapped(&[&[1, 9][..], b"::Derived", &own, &[32], &bases].concat());
-    let rows = [[2, 17, 1], [3, 18, 7], [4, 25, 8], [0, 34, 4], [1, 38, 6]];
-    let reading = there_and_back(&table, derived.into(), &compact, &rows);
+    let (rows, reading) = rows_of(&table, derived.into(), &compact).unwrap();
+    assert_eq!(rows, [[2, 17, 1], [3, 18, 7], [4, 25, 8], [0, 34, 4], [1, 38, 6]]);
     assert_eq!((reading.first, reading.format), (derived.into(), 0));
+
+    // Format 0 is refused in writing; the record is converted to the sliced one.
+    let list: Vec<u8> = rows.iter().flatten().flat_map(|number| number.to_le_bytes()).collect();
+    assert_eq!(write(&table, derived.into(), 0, 5, &list, &compact, &mut [0; 100]), Err((23, 0)));
+    let expected = sliced([17, 49]);
+    let mut out = vec![0xA5; expected.len() + 1];
+    assert_eq!(convert(&table, derived.into(), &compact, &mut out), Ok(expected.len() as u32));
+    assert_eq!(out, [&expected[..], &[0xA5]].concat());
+}
+
+/// The converter's refusals, after the reader's own: 47, 48, 22, each before the output is touched.
+#[test]
+fn conversions_refused() {
+    let mut spec = Spec::default();
+    let byte = spec.basic(1);
+    let base = spec.record(14, None, b"B", &[(byte, None)]);
+    let derived = spec.record(14, Some(base), b"D", &[(byte, Some(1))]);
+    let list = spec.owner(15, &[(byte, None)]);
+    let table = spec.bytes();
+    let of = |top: u16, body: &str, room: usize| {
+        let mut out = vec![0xA5; room];
+        let length = convert(&table, top.into(), &wrapped(&bytes(body)), &mut out);
+        assert!(length.is_ok() || out.iter().all(|&byte| byte == 0xA5));
+        length.map(|length| out[..length as usize].to_vec())
+    };
+    let sliced = wrapped(&bytes("01 15 01 44 07 00 00 00 08 09 FF 31 01 42 05 00 00 00 07"));
+    let compact = "01 05 01 44 08 09 FF 20 07";
+    assert_eq!(of(base, compact, 100), Ok(sliced.clone()));
+    assert_eq!((of(base, compact, 25), of(base, compact, 24)), (Ok(sliced), Err((22, 25))));
+    assert_eq!(of(base, "01 15 01 44 07 00 00 00 08 09 FF 31 01 42 05 00 00 00 07", 100), Err((47, 0)));
+    assert_eq!(of(list, "07", 100), Err((47, 0)));
+    // An unknown optional, which is skipped; 48 comes before 22.
+    assert_eq!(of(base, "01 05 01 44 08 09 10 09 FF 20 07", 0), Err((48, 0)));
+    assert_eq!(of(base, "01 25 01 42 07 10 09 FF", 100), Err((48, 0)));
+    // The reader's own: an unknown type, bytes after the record, a top that is none.
+    assert_eq!(of(base, "01 21 01 58", 0), Err((15, 8)));
+    assert_eq!(of(base, "01 21 01 42 07 07", 0), Err((18, 11)));
+    assert_eq!(of(9, compact, 0), Err((2, 0)));
+    assert_eq!(of(derived, "01 21 01 42 07", 100), Err((17, 7)));
 }
 
 /// 000's reply: a nil proxy with tag 300, an FSize that does not count itself.

@@ -30,24 +30,35 @@ fn conforming_messages_are_read_as_made() {
 
 #[test]
 fn what_is_read_with_nothing_skipped_is_written_again() {
-    let mut whole = 0;
-    conforming(2, 8_000, |types, _, made| {
+    let (mut whole, mut converted) = (0, 0);
+    conforming(2, 8_000, |types, top, made| {
         let Message { bytes: buffer, rows, reading, .. } = made;
         let call = Call::Write {
             table: types.spec.bytes(),
             of: reading.first,
-            format: reading.format,
+            format: 1,
             count: reading.rows,
             rows: rows.iter().flatten().flat_map(|number| number.to_le_bytes()).collect(),
             buffer: buffer.clone(),
-            room: buffer.len(),
+            room: 65_536,
         };
         let Answer::Write { refusal: (0, 0), out } = call.answer() else {
             panic!("{}", call.json(&call.answer()));
         };
-        if (reading.optionals_skipped, reading.slices_skipped) == (0, 0) {
+        // A compact record comes back converted.
+        let (table, message) = (types.spec.bytes(), buffer.clone());
+        let conversion = Call::Convert { table, top, message, room: out.len() }.answer();
+        let is_whole = (reading.optionals_skipped, reading.slices_skipped) == (0, 0);
+        let refusal = if reading.format == 1 { 47 } else { 48 };
+        if is_whole && reading.format == 1 {
             whole += 1;
             assert_eq!(out, buffer);
+        }
+        if is_whole && reading.format == 0 {
+            converted += 1;
+            assert_eq!(conversion, Answer::Write { refusal: (0, 0), out: out.clone() });
+        } else {
+            assert_eq!(conversion, Answer::Write { refusal: (refusal, 0), out: vec![] });
         }
         // In any case the same members and bytes, with nothing to be skipped any more.
         let (message, room) = (out.clone(), 12 * rows.len());
@@ -55,13 +66,13 @@ fn what_is_read_with_nothing_skipped_is_written_again() {
         let Answer::Read { refusal: (0, 0), reading: second, rows: second_rows } = again.answer() else {
             panic!("{}", again.json(&again.answer()));
         };
-        assert_eq!(second, Reading { optionals_skipped: 0, slices_skipped: 0, ..reading });
+        assert_eq!(second, Reading { format: 1, optionals_skipped: 0, slices_skipped: 0, ..reading });
         let part = |bytes: &[u8], row: &[u32; 3]| bytes[row[1] as usize..(row[1] + row[2]) as usize].to_vec();
         for (row, second) in rows.iter().zip(&second_rows) {
             assert_eq!((row[0], part(&buffer, row)), (second[0], part(&out, second)));
         }
     });
-    assert!(whole > 5_000);
+    assert!(whole > 3_000 && converted > 1_500, "{whole} {converted}");
 }
 
 #[test]
@@ -100,9 +111,9 @@ fn strings_that_are_no_text_are_refused() {
         let row = |place: usize| rows.iter().position(|row| (row[1]..row[1] + row[2]).contains(&(place as u32)));
         let inside = wrong.clone().find_map(|string| Some((string.what, row(string.place)?)));
         let refusal = inside.map_or((0, 0), |(_, row)| (21, row as u32));
-        let (of, format, count) = (reading.first, reading.format, reading.rows);
+        let (of, format, count) = (reading.first, 1, reading.rows);
         let list = rows.iter().flatten().flat_map(|number| number.to_le_bytes()).collect();
-        let call = Call::Write { table, of, format, count, rows: list, room: bytes.len(), buffer: bytes };
+        let call = Call::Write { table, of, format, count, rows: list, room: 2 * bytes.len() + 65_536, buffer: bytes };
         let Answer::Write { refusal: given, .. } = call.answer() else { panic!() };
         assert_eq!(given, refusal, "{}", call.json(&call.answer()));
 

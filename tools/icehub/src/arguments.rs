@@ -1,7 +1,7 @@
 //! The command line, and the help.
 
 use crate::input::Source;
-use crate::show;
+use crate::{convert, show};
 use std::ffi::OsString;
 
 /// What is to be done.
@@ -11,6 +11,7 @@ pub enum Command {
     Version,
     Show(show::Request),
     Table(Source),
+    Convert(convert::Request),
 }
 
 const HELP: &str = "\
@@ -18,6 +19,7 @@ icehub: shows messages of Ice encoding 1.1 by their type table
 
   icehub show [--json] [--hex] TABLE TOP FILE..   show messages, or why they are refused
   icehub table TABLE                              show a type table, or where it breaks a rule
+  icehub convert TABLE TOP FILE.. --to DIR        convert compact records to sliced ones
   icehub --version                                print the version
   icehub --help, icehub COMMAND --help            print help
 
@@ -61,6 +63,25 @@ shows the rows before it.
 Exit status: 0 no rule is broken, 1 a rule is broken, 2 something could not be done (arguments, files).
 ";
 
+const CONVERT_HELP: &str = "\
+icehub convert [--hex] [--overwrite] TABLE TOP FILE.. --to DIR
+
+Converts each compact record to the sliced one with the same members and bytes, which hubs with older tables can read. It
+is put into DIR, in a file of the same name. Says for each FILE how many bytes were written, or why it was refused: 47 is
+no compact record (a sliced one, or a parameter list), 48 one of which TABLE does not know everything. Only what is
+converted is written. A summary comes at the end.
+
+  TABLE        the type table, a file
+  TOP          the wanted type: the number of its row, counted from 0, or the name of an exception or class
+  FILE..       the records, one in each file
+  --to DIR     the folder for the converted records; it is made if it is not there
+  --overwrite  a file that is in DIR already may be overwritten; without this it stays, and that is told
+  --hex        the FILEs are hex text: pairs of digits, with any white space between them
+  --           what follows is no option
+
+Exit status: 0 all records converted, 1 some refused, 2 something could not be done (arguments, files).
+";
+
 /// The command of these words, or what is wrong with them.
 pub fn parse(words: impl IntoIterator<Item = OsString>) -> Result<Command, String> {
     let mut words = words.into_iter();
@@ -72,6 +93,7 @@ pub fn parse(words: impl IntoIterator<Item = OsString>) -> Result<Command, Strin
         Some("--version" | "-V") => Ok(Command::Version),
         Some("show") => parse_show(words),
         Some("table") => parse_table(words),
+        Some("convert") => parse_convert(words),
         _ => Err(format!("{} is no command; see icehub --help", first.to_string_lossy())),
     }
 }
@@ -80,17 +102,20 @@ pub fn parse(words: impl IntoIterator<Item = OsString>) -> Result<Command, Strin
 #[derive(Default)]
 struct Words {
     options: Vec<&'static str>,
+    /// What follows `--to`.
+    to: Option<OsString>,
     operands: Vec<OsString>,
 }
 
-/// The options and the other words, in order. None where help is asked for.
+/// The options and the other words, in order; `--to` takes the word after it. None where help is asked for.
 fn split(
     words: impl Iterator<Item = OsString>,
     known: &[&'static str],
     command: &str,
 ) -> Result<Option<Words>, String> {
     let (mut found, mut ended) = (Words::default(), false);
-    for word in words {
+    let mut words = words;
+    while let Some(word) = words.next() {
         let text = word.to_str().unwrap_or_default();
         if ended || !text.starts_with('-') || text == "-" {
             found.operands.push(word);
@@ -98,6 +123,12 @@ fn split(
             ended = true;
         } else if text == "--help" || text == "-h" {
             return Ok(None);
+        } else if text == "--to" && known.contains(&"--to") {
+            match (words.next(), &found.to) {
+                (Some(to), None) => found.to = Some(to),
+                (Some(_), Some(_)) => return Err("--to is named twice".to_string()),
+                (None, _) => return Err("DIR is missing after --to".to_string()),
+            }
         } else if let Some(option) = known.iter().find(|&&option| option == text) {
             found.options.push(*option);
         } else {
@@ -108,27 +139,46 @@ fn split(
 }
 
 fn parse_show(words: impl Iterator<Item = OsString>) -> Result<Command, String> {
-    let Some(Words { options, operands }) = split(words, &["--json", "--hex"], "show")? else {
+    let Some(Words { options, operands, .. }) = split(words, &["--json", "--hex"], "show")? else {
         return Ok(Command::Help(SHOW_HELP));
     };
+    let (table, top, files) = messages(operands, "show")?;
+    let is = |option| options.contains(&option);
+    Ok(Command::Show(show::Request { json: is("--json"), hex: is("--hex"), table, top, files }))
+}
+
+/// TABLE, TOP and the FILEs of a command.
+fn messages(operands: Vec<OsString>, command: &str) -> Result<(Source, String, Vec<Source>), String> {
     let mut operands = operands.into_iter();
     let (Some(table), Some(top)) = (operands.next(), operands.next()) else {
-        return Err("TABLE or TOP is missing; see icehub show --help".to_string());
+        return Err(format!("TABLE or TOP is missing; see icehub {command} --help"));
     };
     let files: Vec<_> = operands.map(Source::new).collect();
     if files.is_empty() {
-        return Err("a FILE is missing; see icehub show --help".to_string());
+        return Err(format!("a FILE is missing; see icehub {command} --help"));
     }
     let table = Source::new(table);
     if files.iter().chain([&table]).filter(|&source| *source == Source::Standard).count() > 1 {
         return Err("- is named twice: standard input can be read only once".to_string());
     }
-    let top = match top.into_string() {
-        Ok(top) => top,
-        Err(top) => return Err(format!("TOP is no text: {}", top.to_string_lossy())),
+    match top.into_string() {
+        Ok(top) => Ok((table, top, files)),
+        Err(top) => Err(format!("TOP is no text: {}", top.to_string_lossy())),
+    }
+}
+
+fn parse_convert(words: impl Iterator<Item = OsString>) -> Result<Command, String> {
+    let Some(Words { options, to, operands }) = split(words, &["--to", "--hex", "--overwrite"], "convert")? else {
+        return Ok(Command::Help(CONVERT_HELP));
     };
+    let (table, top, files) = messages(operands, "convert")?;
+    if files.contains(&Source::Standard) {
+        return Err("standard input has no name in DIR: name FILEs".to_string());
+    }
+    let Some(to) = to else { return Err("--to DIR is missing; see icehub convert --help".to_string()) };
     let is = |option| options.contains(&option);
-    Ok(Command::Show(show::Request { json: is("--json"), hex: is("--hex"), table, top, files }))
+    let (hex, overwrite) = (is("--hex"), is("--overwrite"));
+    Ok(Command::Convert(convert::Request { hex, overwrite, table, top, files, to: to.into() }))
 }
 
 fn parse_table(words: impl Iterator<Item = OsString>) -> Result<Command, String> {

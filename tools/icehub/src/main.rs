@@ -1,10 +1,11 @@
-//! icehub: shows messages and type tables, for the depot and the office.
+//! icehub: shows messages and type tables and converts compact records, for the depot and the office.
 //!
 //! What is accepted or refused comes from the library's calls; this program only shows it.
 //!
 //! - `arguments`: the command line and the help
 //! - `input`: files, standard input, hex text
 //! - `show`: the command `show`, with its summary and progress line
+//! - `convert`: the command `convert`
 //! - `table`: the command `table`; `broken`: what is wrong with a table that breaks a rule
 //! - `accepted`, `refused`: a message for a person; `json`: a message as a line of JSON
 //! - `locate`: the slice and the member at a place of a refused message; `text`: the first bad byte of a string
@@ -13,6 +14,7 @@
 mod accepted;
 mod arguments;
 mod broken;
+mod convert;
 mod input;
 mod json;
 mod locate;
@@ -74,6 +76,7 @@ fn run(out: &mut impl Write, status: &mut Status) -> io::Result<()> {
         Ok(Command::Version) => writeln!(out, "icehub {}", env!("CARGO_PKG_VERSION")),
         Ok(Command::Show(request)) => show::run(&request, out, status),
         Ok(Command::Table(source)) => table::run(&source, out, status),
+        Ok(Command::Convert(request)) => convert::run(&request, out, status),
         Err(wrong) => {
             tell(&wrong);
             status.raise(Status::Failed);

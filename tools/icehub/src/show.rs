@@ -106,7 +106,7 @@ fn write_text(out: &mut impl Write, table: &[u8], top: u32, message: &[u8], answ
 }
 
 /// The row that TOP names: a number, or the name of a record in the table.
-fn top_row(top: &str, table: &[u8]) -> Result<u32, String> {
+pub fn top_row(top: &str, table: &[u8]) -> Result<u32, String> {
     if !top.is_empty() && top.bytes().all(|byte| byte.is_ascii_digit()) {
         return top.parse().map_err(|_| format!("TOP is no row number: {top}"));
     }

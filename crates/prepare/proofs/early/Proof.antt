@@ -23,7 +23,6 @@ early-spec =
     (λ c κs. search needs)  -- kind-requires
     (λ c κs. search needs)  -- no-top-requires
     returns
-    (λ c κs. search needs)  -- no-format-requires
     returns-2
     returns-3
     returns-4)

@@ -5,7 +5,7 @@
 //! status is 1 then. With the argument `logs` only the sequences are timed.
 
 use independent::spec::Spec;
-use independent::{ffi, read, write};
+use independent::{convert, ffi, read, write};
 use std::cell::RefCell;
 use std::env;
 use std::hint::black_box;
@@ -132,6 +132,32 @@ impl Case {
         );
     }
 
+    /// The converter on the compact form of a class instance, which the reader reads as this one.
+    fn run_conversion(&self, compact: &[u8]) {
+        let Case { name, table, top, message, .. } = self;
+        let mut out = vec![0; message.len()];
+        let mut other = out.clone();
+        report(
+            &format!("{name}: convert, {} bytes", compact.len()),
+            || ffi::convert(black_box(table), *top, black_box(compact), &mut out),
+            || number(convert(black_box(table), *top, black_box(compact), &mut other)),
+            0,
+        );
+        assert!(out == *message);
+    }
+
+    /// The converter against the reader of the same compact record.
+    fn run_conversion_call(&self, compact: &[u8]) {
+        let Case { name, table, top, message, rows, .. } = self;
+        let (mut out, mut lent) = (vec![0; message.len()], vec![0; rows.len()]);
+        report(
+            &format!("{name}: icehub_convert"),
+            || ffi::convert(black_box(table), *top, black_box(compact), &mut out),
+            || ffi::read(black_box(table), *top, black_box(compact), &mut lent),
+            0,
+        );
+    }
+
     /// The reader with its numbers, and the view of the last member listed, against the reader.
     fn run_calls(&self) {
         let Case { name, table, top, message, rows, .. } = self;
@@ -153,6 +179,23 @@ impl Case {
             0,
         );
     }
+}
+
+/// The compact form of a sliced class instance: no sizes, and no type ID but the first.
+fn compact(message: &[u8]) -> Vec<u8> {
+    let (mut compact, mut at) = (message[..7].to_vec(), 7);
+    while at < message.len() {
+        let is_first = at == 7;
+        compact.push(message[at] & !16 & !u8::from(!is_first));
+        let id = at + 1..at + 2 + message[at + 1] as usize;
+        let data = id.end + 4;
+        at = id.end + u32::from_le_bytes(message[id.end..data].try_into().unwrap()) as usize;
+        compact.extend(&message[if is_first { id } else { 0..0 }]);
+        compact.extend(&message[data..at]);
+    }
+    let length = (compact.len() as u32).to_le_bytes();
+    compact[..4].copy_from_slice(&length);
+    compact
 }
 
 fn number<T>(result: Result<T, (u32, u32)>) -> u32 {
@@ -343,6 +386,8 @@ fn all_but_logs() {
     }
     let record = Case::new("record of 4 slices", &spec, chain[3], &values);
     record.run();
+    let compact = compact(&record.message);
+    record.run_conversion(&compact);
 
     let mut spec = Spec::default();
     let text = spec.basic(7);
@@ -413,6 +458,7 @@ fn all_but_logs() {
 
     println!();
     heads("call", "icehub_read");
+    record.run_conversion_call(&compact);
     for case in [p2, record, many] {
         case.run_calls();
     }

@@ -1,5 +1,5 @@
 //! fuzz [CALLS [SEED]]: makes calls (1,000,000 by default) of the reader, the writer and the table check, and a member
-//! view of each message read, and compares the proved library with this implementation in every number and every lent
+//! view and a conversion of each message read, and compares the proved library with this implementation in every number and every lent
 //! byte. A difference is printed as a line like those of the recorded calls, the library's answer after it as `got`;
 //! with any, the exit status is 1.
 
@@ -26,7 +26,7 @@ fn main() {
 
     let start = Instant::now();
     let mut differences = 0;
-    let mut refusals = [[0; 40]; 2];
+    let (mut refusals, mut conversions) = ([[0; 49]; 2], [0; 49]);
     let mut compare = |call: &Call, expected: &Answer| {
         let Some(got) = ffi::answer(call) else { return };
         if got != *expected {
@@ -51,12 +51,27 @@ fn main() {
         if let Some(view) = call.view(index as u32 % 8) {
             compare(&view, &view.answer());
         }
+        if let Some(conversion) = call.conversion(65_536) {
+            let answer = conversion.answer();
+            compare(&conversion, &answer);
+            conversions[answer.refusal() as usize] += 1;
+            // Once more without room, or with just enough.
+            if let Answer::Write { refusal: (0, _), out } = answer {
+                let room = out.len() - index as usize % 2 * (1 + index as usize % out.len());
+                let Some(tight) = call.conversion(room) else { continue };
+                compare(&tight, &tight.answer());
+                conversions[tight.answer().refusal() as usize] += 1;
+            }
+        }
     }
     for (version, refusals) in (1..).zip(refusals) {
-        let met = refusals.iter().enumerate().filter(|(number, _)| !matches!(number, 1 | 25..=30));
+        let met = refusals.iter().enumerate().filter(|(number, _)| !matches!(number, 1 | 25..=30 | 40..));
         let reached: Vec<_> = met.map(|(number, calls)| format!("{number}: {calls}")).collect();
         println!("answers by refusal number, tables of version {version}: {}", reached.join(", "));
     }
+    let met = conversions.iter().enumerate().filter(|(_, calls)| **calls != 0);
+    let reached: Vec<_> = met.map(|(number, calls)| format!("{number}: {calls}")).collect();
+    println!("conversions by refusal number: {}", reached.join(", "));
     let strings: Vec<_> = strings.iter().map(|(what, calls)| format!("{what:?} {calls}")).collect();
     println!("refused by 24, by the string: {}", strings.join(", "));
     println!("{differences} differences in {calls} calls from seed {seed}, {:.1} s", start.elapsed().as_secs_f64());

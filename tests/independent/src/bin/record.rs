@@ -1,6 +1,6 @@
 //! record DIRECTORY REPLAY: puts the recorded calls of a directory into the gate: the files `stdin` and `stdout` of REPLAY,
-//! which is crates/replay. First come the checks, the readings, some of these once more with row records, the views and
-//! the writings of the directory's *.jsonl; then, as they are now, the cases of document 01 and the largest tables, which
+//! which is crates/replay. First come the checks, the readings, some of these once more with row records, the views,
+//! the conversions and the writings of the directory's *.jsonl; then, as they are now, the cases of document 01 and the largest tables, which
 //! REPLAY has after its last writing. Stops where this implementation answers otherwise than recorded.
 
 use independent::calls::{Answer, Call};
@@ -18,7 +18,7 @@ fn main() {
     let (directory, replay) = (Path::new(directory), Path::new(replay));
 
     let mut calls = vec![];
-    for name in ["check", "read", "view", "write"] {
+    for name in ["check", "read", "view", "convert", "write"] {
         let made = recorded(&directory.join(name).with_extension("jsonl"));
         println!("{name}: {}", made.len());
         calls.extend(made.iter().map(|(call, answer)| (Recorded::from(call.clone()), answer.clone())));

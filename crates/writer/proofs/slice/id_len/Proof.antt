@@ -1,6 +1,6 @@
 -- The size, and the name after it. Assumes nothing.
 use borrow.Author.Needs.{needs}
-use Rattle.writer.proofs.Names.{id-long, id-none}
+use Rattle.writer.proofs.Names.{id-long}
 use Rattle.writer.proofs.slice.id_len.Statement.{statement}
 use Rattle.writer.proofs.slice.id_len.Tie as tie
 
@@ -11,5 +11,4 @@ id-len-spec =
     (λ c κs. search needs)  -- name-length-requires
     (λ c κs. search needs)  -- size-len-requires
     (λ c. search needs)  -- add-result
-    (λ c. search (needs, id-long))  -- returns
-    (λ c. search (needs, id-none)))  -- returns-2
+    (λ c. search (needs, id-long)))  -- returns

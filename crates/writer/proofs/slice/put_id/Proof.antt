@@ -1,7 +1,7 @@
 -- The size, and the name after it. Assumes nothing.
 use borrow.Author.Needs.{needs}
 use native.Mathlib.Omega.{arith}
-use Rattle.writer.proofs.Names.{id-put, id-put-none}
+use Rattle.writer.proofs.Names.{id-put}
 use Rattle.writer.proofs.slice.put_id.Statement.{statement}
 use Rattle.writer.proofs.slice.put_id.Tie as tie
 
@@ -18,5 +18,4 @@ put-id-spec =
     (λ c. search needs)  -- add-result
     (λ c. search needs)  -- add-result-2
     (λ c. search needs)  -- same-length
-    (λ c. (search id-put, omega arith))  -- returns
-    (λ c. (search id-put-none, omega arith)))  -- returns-2
+    (λ c. (search id-put, omega arith)))  -- returns
