@@ -30,7 +30,17 @@ fn checked(
             let mut shapes = [0u8; 256];
             let begin = table::types_at(table);
             shapes::fill(table, begin, &mut shapes);
-            writer::write_rows(table, begin, &shapes, top, count, rows, buffer, out)
+            writer::write_rows(
+                table,
+                begin,
+                &shapes,
+                top,
+                format == 2,
+                count,
+                rows,
+                buffer,
+                out,
+            )
         }
     }
 }
