@@ -84,7 +84,7 @@ fn early(table: &[u8], begin: usize, top: usize, format: usize, len: usize) -> u
 }
 
 // Checks the table, the top, the format and the length of a message or buffer. A reader, which knows no format yet, passes 1: so 23 and 26 do not come.
-// Wrong and ruled out: a call that lets format 0 pass; one that refuses exactly 65,536 bytes.
+// Wrong and ruled out: a call that lets format 0 pass; one that lets format 2 pass where the types may have optionals; one that refuses exactly 65,536 bytes.
 pub fn prepare(table: &[u8], top: usize, format: usize, len: usize) -> Prepared
     ensures { λ r. ⌜ r ≡ checks (now (table .entry)) top format len ⌝ }
 {

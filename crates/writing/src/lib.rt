@@ -102,7 +102,7 @@ fn writing_of(o: Outcome) -> Writing
 }
 
 // The writer: rows and a buffer to a message of a type and format at the output's start; bytes of the output after the message stay, and on a refusal all of them.
-// Wrong and ruled out: a writer that answers right and puts nothing; one that writes whatever the format named.
+// Wrong and ruled out: a writer that answers right and puts nothing; one that writes whatever the format named; one that writes 1.1 for format 2.
 pub fn write(
     table: &[u8],
     top: u32,
