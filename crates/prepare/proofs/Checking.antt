@@ -23,7 +23,6 @@ use Rattle.encoding.specs.Write.{noFormat}
 use Rattle.rules.specs.Checks.{findingOf}
 use Rattle.rules.specs.declared.Finding.{Finding}
 use Rattle.rules.specs.declared.Finding.the-variants.{Fine, Broken}
-use Rattle.prepare.specs.declared.Prepared.{Prepared}
 use Rattle.prepare.specs.declared.Prepared.the-variants.{Ready, Refused}
 use Rattle.prepare.specs.Preparing.{before, checked, checks}
 

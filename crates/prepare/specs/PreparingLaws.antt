@@ -11,12 +11,12 @@ use native.Mathlib.Omega.{arith}
 use lib.ListN.{length}
 use lib.Dec.{eqb, ltb}
 use borrow.Author.Tests.{ltb-false}
-use Rattle.encoding.specs.Result.{Res, bad, firstOf}
+use Rattle.encoding.specs.Result.{bad, firstOf}
 use Rattle.encoding.specs.ResultLaws.{firstOf-ok}
 use Rattle.encoding.specs.Table.{kind, Fault, fine, fault, faults, ruleNumber}
 use Rattle.encoding.specs.RuleLaws.{types-most}
 use Rattle.encoding.specs.Old.{noOld}
-use Rattle.encoding.specs.Message.{Read, body, noTop, limit, afterRules, refusedFirst, rules}
+use Rattle.encoding.specs.Message.{body, noTop, limit, afterRules, refusedFirst, rules}
 use Rattle.encoding.specs.MessageLaws.{rules-body, top-there}
 use Rattle.encoding.specs.Write.{noFormat}
 use Rattle.prepare.specs.declared.Prepared.{Prepared}

@@ -13,7 +13,7 @@ use borrow.Author.Tests.{le-leb, lt-leb}
 use Rattle.encoding.specs.Table.{base, upward, range, chain}
 use Rattle.encoding.specs.TableLaws.{chain-row}
 use Rattle.encoding.specs.Message.{encode, encapsulate}
-use Rattle.encoding.specs.Write.{Out, out, stop, next, begin, above, Given, judgeAll, gathered, bounded, rowAt, rowsGiven}
+use Rattle.encoding.specs.Write.{Out, out, stop, next, above, Given, judgeAll, gathered, bounded, rowAt, rowsGiven}
 use Rattle.pieces.specs.Cursors.{start, stateOf}
 use Rattle.pieces.specs.Judged.{verdictOf, verdictFrom}
 use Rattle.writer.specs.Slices.{encodingAs}
