@@ -1,4 +1,4 @@
--- Optionals, then related. Assumes nothing.
+-- A row of the table, then optionals. Assumes nothing.
 use borrow.Author.Needs.{needs}
 use Rattle.old.proofs.Laws.{bars-row, bars-not}
 use Rattle.old.proofs.bars.Statement.{statement}
@@ -9,6 +9,5 @@ bars-spec =
     tie.close
     (tie.spec
     (λ c κs. search needs)  -- has-optionals-requires
-    (λ c κs. search needs)  -- related-requires
     (λ c. search bars-row)  -- returns
     (λ c. search bars-not))  -- returns-2
