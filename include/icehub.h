@@ -1,7 +1,7 @@
-/* icehub.h: reads and writes messages of Ice encoding 1.1 by a lent type table.
+/* icehub.h: reads and writes messages of Ice encodings 1.1 and 1.0 by a lent type table.
  *
- * One message is one encapsulation that holds a parameter list, an exception, or one class instance that
- * refers to no other. The table says which types there are; a row of it, the top, says which is wanted.
+ * One message is one encapsulation that holds a parameter list, an exception, or in 1.1 one class instance that
+ * refers to no other. Its version bytes say which encoding it is; encoding 1.0 has no optionals and no classes. The table says which types there are; a row of it, the top, says which is wanted.
  *
  * Any call may be given any bytes: none has to be checked first, and every call returns. A call that refuses
  * returns one number, the first that applies in the order of document 01, and changes no lent byte.
@@ -56,10 +56,11 @@ enum {
  * empty, may hold U+0000 and has no zero byte at its end: its length is its size. What is skipped is not judged:
  * optionals and slices that the table does not know. Nor are the bytes of an endpoint. */
 
-/* The format of a record. A parameter list has ICEHUB_SLICED. */
+/* The format of a message. A parameter list of encoding 1.1 has ICEHUB_SLICED. */
 enum icehub_format {
     ICEHUB_COMPACT = 0, /* only the first slice has a type ID, none has a size; it is read, and not written */
-    ICEHUB_SLICED = 1   /* each slice has a type ID and a size */
+    ICEHUB_SLICED = 1,  /* each slice has a type ID and a size */
+    ICEHUB_OLD = 2      /* encoding 1.0: a parameter list or an exception, without optionals */
 };
 
 /* What a call may be refused for, and what its place is then (icehub_read_place, icehub_write_place,
@@ -76,13 +77,13 @@ enum icehub_refusal {
     ICEHUB_CUT_OFF = 4,
     /* the encapsulation's size is under 6 or not the message's length. Place: 0. */
     ICEHUB_BAD_OUTER_SIZE = 5,
-    /* the encoding's version is not 1.1. Place: 4. */
+    /* the encoding's version is neither 1.1 nor 1.0, or is 1.0 with a class as the top. Place: 4. */
     ICEHUB_BAD_VERSION = 6,
     /* a size below 255 in the long form, or a negative size. Place: the byte 255 of the size. */
     ICEHUB_BAD_SIZE = 7,
     /* a bool is neither 0 nor 1. Place: its byte. */
     ICEHUB_BAD_BOOL = 8,
-    /* an enumerator is not one that its enum allows. Place: its size. */
+    /* an enumerator is not one that its enum allows. Place: its size; in encoding 1.0 its first byte. */
     ICEHUB_BAD_ENUMERATOR = 9,
     /* a proxy's identity, facet count or mode is wrong. Place: the identity, the facet count or the mode byte. */
     ICEHUB_BAD_PROXY = 10,
@@ -102,7 +103,7 @@ enum icehub_refusal {
     ICEHUB_UNKNOWN_COMPACT = 15,
     /* no type ID of a sliced record is in the table. Place: the last slice's flags. */
     ICEHUB_UNKNOWN_SLICED = 16,
-    /* the slices, or their last bit, do not follow the table's bases. Place: the flags. */
+    /* the slices, or their last bit, do not follow the table's bases. Place: the flags; in encoding 1.0 the type ID. */
     ICEHUB_BAD_CHAIN = 17,
     /* bytes follow the record. Place: the first of them. */
     ICEHUB_LEFT_OVER = 18,
@@ -114,10 +115,14 @@ enum icehub_refusal {
     ICEHUB_BAD_ROW_BYTES = 21,
     /* the output is longer than its room or 65,536 bytes. Place: the number of bytes needed. */
     ICEHUB_OUTPUT_TOO_LONG = 22,
-    /* writer: the format is not 1. Place: 0. */
+    /* writer: the format is not 1 or 2, or 2 for a class. Place: 0. */
     ICEHUB_BAD_FORMAT = 23,
     /* a string is not well-formed UTF-8. Place: its size. */
     ICEHUB_BAD_TEXT = 24,
+    /* the header byte of a 1.0 exception is not 0. Place: the header byte. */
+    ICEHUB_BAD_OLD_HEADER = 25,
+    /* encoding 1.0 where the type, a base of it or a record that descends from it has optionals. Place: 0. */
+    ICEHUB_OLD_OPTIONALS = 26,
     /* 31 to 39: the table breaks a rule, the first of this order that its first broken row breaks. Lists of enumerators
      * (39) are judged after all type rows. */
     /* the table's header is wrong, or its length is not what the header says. Place: 0. */
@@ -233,7 +238,7 @@ uint32_t icehub_read_place(const uint8_t *table, size_t table_len, uint32_t top,
 uint32_t icehub_read_type(const uint8_t *table, size_t table_len, uint32_t top, const uint8_t *message,
                           size_t message_len, size_t rows_len);
 
-/* The format: ICEHUB_COMPACT, or ICEHUB_SLICED, which a parameter list has too. */
+/* The format: ICEHUB_COMPACT; ICEHUB_SLICED, which a parameter list has too; ICEHUB_OLD for every message of encoding 1.0. */
 uint32_t icehub_read_format(const uint8_t *table, size_t table_len, uint32_t top, const uint8_t *message,
                             size_t message_len, size_t rows_len);
 
@@ -253,7 +258,7 @@ uint32_t icehub_read_slices_skipped(const uint8_t *table, size_t table_len, uint
  *
  *   table, table_len    the type table
  *   type                the number of the row to write: an exception, a class or a parameter list
- *   format              ICEHUB_SLICED; every other format is refused (a parameter list has it too)
+ *   format              ICEHUB_SLICED, which a parameter list has too; or ICEHUB_OLD, but for a class. Every other is refused
  *   count               how many rows there are
  *   rows, rows_len      the rows: count * ICEHUB_ROW_SIZE bytes (fewer are an ICEHUB_BAD_ROW, more are ignored).
  *                       They go through the slices of the type from itself to its last base: in each the required
@@ -413,6 +418,8 @@ static inline const char *icehub_refusal_name(uint32_t refusal)
     case ICEHUB_OUTPUT_TOO_LONG: return "OUTPUT_TOO_LONG";
     case ICEHUB_BAD_FORMAT: return "BAD_FORMAT";
     case ICEHUB_BAD_TEXT: return "BAD_TEXT";
+    case ICEHUB_BAD_OLD_HEADER: return "BAD_OLD_HEADER";
+    case ICEHUB_OLD_OPTIONALS: return "OLD_OPTIONALS";
     case ICEHUB_BAD_TABLE_HEADER: return "BAD_TABLE_HEADER";
     case ICEHUB_BAD_TABLE_ZEROS: return "BAD_TABLE_ZEROS";
     case ICEHUB_BAD_TABLE_KIND: return "BAD_TABLE_KIND";
@@ -437,7 +444,8 @@ static inline const char *icehub_refusal_text(uint32_t refusal)
     case ICEHUB_INPUT_TOO_LONG: return "the message, or the writer's buffer, is over 65,536 bytes long";
     case ICEHUB_CUT_OFF: return "an item or a declared length runs past what holds it";
     case ICEHUB_BAD_OUTER_SIZE: return "the encapsulation's size is under 6 or not the message's length";
-    case ICEHUB_BAD_VERSION: return "the encoding's version is not 1.1";
+    case ICEHUB_BAD_VERSION:
+        return "the encoding's version is neither 1.1 nor 1.0, or is 1.0 with a class as the top";
     case ICEHUB_BAD_SIZE: return "a size below 255 in the long form, or a negative size";
     case ICEHUB_BAD_BOOL: return "a bool is neither 0 nor 1";
     case ICEHUB_BAD_ENUMERATOR: return "an enumerator is not one that its enum allows";
@@ -462,8 +470,12 @@ static inline const char *icehub_refusal_text(uint32_t refusal)
     case ICEHUB_BAD_ROW: return "writer: a row is wrong, missing, out of order or outside the buffer";
     case ICEHUB_BAD_ROW_BYTES: return "writer: the bytes are not exactly a value of the member's type";
     case ICEHUB_OUTPUT_TOO_LONG: return "the output is longer than its room or 65,536 bytes";
-    case ICEHUB_BAD_FORMAT: return "writer: the format is not 1";
+    case ICEHUB_BAD_FORMAT: return "writer: the format is not 1 or 2, or 2 for a class";
     case ICEHUB_BAD_TEXT: return "a string is not well-formed UTF-8";
+    case ICEHUB_BAD_OLD_HEADER: return "the header byte of a 1.0 exception is not 0";
+    case ICEHUB_OLD_OPTIONALS:
+        return "encoding 1.0 where the type, a base of it or a record that descends from it has "
+               "optionals";
     case ICEHUB_BAD_TABLE_HEADER: return "the table's header is wrong, or its length is not what the header says";
     case ICEHUB_BAD_TABLE_ZEROS:
         return "in a row of the table a zero byte or an unused field is not 0, or a required member has a "

@@ -1,4 +1,4 @@
-//! Reads and writes messages of Ice encoding 1.1 by a lent type table: the proved library `libicehub.a`, safe to call
+//! Reads and writes messages of Ice encodings 1.1 and 1.0 by a lent type table: the proved library `libicehub.a`, safe to call
 //! from Rust.
 //!
 //! Any call may be given any bytes. A call that refuses says why and where, and leaves every lent byte as it was.
@@ -55,13 +55,15 @@ pub const MOST_ROWS: usize = 1_024;
 /// No message is longer, and no buffer of the writer.
 pub const MOST_BYTES: usize = 65_536;
 
-/// The format of a record. A parameter list is [`Format::Sliced`].
+/// The format of a message. A parameter list of encoding 1.1 is [`Format::Sliced`].
 #[derive(Clone, Copy, Debug, PartialEq, Eq, Hash)]
 pub enum Format {
     /// Only the first slice has a type ID, none has a size. It is read, and not written: see [`convert`](convert()).
     Compact = 0,
     /// Each slice has a type ID and a size.
     Sliced = 1,
+    /// Encoding 1.0: a parameter list or an exception, without optionals.
+    Old = 2,
 }
 
 /// A row of a list: a member, and where its bytes are.
@@ -110,6 +112,7 @@ pub struct Member<'a> {
     pub row: Row,
     table: Table<'a>,
     message: &'a [u8],
+    format: Format,
 }
 
 impl<'a> Member<'a> {
@@ -130,7 +133,7 @@ impl<'a> Member<'a> {
 
     /// Its value. None is never given for an accepted message.
     pub fn value(self) -> Option<Value<'a>> {
-        Value::new(self.declared()?.of(), self.part())
+        Value::new_in(self.format, self.declared()?.of(), self.part())
     }
 }
 
@@ -183,6 +186,7 @@ pub struct Members<'a> {
     rows: slice::Iter<'a, [u8; ROW_SIZE]>,
     table: Table<'a>,
     message: &'a [u8],
+    format: Format,
 }
 
 impl<'a> Iterator for Members<'a> {
@@ -190,7 +194,7 @@ impl<'a> Iterator for Members<'a> {
 
     fn next(&mut self) -> Option<Member<'a>> {
         let row = Row::from_bytes(*self.rows.next()?);
-        Some(Member { row, table: self.table, message: self.message })
+        Some(Member { row, table: self.table, message: self.message, format: self.format })
     }
 
     fn size_hint(&self) -> (usize, Option<usize>) {
@@ -221,7 +225,7 @@ pub struct Reading<'a> {
 impl<'a> Reading<'a> {
     /// The members that the table knows, in message order.
     pub fn members(&self) -> Members<'a> {
-        Members { rows: self.list.as_chunks().0.iter(), table: self.table, message: self.message }
+        Members { rows: self.list.as_chunks().0.iter(), table: self.table, message: self.message, format: self.format }
     }
 
     /// The member of this member row, if the message has it.
@@ -259,6 +263,7 @@ pub fn read<'a>(table: &'a [u8], top: u32, message: &'a [u8], rows: &'a mut [u8]
         first_type,
         format: match format {
             0 => Format::Compact,
+            2 => Format::Old,
             _ => Format::Sliced,
         },
         optionals_skipped,
@@ -290,7 +295,8 @@ pub fn member<'a>(
     }
 }
 
-/// Writes the message of a type in a format, and gives its length. Every format but [`Format::Sliced`] is refused.
+/// Writes the message of a type in a format, and gives its length. [`Format::Compact`] is refused, and
+/// [`Format::Old`] for a class or a type with optionals.
 ///
 /// `of` is the row of an exception, a class or a parameter list. `rows` has [`ROW_SIZE`] bytes for each row, a rest is
 /// ignored; their places point into `buffer`, where they may overlap. They go through the slices of the type from

@@ -102,10 +102,11 @@ reasons! {
     InputTooLong = 3, "INPUT_TOO_LONG": "the message, or the writer's buffer, is over 65,536 bytes long", "0";
     CutOff = 4, "CUT_OFF": "an item or a declared length runs past what holds it", "its first byte";
     BadOuterSize = 5, "BAD_OUTER_SIZE": "the encapsulation's size is under 6 or not the message's length", "0";
-    BadVersion = 6, "BAD_VERSION": "the encoding's version is not 1.1", "4";
+    BadVersion = 6, "BAD_VERSION": "the encoding's version is neither 1.1 nor 1.0, or is 1.0 with a class as the top", "4";
     BadSize = 7, "BAD_SIZE": "a size below 255 in the long form, or a negative size", "the byte 255 of the size";
     BadBool = 8, "BAD_BOOL": "a bool is neither 0 nor 1", "its byte";
-    BadEnumerator = 9, "BAD_ENUMERATOR": "an enumerator is not one that its enum allows", "its size";
+    BadEnumerator = 9, "BAD_ENUMERATOR": "an enumerator is not one that its enum allows",
+        "its size; in encoding 1.0 its first byte";
     BadProxy = 10, "BAD_PROXY": "a proxy's identity, facet count or mode is wrong",
         "the identity, the facet count or the mode byte";
     BadLength = 11, "BAD_LENGTH":
@@ -121,7 +122,8 @@ reasons! {
         "the flags";
     UnknownCompact = 15, "UNKNOWN_COMPACT": "the first type ID of a compact record is not in the table", "the type ID";
     UnknownSliced = 16, "UNKNOWN_SLICED": "no type ID of a sliced record is in the table", "the last slice's flags";
-    BadChain = 17, "BAD_CHAIN": "the slices, or their last bit, do not follow the table's bases", "the flags";
+    BadChain = 17, "BAD_CHAIN": "the slices, or their last bit, do not follow the table's bases",
+        "the flags; in encoding 1.0 the type ID";
     LeftOver = 18, "LEFT_OVER": "bytes follow the record", "the first of them";
     ListTooShort = 19, "LIST_TOO_SHORT": "the lent list is too short", "the number of rows needed";
     BadRow = 20, "BAD_ROW": "writer: a row is wrong, missing, out of order or outside the buffer", "the row's number";
@@ -129,8 +131,11 @@ reasons! {
         "the row's number";
     OutputTooLong = 22, "OUTPUT_TOO_LONG": "the output is longer than its room or 65,536 bytes",
         "the number of bytes needed";
-    BadFormat = 23, "BAD_FORMAT": "writer: the format is not 1", "0";
+    BadFormat = 23, "BAD_FORMAT": "writer: the format is not 1 or 2, or 2 for a class", "0";
     BadText = 24, "BAD_TEXT": "a string is not well-formed UTF-8", "its size";
+    BadOldHeader = 25, "BAD_OLD_HEADER": "the header byte of a 1.0 exception is not 0", "the header byte";
+    OldOptionals = 26, "OLD_OPTIONALS":
+        "encoding 1.0 where the type, a base of it or a record that descends from it has optionals", "0";
     BadTableHeader = 31, "BAD_TABLE_HEADER": "the table's header is wrong, or its length is not what the header says",
         "0";
     BadTableZeros = 32, "BAD_TABLE_ZEROS":
@@ -225,12 +230,12 @@ mod tests {
     fn numbers() {
         assert_eq!(
             Reason::ALL.iter().map(|reason| reason.number()).collect::<Vec<_>>(),
-            (2..=24).chain(31..=39).chain([47, 48]).collect::<Vec<_>>()
+            (2..=26).chain(31..=39).chain([47, 48]).collect::<Vec<_>>()
         );
         for reason in Reason::ALL {
             assert_eq!(Reason::from_number(reason.number()), Some(*reason));
         }
-        assert!([0, 1, 25, 30, 40, 46, 49].into_iter().all(|number| Reason::from_number(number).is_none()));
+        assert!([0, 1, 27, 30, 40, 46, 49].into_iter().all(|number| Reason::from_number(number).is_none()));
     }
 
     #[test]
@@ -240,7 +245,7 @@ mod tests {
             shown(4, 52),
             "refusal 4 at 52 (its first byte): an item or a declared length runs past what holds it"
         );
-        assert_eq!(shown(6, 4), "refusal 6 at 4: the encoding's version is not 1.1");
+        assert_eq!(shown(25, 6), "refusal 25 at 6 (the header byte): the header byte of a 1.0 exception is not 0");
         assert_eq!(shown(19, 3), "refusal 19 at 3 (the number of rows needed): the lent list is too short");
         assert_eq!(shown(99, 0), "refusal 99 at 0: a number that this version does not know");
     }

@@ -3,7 +3,7 @@
 //! The library has judged these bytes; this module takes them apart. It checks again only what safe Rust needs: that they
 //! are there, and that a string is UTF-8. So a wrong library, or an older one that judges no text, cannot make a bad `str`.
 
-use crate::{Kind, TypeRow};
+use crate::{Format, Kind, TypeRow};
 use core::iter::FusedIterator;
 use core::ops::Range;
 
@@ -40,9 +40,14 @@ pub enum Value<'a> {
 
 /// A getter for each type: none for a value of another.
 impl<'a> Value<'a> {
-    /// The value of a type that these bytes are, all of them.
+    /// The value of a type that these bytes are, all of them, in encoding 1.1.
     pub fn new(of: TypeRow<'a>, bytes: &'a [u8]) -> Option<Value<'a>> {
-        let (value, length) = Value::at_front(of, bytes)?;
+        Value::new_in(Format::Sliced, of, bytes)
+    }
+
+    /// The same in the encoding of a format: enumerators and proxies of encoding 1.0 are written in another way.
+    pub fn new_in(format: Format, of: TypeRow<'a>, bytes: &'a [u8]) -> Option<Value<'a>> {
+        let (value, length) = Value::at_front_in(format, of, bytes)?;
         (length == bytes.len()).then_some(value)
     }
 
@@ -51,9 +56,14 @@ impl<'a> Value<'a> {
     ///
     /// Nothing else is judged: a bool of 2 is true, an enumerator may be any number.
     pub fn at_front(of: TypeRow<'a>, bytes: &'a [u8]) -> Option<(Value<'a>, usize)> {
-        let mut rest = Rest(bytes);
+        Value::at_front_in(Format::Sliced, of, bytes)
+    }
+
+    /// The same in the encoding of a format.
+    pub fn at_front_in(format: Format, of: TypeRow<'a>, bytes: &'a [u8]) -> Option<(Value<'a>, usize)> {
+        let mut rest = Rest { bytes, old: format == Format::Old };
         let value = rest.value(of)?;
-        Some((value, bytes.len() - rest.0.len()))
+        Some((value, bytes.len() - rest.bytes.len()))
     }
 
     /// A bool.
@@ -124,7 +134,7 @@ impl<'a> Value<'a> {
     pub fn as_bytes(&self) -> Option<&'a [u8]> {
         match self {
             Value::String(text) => Some(text.as_bytes()),
-            Value::Sequence(elements) if elements.of.kind() == Kind::Byte => Some(elements.rest.0),
+            Value::Sequence(elements) if elements.of.kind() == Kind::Byte => Some(elements.rest.bytes),
             _ => None,
         }
     }
@@ -273,10 +283,10 @@ pub struct Proxy<'a> {
     pub mode: u8,
     /// Whether secure endpoints are required.
     pub secure: bool,
-    /// The protocol's version, major and minor.
-    pub protocol: (u8, u8),
-    /// The encoding's version, major and minor.
-    pub encoding: (u8, u8),
+    /// The protocol's version, major and minor; none in encoding 1.0, which does not send it.
+    pub protocol: Option<(u8, u8)>,
+    /// The encoding's version, major and minor; none in encoding 1.0.
+    pub encoding: Option<(u8, u8)>,
     /// The endpoints.
     pub endpoints: Endpoints<'a>,
     /// The object adapter, of a proxy without endpoints.
@@ -324,14 +334,18 @@ pub struct Endpoint<'a> {
     pub encoding: (u8, u8),
 }
 
-/// The bytes not yet taken. Each function takes the next item; none where it is not there.
+/// The bytes not yet taken, and whether they are of encoding 1.0. Each function takes the next item; none where it is
+/// not there.
 #[derive(Clone, Copy, Debug)]
-struct Rest<'a>(&'a [u8]);
+struct Rest<'a> {
+    bytes: &'a [u8],
+    old: bool,
+}
 
 impl<'a> Rest<'a> {
     fn take(&mut self, count: usize) -> Option<&'a [u8]> {
-        let (taken, rest) = self.0.split_at_checked(count)?;
-        self.0 = rest;
+        let (taken, rest) = self.bytes.split_at_checked(count)?;
+        self.bytes = rest;
         Some(taken)
     }
 
@@ -365,9 +379,9 @@ impl<'a> Rest<'a> {
             Kind::Float => Value::Float(f32::from_le_bytes(self.array()?)),
             Kind::Double => Value::Double(f64::from_le_bytes(self.array()?)),
             Kind::String => Value::String(self.string()?),
-            Kind::Enum => Value::Enum(self.size()?),
+            Kind::Enum => Value::Enum(self.enumerator(of)?),
             Kind::Struct => {
-                let start = self.0;
+                let start = self.bytes;
                 for member in of.member_rows() {
                     self.value(member.of())?;
                 }
@@ -375,7 +389,7 @@ impl<'a> Rest<'a> {
             }
             Kind::Sequence => {
                 let (of, left) = (of.element()?, self.size()?);
-                let start = self.0;
+                let start = self.bytes;
                 for _ in 0..left {
                     self.value(of)?;
                 }
@@ -383,7 +397,7 @@ impl<'a> Rest<'a> {
             }
             Kind::Dictionary => {
                 let (key, value, left) = (of.key()?, of.value()?, self.size()?);
-                let start = self.0;
+                let start = self.bytes;
                 for _ in 0..left {
                     self.value(key)?;
                     self.value(value)?;
@@ -395,9 +409,19 @@ impl<'a> Rest<'a> {
         })
     }
 
+    /// A size; in encoding 1.0 a byte, short or int by the greatest.
+    fn enumerator(&mut self, of: TypeRow<'a>) -> Option<u32> {
+        match of.greatest() {
+            _ if !self.old => self.size(),
+            Some(0..=126) => self.byte().map(u32::from),
+            Some(127..=32_766) => self.array().map(u16::from_le_bytes).map(u32::from),
+            _ => self.array().map(u32::from_le_bytes),
+        }
+    }
+
     /// What was taken since these bytes were left.
     fn since(&self, start: &'a [u8]) -> Rest<'a> {
-        Rest(&start[..start.len() - self.0.len()])
+        Rest { bytes: &start[..start.len() - self.bytes.len()], old: self.old }
     }
 
     fn proxy(&mut self) -> Option<Option<Proxy<'a>>> {
@@ -411,10 +435,10 @@ impl<'a> Rest<'a> {
             _ => return None,
         };
         let (mode, secure) = (self.byte()?, self.byte()? != 0);
-        let protocol = (self.byte()?, self.byte()?);
-        let encoding = (self.byte()?, self.byte()?);
+        let protocol = self.version()?;
+        let encoding = self.version()?;
         let left = self.size()?;
-        let start = self.0;
+        let start = self.bytes;
         for _ in 0..left {
             self.endpoint()?;
         }
@@ -423,12 +447,20 @@ impl<'a> Rest<'a> {
         Some(Some(Proxy { name, category, facet, mode, secure, protocol, encoding, endpoints, adapter }))
     }
 
+    /// A proxy's version of protocol or encoding, which encoding 1.0 does not have.
+    fn version(&mut self) -> Option<Option<(u8, u8)>> {
+        if self.old {
+            return Some(None);
+        }
+        Some(Some((self.byte()?, self.byte()?)))
+    }
+
     fn endpoint(&mut self) -> Option<Endpoint<'a>> {
-        let start = self.0;
+        let start = self.bytes;
         let of = i16::from_le_bytes(self.array()?);
         let length = usize::try_from(i32::from_le_bytes(self.array()?)).ok()?;
         let encoding = (self.byte()?, self.byte()?);
         self.take(length.checked_sub(6)?)?;
-        Some(Endpoint { bytes: self.since(start).0, of, encoding })
+        Some(Endpoint { bytes: self.since(start).bytes, of, encoding })
     }
 }

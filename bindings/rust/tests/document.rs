@@ -51,7 +51,7 @@ fn refused(table: &[u8], message: &[u8]) -> (u32, u32) {
 #[test]
 fn p5_p8_p9_p10() {
     assert_eq!(refused(&table(&[]), &[]), (4, 0));
-    assert_eq!(refused(&table(&[]), &bytes("06 00 00 00 01 00")), (6, 4));
+    assert_eq!(refused(&table(&[]), &bytes("06 00 00 00 01 02")), (6, 4));
     assert_eq!(refused(&table(&[(BYTE, Some(1))]), &bytes("0A 00 00 00 01 01 08 05 08 05")), (12, 8));
     let mut message = bytes(P2);
     message[0] = 0x17;

@@ -73,7 +73,8 @@ fn lists() {
 fn encapsulation() {
     assert_eq!(reader(&p2_table(), LIST, &[]), (Reason::CutOff, 0));
     assert_eq!(reader(&p2_table(), LIST, &bytes(P2)[..21]), (Reason::BadOuterSize, 0));
-    assert_eq!(reader(&p2_table(), LIST, &bytes("06 00 00 00 01 00")), (Reason::BadVersion, 4));
+    assert_eq!(reader(&p2_table(), LIST, &bytes("06 00 00 00 01 02")), (Reason::BadVersion, 4));
+    assert_eq!(reader(&p2_table(), LIST, &bytes("06 00 00 00 01 00")), (Reason::OldOptionals, 0));
 }
 
 #[test]

@@ -33,7 +33,7 @@ fn every_kind() {
     assert_eq!(entries, [("pipe", -500), ("room", 1800)]);
     let proxy = member(9).as_proxy().unwrap();
     assert_eq!((proxy.name, proxy.category, proxy.facet), ("guard", "", None));
-    assert_eq!((proxy.mode, proxy.secure, proxy.protocol, proxy.encoding), (0, false, (1, 0), (1, 1)));
+    assert_eq!((proxy.mode, proxy.secure, proxy.protocol, proxy.encoding), (0, false, Some((1, 0)), Some((1, 1))));
     assert_eq!((proxy.endpoints.len(), proxy.adapter), (0, Some("hub")));
 }
 

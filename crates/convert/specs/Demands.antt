@@ -12,7 +12,7 @@ use lib.ListN.{length, take, drop}
 use Rattle.encoding.specs.Result.{ok, bad, concat}
 use Rattle.encoding.specs.Number.{Bytes}
 use Rattle.encoding.specs.Slice.{compact, sliced}
-use Rattle.encoding.specs.Message.{Pieces, rules, rows, rowBytes, firstKnown, limit}
+use Rattle.encoding.specs.Message.{Encoding, v11, Pieces, rules, rows, rowBytes, firstKnown, limit}
 use Rattle.encoding.specs.Write.{out, stop, writing, output, writingOf, writingNumbers}
 use Rattle.laws.specs.Demands.{readAs, Complete, SameMembers}
 use Rattle.convert.specs.Convert.{converting}
@@ -20,17 +20,17 @@ use Rattle.convert.specs.Convert.{converting}
 -- an accepted compact record with nothing skipped, in these pieces
 pub record Convertible (T : List ℕ) (top : ℕ) (m : List ℕ) (p : Pieces) : Type 0 where
   pub taken : ℕ
-  pub accepted : rules T top m ≡ ok (readAs compact p) taken
+  pub accepted : rules T top m ≡ ok (readAs (v11 compact) p) taken
   pub complete : Complete p
 
 -- what the rules make of a message o to which such a record is converted
 pub record ConvertedTo (T : List ℕ) (top : ℕ) (m : List ℕ) (p : Pieces) (o : List ℕ) : Type 0 where
   pub pieces : Pieces
   pub taken : ℕ
-  pub accepted : rules T top o ≡ ok (readAs sliced pieces) taken
+  pub accepted : rules T top o ≡ ok (readAs (v11 sliced) pieces) taken
   pub of-type : firstKnown T top pieces ≡ firstKnown T top p
   pub complete : Complete pieces
-  pub members : SameMembers m o (rows T top compact p) (rows T top sliced pieces)
+  pub members : SameMembers m o (rows T top (v11 compact) p) (rows T top (v11 sliced) pieces)
   pub short : length o ≤ limit
 
 -- Rules out a converter that gives its input back, and one that drops a member.
@@ -43,17 +43,17 @@ Converted =
 abbrev pub ConvertWritten : Type 0
 ConvertWritten =
     (T : List ℕ) (top : ℕ) (m : List ℕ) (room : ℕ) (p : Pieces) → Bytes m → Convertible T top m p
-    → converting T top m room ≡ writing T (firstKnown T top p) 1 (length (rows T top compact p)) (concat rowBytes (rows T top compact p)) m room
+    → converting T top m room ≡ writing T (firstKnown T top p) 1 (length (rows T top (v11 compact) p)) (concat rowBytes (rows T top (v11 compact) p)) m room
 
 -- a refusal, its number and its place: the reader's own but 19 (`ReaderRefuses` says which they are), then 47 and 48 at 0, then 22 at the bytes that the writer needs
 pub data ConvertRefusal (T : List ℕ) (top : ℕ) (m : List ℕ) (room : ℕ) : ℕ → ℕ → Type 0 where
   by-reader : {n i : ℕ} → rules T top m ≡ bad n i → ConvertRefusal T top m room n i
-  not-compact : {p : Pieces} {n : ℕ} → rules T top m ≡ ok (readAs sliced p) n → ConvertRefusal T top m room 47 0
-  skips : {p : Pieces} {n : ℕ} → rules T top m ≡ ok (readAs compact p) n → (Complete p → ⊥) → ConvertRefusal T top m room 48 0
-  no-room : {p : Pieces} {i : ℕ} → Convertible T top m p → writing T (firstKnown T top p) 1 (length (rows T top compact p)) (concat rowBytes (rows T top compact p)) m room ≡ stop 22 i
+  not-compact : {e : Encoding} {p : Pieces} {n : ℕ} → rules T top m ≡ ok (readAs e p) n → (e ≡ v11 compact → ⊥) → ConvertRefusal T top m room 47 0
+  skips : {p : Pieces} {n : ℕ} → rules T top m ≡ ok (readAs (v11 compact) p) n → (Complete p → ⊥) → ConvertRefusal T top m room 48 0
+  no-room : {p : Pieces} {i : ℕ} → Convertible T top m p → writing T (firstKnown T top p) 1 (length (rows T top (v11 compact) p)) (concat rowBytes (rows T top (v11 compact) p)) m room ≡ stop 22 i
       → ConvertRefusal T top m room 22 i
 
--- Rules out 48 for a sliced record, 22 before 48, and an output that changes on a refusal.
+-- Rules out 48 for a sliced record, a conversion of encoding 1.0, 22 before 48, and an output that changes on a refusal.
 abbrev pub ConvertRefuses : Type 0
 ConvertRefuses =
     (T : List ℕ) (top : ℕ) (m : List ℕ) (room n i : ℕ) → Bytes m

@@ -23,8 +23,8 @@ use Rattle.encoding.specs.Table.{at, field, kind, owns, takes, nameOf, chain, f
 use Rattle.encoding.specs.Table
 use Rattle.encoding.specs.RuleLaws.{required-own, optional-own, rows-apart}
 use Rattle.encoding.specs.Optional.{Piece, required, optional, skipped, frontBytes, contentBytes, pieceBytes, isSkipped}
-use Rattle.encoding.specs.Slice.{Format, compact, sliced, Stand, first, later, due, bit, Slice, known, passed, anyOptional, hasOptionals, idOf, isLast, flagBits, worth, dataBytes, sliceFront, slicesBytes}
-use Rattle.encoding.specs.Message.{Row, listRow, pieceMember, pieceRows, sliceRows, skippedPieces, skippedIn}
+use Rattle.encoding.specs.Slice.{Format, compact, sliced, Stand, first, later, due, bit, Slice, known, passed, anyOptional, hasOptionals, idOf, isLast, flagBits, worth, dataBytes, sliceFront}
+use Rattle.encoding.specs.Message.{v11, slicesBytes, Row, listRow, pieceMember, pieceRows, sliceRows, skippedPieces, skippedIn}
 use Rattle.encoding.specs.Conform.{Level, Owned, Follow}
 use Rattle.laws.specs.Demands.{All, end, more}
 use Rattle.laws.specs.RowsExact.{Stands, stands-first, stands-inside, stands-there, all-append, all-map, data-stand, slices-stand, Found, required-found}
@@ -117,8 +117,8 @@ module _ (T : List ℕ) (right : faults T ≡ fine) where
           absurd (omega arith)
 
   -- the rows of the slices above row t
-  follow-others : (t : ℕ) → Owner T t → (s : Stand) (p : ℕ) (ts : List ℕ) (ss : List Slice) → All (Owner T) ts → All (Falls t) ts → Follow T ts ss → skippedIn ss ≡ 0
-      → Others T t (sliceRows T compact s p ts ss)
+  follow-others : (t : ℕ) → Owner T t → (s : Stand) (p : ℕ) (ts : List ℕ) (ss : List Slice) → All (Owner T) ts → All (Falls t) ts → Follow T (v11 compact) ts ss → skippedIn ss ≡ 0
+      → Others T t (sliceRows T (v11 compact) s p ts ss)
   unfolding sliceRows skippedIn
   follow-others t O s p [] [] A B F z = end
   follow-others t O s p [] (sl ∷ ss) A B F z = absurd F
@@ -142,7 +142,7 @@ bit-two true false true = refl
 bit-two true true false = refl
 bit-two true true true = refl
 
-pub slice-flagged : (m : List ℕ) (s : Stand) (o : List ℕ) (ps : List Piece) (ss : List Slice) (p : ℕ) → Stands m p (slicesBytes compact s (known o ps ∷ ss)) → flagged m p ≡ anyOptional ps
+pub slice-flagged : (m : List ℕ) (s : Stand) (o : List ℕ) (ps : List Piece) (ss : List Slice) (p : ℕ) → Stands m p (slicesBytes (v11 compact) s (known o ps ∷ ss)) → flagged m p ≡ anyOptional ps
 unfolding slicesBytes sliceFront hasOptionals at val
 slice-flagged m s o ps ss p S =
     let f : ℕ = flagBits compact (due s compact) (anyOptional ps) (isLast ss) in
@@ -159,7 +159,7 @@ abbrev pub Before : Stand → ℕ → List Slice → Type 0
 Before s n [] = Unit {0}
 Before s n (sl ∷ ss) = n ≡ 1 + length (pick (due s compact) (stringBytes (idOf sl)) [])
 
-last-above : (T ts : List ℕ) (ss : List Slice) → Follow T ts ss → noneAbove ts ≡ isLast ss
+last-above : (T ts : List ℕ) (ss : List Slice) → Follow T (v11 compact) ts ss → noneAbove ts ≡ isLast ss
 unfolding noneAbove isLast
 last-above T [] [] F = refl
 last-above T [] (sl ∷ ss) F = absurd F
@@ -188,7 +188,7 @@ min-least a b h = omega arith
 module _ (T m : List ℕ) (right : faults T ≡ fine) where
   -- one slice: its data end where they end, and its sliced form is its front and its data
   module _ (t : ℕ) (s : Stand) (p n : ℕ) (ps : List Piece) (ss : List Slice) (rs : List Row) (L : Owned T t ps) (z : skippedPieces ps ≡ 0) (O : Others T t rs)
-      (S : Stands m p (slicesBytes compact s (known (nameOf T t) ps ∷ ss))) (B : Before s n (known (nameOf T t) ps ∷ ss)) where
+      (S : Stands m p (slicesBytes (v11 compact) s (known (nameOf T t) ps ∷ ss))) (B : Before s n (known (nameOf T t) ps ∷ ss)) where
     abbrev sl : Slice
     sl = known (nameOf T t) ps
 
@@ -196,7 +196,7 @@ module _ (T m : List ℕ) (right : faults T ≡ fine) where
     data-at = omega (arith, compact-front s (isLast ss) sl, B)
 
     data-stands : Stands m (p + n) (dataBytes sl)
-    data-stands = subst (λ (d : ℕ). Stands m d (dataBytes sl)) data-at (data-stand T m compact s sl ss p S)
+    data-stands = subst (λ (d : ℕ). Stands m d (dataBytes sl)) data-at (data-stand T m (v11 compact) s sl ss p S)
 
     pub end-is : dataEnd T m t p (p + n) (pieceRows T t (p + n) ps ++ rs) ≡ p + n + length (dataBytes sl)
     unfolding dataEnd
@@ -217,9 +217,9 @@ module _ (T m : List ℕ) (right : faults T ≡ fine) where
   before-later [] = tt
   before-later (sl ∷ ss) = refl
 
-  pub follow-resliced : (ts : List ℕ) (ss : List Slice) → All (Owner T) ts → Pairs Falls ts → Follow T ts ss → skippedIn ss ≡ 0
-      → (s s′ : Stand) → due s′ sliced ≡ true → (p n : ℕ) → Stands m p (slicesBytes compact s ss) → Before s n ss
-      → reslices T m p n ts (sliceRows T compact s p ts ss) ≡ slicesBytes sliced s′ ss
+  pub follow-resliced : (ts : List ℕ) (ss : List Slice) → All (Owner T) ts → Pairs Falls ts → Follow T (v11 compact) ts ss → skippedIn ss ≡ 0
+      → (s s′ : Stand) → due s′ sliced ≡ true → (p n : ℕ) → Stands m p (slicesBytes (v11 compact) s ss) → Before s n ss
+      → reslices T m p n ts (sliceRows T (v11 compact) s p ts ss) ≡ slicesBytes (v11 sliced) s′ ss
   unfolding reslices sliceRows slicesBytes skippedIn due
   follow-resliced [] [] A P F z s s′ d p n S B = refl
   follow-resliced [] (sl ∷ ss) A P F z s s′ d p n S B = absurd F
@@ -230,25 +230,25 @@ module _ (T m : List ℕ) (right : faults T ≡ fine) where
     where
       Goal : List ℕ → Type 0
       Goal o =
-          Stands m p (slicesBytes compact s (known o ps ∷ ss)) → Before s n (known o ps ∷ ss)
-          → ((q n′ : ℕ) → Stands m q (slicesBytes compact (later compact) ss) → Before (later compact) n′ ss → reslices T m q n′ ts (sliceRows T compact (later compact) q ts ss) ≡ slicesBytes sliced (later sliced) ss)
-          → reslices T m p n (t ∷ ts) (sliceRows T compact s p (t ∷ ts) (known o ps ∷ ss)) ≡ slicesBytes sliced s′ (known o ps ∷ ss)
+          Stands m p (slicesBytes (v11 compact) s (known o ps ∷ ss)) → Before s n (known o ps ∷ ss)
+          → ((q n′ : ℕ) → Stands m q (slicesBytes (v11 compact) (later compact) ss) → Before (later compact) n′ ss → reslices T m q n′ ts (sliceRows T (v11 compact) (later compact) q ts ss) ≡ slicesBytes (v11 sliced) (later sliced) ss)
+          → reslices T m p n (t ∷ ts) (sliceRows T (v11 compact) s p (t ∷ ts) (known o ps ∷ ss)) ≡ slicesBytes (v11 sliced) s′ (known o ps ∷ ss)
 
       step : Goal (nameOf T t)
       step S B ih =
           let sl : Slice = known (nameOf T t) ps in
           let q : ℕ = p + n + length (dataBytes sl) in
-          let rest : List Row = sliceRows T compact (later compact) q ts ss in
-          let rows : List Row = sliceRows T compact s p (t ∷ ts) (sl ∷ ss) in
+          let rest : List Row = sliceRows T (v11 compact) (later compact) q ts ss in
+          let rows : List Row = sliceRows T (v11 compact) s p (t ∷ ts) (sl ∷ ss) in
           let O : Others T t rest = follow-others T right t a (later compact) q ts ss A f F (omega arith) in
           let y : skippedPieces ps ≡ 0 = omega arith in
           let h : p + length (sliceFront compact s (isLast ss) sl) ≡ p + n = data-at t s p n ps ss rest L y O S B in
-          let R : rows ≡ pieceRows T t (p + n) ps ++ rest = ap (λ (d : ℕ). pieceRows T t d ps ++ sliceRows T compact (later compact) (d + length (dataBytes sl)) ts ss) h in
+          let R : rows ≡ pieceRows T t (p + n) ps ++ rest = ap (λ (d : ℕ). pieceRows T t d ps ++ sliceRows T (v11 compact) (later compact) (d + length (dataBytes sl)) ts ss) h in
           ap₂ (λ (x y : List ℕ). x ++ y)
           (ap₂ (λ (l : Bool) (r : List Row). reslice T m t l p n r) (last-above T ts ss F) R ∙ slice-is t s p n ps ss rest L y O S B s′ d)
           (ap₂ (λ (k : ℕ) (r : List Row). reslices T m k 1 ts r) (ap (dataEnd T m t p (p + n)) R ∙ end-is t s p n ps ss rest L y O S B)
           (ap (λ (r : List Row). drop (ownCount T t r) r) R ∙ pieces-count T t (p + n) (owned-held T t ps L y) O)
-          ∙ ih q 1 (subst (λ (d : ℕ). Stands m (d + length (dataBytes sl)) (slicesBytes compact (later compact) ss)) h (slices-stand T m compact s sl ss p S)) (before-later ss))
+          ∙ ih q 1 (subst (λ (d : ℕ). Stands m (d + length (dataBytes sl)) (slicesBytes (v11 compact) (later compact) ss)) h (slices-stand T m (v11 compact) s sl ss p S)) (before-later ss))
 
       go : (o : List ℕ) → o ≡ nameOf T t → Goal o
       go o e = subst Goal (sym e) step
@@ -256,18 +256,18 @@ module _ (T m : List ℕ) (right : faults T ≡ fine) where
 -- ---- how long they are
 
 slices-long : (g : Format) (s : Stand) (sl : Slice) (ss : List Slice)
-    → length (slicesBytes g s (sl ∷ ss)) ≡ length (sliceFront g s (isLast ss) sl) + length (dataBytes sl) + length (slicesBytes g (later g) ss)
+    → length (slicesBytes (v11 g) s (sl ∷ ss)) ≡ length (sliceFront g s (isLast ss) sl) + length (dataBytes sl) + length (slicesBytes (v11 g) (later g) ss)
 unfolding slicesBytes
 slices-long g s sl ss =
-    omega (arith, length-append (sliceFront g s (isLast ss) sl ++ dataBytes sl) (slicesBytes g (later g) ss), length-append (sliceFront g s (isLast ss) sl) (dataBytes sl))
+    omega (arith, length-append (sliceFront g s (isLast ss) sl ++ dataBytes sl) (slicesBytes (v11 g) (later g) ss), length-append (sliceFront g s (isLast ss) sl) (dataBytes sl))
 
-slices-none : length (slicesBytes sliced (later sliced) []) ≡ length (slicesBytes compact (later compact) []) + 0
+slices-none : length (slicesBytes (v11 sliced) (later sliced) []) ≡ length (slicesBytes (v11 compact) (later compact) []) + 0
 unfolding slicesBytes
 slices-none = refl
 
 module _ (T : List ℕ) where
-  later-growth : (ts : List ℕ) (ss : List Slice) → Follow T ts ss
-      → length (slicesBytes sliced (later sliced) ss) ≡ length (slicesBytes compact (later compact) ss) + laterGrowth T ts
+  later-growth : (ts : List ℕ) (ss : List Slice) → Follow T (v11 compact) ts ss
+      → length (slicesBytes (v11 sliced) (later sliced) ss) ≡ length (slicesBytes (v11 compact) (later compact) ss) + laterGrowth T ts
   unfolding laterGrowth due idOf
   later-growth [] [] F = slices-none
   later-growth [] (sl ∷ ss) F = absurd F
@@ -285,8 +285,8 @@ module _ (T : List ℕ) where
         later-growth ts ss F,
       )
 
-  pub first-growth : (ts : List ℕ) (sl : Slice) (ss : List Slice) → Follow T ts (sl ∷ ss)
-      → length (slicesBytes sliced first (sl ∷ ss)) ≡ length (slicesBytes compact first (sl ∷ ss)) + growth T ts
+  pub first-growth : (ts : List ℕ) (sl : Slice) (ss : List Slice) → Follow T (v11 compact) ts (sl ∷ ss)
+      → length (slicesBytes (v11 sliced) first (sl ∷ ss)) ≡ length (slicesBytes (v11 compact) first (sl ∷ ss)) + growth T ts
   unfolding growth due idOf
   first-growth [] sl ss F = absurd F
   first-growth (t ∷ ts) (passed b nm x) ss F = absurd F

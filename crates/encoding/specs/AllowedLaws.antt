@@ -4,6 +4,7 @@
 --   searched-here, -after, -before  a step of the search: the middle entry is the number, is below it, is above it
 --   rises-apart                     on a list that rises a later entry is greater
 --   allows-among, among-allows      what an enum allows it has, and the other way round
+--   most-greatest                   `most` is the greatest, where there is one
 use mathlib.Core.Path.{_≡_, refl, ap, _∙_}
 use mathlib.Core.Bool.{Bool, true, false, false≢true}
 use mathlib.Core.List.{List}
@@ -14,8 +15,8 @@ use lib.ListN.{length, getD}
 use lib.Dec.{eqb, ltb}
 use borrow.Author.Tests.{leb-true, le-leb, eqb-true, eq-eqb, ne-eqb, ltb-true, ltb-false, lt-ltb, le-ltb}
 use Rattle.encoding.specs.Result.{pick}
-use Rattle.encoding.specs.Types.{Allowed, upto, only, searched, allows}
-use Rattle.encoding.specs.Grammar.{Among, Rises, ListRises}
+use Rattle.encoding.specs.Types.{Allowed, upto, only, searched, allows, most}
+use Rattle.encoding.specs.Grammar.{Among, Greatest, Rises, ListRises}
 
 -- ---- a step of the search
 
@@ -108,3 +109,14 @@ pub among-allows : (a : Allowed) (n : ℕ) → ListRises a → Among a n → all
 unfolding allows
 among-allows (upto g) n R h = le-leb n g h
 among-allows (only l) n R h = among-found l R n (length l) 0 (length l) (h .0) (omega arith) (omega arith) (omega arith) (h .1) (h .2)
+
+pub most-greatest : (a : Allowed) → ListRises a → (n : ℕ) → Among a n → Greatest a (most a)
+unfolding most
+most-greatest (upto g) R n h = record { among = omega arith; most = λ m k. k }
+most-greatest (only l) R n h = record { among = (length l - 1, omega (arith, h .1), refl); most = λ m k. below m (k .0) (k .1) (k .2) }
+  where
+    below : (m i : ℕ) → i < length l → getD l i 0 ≡ m → m ≤ getD l (length l - 1) 0
+    below m i k e = elim (ℕ-discrete i (length l - 1)) [
+      | yes q ↦ omega (arith, ap (λ (x : ℕ). getD l x 0) q)
+      | no q ↦ omega (arith, rises-apart l R i (length l - 1) (omega (arith, q)) (omega arith))
+    ]

@@ -4,22 +4,25 @@
 --   exact-is, is-exact          exactly one value of a type is a string of the grammar, and the other way round
 --   takes-extent                the reader of extents
 --   extent-is, is-extent        what it takes as a whole is a string of the grammar, and the other way round
-use mathlib.Core.Path.{_≡_, refl, subst}
-use mathlib.Core.Bool.{true}
+use mathlib.Core.Path.{_≡_, refl, sym, ap, _∙_, subst}
+use mathlib.Core.Bool.{Bool, true, false}
 use mathlib.Core.List.{List, [], _++_, append-nil}
 use Prim.Native.Nat.{ℕ}
 use native.Mathlib.Omega.{arith}
 use lib.ListN.{length}
 use lib.Seq.{take-length}
-use Rattle.encoding.specs.Result.{Parser, ok, chunk, skip, mapc, bytes}
+use lib.Dec.{leb}
+use borrow.Author.Tests.{leb-true, leb-false, le-leb, lt-leb}
+use Rattle.encoding.specs.Result.{Parser, ok, pick, chunk, skip, mapc, bytes}
 use Rattle.encoding.specs.ResultLaws.{pick-true, bytes-ok, bytes-step, mapc-ok, mapc-step}
-use Rattle.encoding.specs.Types.{Allowed, allows, Num, short, int, long, float, double, width, Ty, Tys, nil, cons, broken, bool, byte, string, proxy, num, enum, struct, seq, dict, Bits, f1, f2, f4, f8, size, vsize, fsize, class}
-use Rattle.encoding.specs.Value.{enumForm, value, values, exact}
+use Rattle.encoding.specs.Types.{Allowed, allows, most, Num, short, int, long, float, double, width, Ty, Tys, nil, cons, broken, bool, byte, string, proxy, oldProxy, num, enum, oldEnum, struct, seq, dict, Bits, f1, f2, f4, f8, size, vsize, fsize, class}
+use Rattle.encoding.specs.Number.{val, number}
+use Rattle.encoding.specs.Value.{enumForm, enumWidth, value, values, exact}
 use Rattle.encoding.specs.ValueLaws.{exact-ok, exact-step}
 use Rattle.encoding.specs.Optional.{extent}
-use Rattle.encoding.specs.Grammar.{IsInt, IsSize, AnyBytes, IsNum, IsEnum, enumerator, IsValue, AreValues, IsSizeAlone, alone, IsVSize, vsize-of, IsFSize, fsize-of, IsExtent, ListRises, ListsRise, AllRise}
+use Rattle.encoding.specs.Grammar.{IsInt, IsSize, AnyBytes, IsNum, Among, IsEnum, enumerator, OldWidth, a-byte, a-short, an-int, IsOldEnum, old-enumerator, IsValue, AreValues, IsSizeAlone, alone, IsVSize, vsize-of, IsFSize, fsize-of, IsExtent, ListRises, ListsRise, AllRise}
 use Rattle.encoding.specs.GrammarLaws.{Reads, Takes, reads-as, reads-must, takes-map, takes-then, reads-fail, reads-chunk, takes-skip, takes-pure, takes-counted, reads-size, SizeThen, after-size, reads-sized, IntThen, after-int, reads-declared}
-use Rattle.encoding.specs.AllowedLaws.{allows-among, among-allows}
+use Rattle.encoding.specs.AllowedLaws.{allows-among, among-allows, most-greatest}
 use Rattle.encoding.specs.ProxyLaws.{takes-text, takes-bool, takes-proxy}
 
 -- ---- values
@@ -40,6 +43,37 @@ takes-enum g R =
     back : {b : List ℕ} → IsEnum g b → (n : ℕ) × ((enumForm g n ≡ 0) × IsSize n b)
     back (enumerator {n} a s) = (n, (rw (among-allows g n R a), s))
 
+-- the width of an enumerator in 1.0 is that of document 02
+width-old : (g : ℕ) → OldWidth g (enumWidth g)
+unfolding enumWidth
+width-old g = go (leb g 126) refl (leb g 32766) refl
+  where
+    go : (a : Bool) → leb g 126 ≡ a → (b : Bool) → leb g 32766 ≡ b → OldWidth g (pick a 1 (pick b 2 4))
+    go true e b q = a-byte (leb-true g 126 e)
+    go false e true q = a-short (leb-false g 126 e) (leb-true g 32766 q)
+    go false e false q = an-int (leb-false g 32766 q)
+
+old-width : {g k : ℕ} → OldWidth g k → k ≡ enumWidth g
+unfolding enumWidth
+old-width {g} (a-byte h) = rw (le-leb g 126 h)
+old-width {g} (a-short h k) = rw (lt-leb g 126 h, le-leb g 32766 k)
+old-width {g} (an-int h) = rw (lt-leb g 126 (omega arith), lt-leb g 32766 h)
+
+takes-old-enum : (g : Allowed) → ListRises g → Takes (value (oldEnum g)) (IsOldEnum g)
+unfolding value enumForm number
+takes-old-enum g R = reads-as (λ _ b w. onward b (w .0) (w .1 .0) (w .1 .1)) (λ _ b w. back w) (takes-map (reads-must (enumForm g) (reads-chunk (enumWidth (most g)) val)))
+  where
+    onward : (b : List ℕ) (n : ℕ) → enumForm g n ≡ 0 → (n ≡ val b) × AnyBytes (enumWidth (most g)) b → IsOldEnum g b
+    onward b n e (v, l) =
+        let a : Among g n = allows-among g n (pick-true (allows g n) 8 e) in
+        old-enumerator (most-greatest g R n a) (subst (OldWidth (most g)) (sym l) (width-old (most g))) (subst (Among g) v a)
+
+    back : {b : List ℕ} → IsOldEnum g b → (n : ℕ) × ((enumForm g n ≡ 0) × ((n ≡ val b) × AnyBytes (enumWidth (most g)) b))
+    back (old-enumerator {g = h} {b} G W a) =
+        let M = most-greatest g R (val b) a in
+        let same : h ≡ most g = omega (arith, M .most h (G .among), G .most (most g) (M .among)) in
+        (val b, (rw (among-allows g (val b) R a), (refl, old-width W ∙ ap enumWidth same)))
+
 mutual
   unfolding value values IsValue AreValues ListsRise AllRise
 
@@ -48,9 +82,11 @@ mutual
   takes-value bool R = takes-bool
   takes-value byte R = takes-skip 1
   takes-value string R = takes-text
-  takes-value proxy R = takes-proxy
+  takes-value proxy R = takes-proxy false
+  takes-value oldProxy R = takes-proxy true
   takes-value (num w) R = takes-num w
   takes-value (enum g) R = takes-enum g R
+  takes-value (oldEnum g) R = takes-old-enum g R
   takes-value (struct ts) R = takes-values ts R
   takes-value (seq t) R = takes-counted (takes-value t R)
   takes-value (dict k v) R = takes-counted (takes-then (takes-value k (R .0)) (takes-value v (R .1)))

@@ -13,8 +13,9 @@
 --   InString t      what a string may hold, said here alone
 --   IsString t      the string t: its size, then its bytes
 --   IsText          any string
---   IsProxy         a proxy
---   Among a n       an enumerator n that an enum has
+--   IsProxy k       a proxy, with k bytes of protocol and encoding: 4, in 1.0 none
+--   Among a n       an enumerator n that an enum has; Greatest: and none is greater
+--   OldWidth g k    in 1.0 enumerators of at most g are numbers of k bytes
 --   ListsRise t     the lists of allowed enumerators in a type rise
 --   IsValue t       a value of type t
 --   AreValues ts    values of the types ts, one after another
@@ -25,7 +26,7 @@ use Prim.Native.Nat.{ℕ, zero, suc, _+_, _≤_, _<_}
 use lib.ListN.{length, getD}
 use Rattle.encoding.specs.Utf8.{Utf8}
 use Rattle.encoding.specs.Number.{val, Short}
-use Rattle.encoding.specs.Types.{Allowed, upto, only, Num, short, int, long, float, double, Ty, Tys, nil, cons, broken, bool, byte, string, proxy, num, enum, struct, seq, dict, Bits, f1, f2, f4, f8, size, vsize, fsize, class}
+use Rattle.encoding.specs.Types.{Allowed, upto, only, Num, short, int, long, float, double, Ty, Tys, nil, cons, broken, bool, byte, string, proxy, oldProxy, num, enum, oldEnum, struct, seq, dict, Bits, f1, f2, f4, f8, size, vsize, fsize, class}
 
 -- ---- putting grammars together
 
@@ -92,14 +93,14 @@ pub data AreEndpoints : List ℕ → Type 0 where
   adapter : {a b : List ℕ} → IsSize 0 a → IsText b → AreEndpoints (a ++ b)
   some : {n : ℕ} {a b : List ℕ} → IsSize (suc n) a → Repeats (AnyBytes 2 ⨾ IsEncapsulation) (suc n) b → AreEndpoints (a ++ b)
 
--- facets, mode, secure, protocol and encoding of two bytes each, endpoints
-abbrev pub IsReference : List ℕ → Type 0
-IsReference = AreFacets ⨾ ByteBelow 5 ⨾ ByteBelow 2 ⨾ AnyBytes 4 ⨾ AreEndpoints
+-- facets, mode, secure, k bytes of protocol and encoding, endpoints
+abbrev pub IsReference : ℕ → List ℕ → Type 0
+IsReference k = AreFacets ⨾ ByteBelow 5 ⨾ ByteBelow 2 ⨾ AnyBytes k ⨾ AreEndpoints
 
 -- identity name, then category; both empty is nil and ends it, an empty name has no category
-pub data IsProxy : List ℕ → Type 0 where
-  is-nil : {a b : List ℕ} → IsString [] a → IsString [] b → IsProxy (a ++ b)
-  is-full : {name category a b c : List ℕ} → 1 ≤ length name → IsString name a → IsString category b → IsReference c → IsProxy (a ++ b ++ c)
+pub data IsProxy (k : ℕ) : List ℕ → Type 0 where
+  is-nil : {a b : List ℕ} → IsString [] a → IsString [] b → IsProxy k (a ++ b)
+  is-full : {name category a b c : List ℕ} → 1 ≤ length name → IsString name a → IsString category b → IsReference k c → IsProxy k (a ++ b ++ c)
 
 -- ---- values
 
@@ -120,6 +121,21 @@ Among (only l) n = (i : ℕ) × (i < length l) × (getD l i 0 ≡ n)
 pub data IsEnum (g : Allowed) : List ℕ → Type 0 where
   enumerator : {n : ℕ} {b : List ℕ} → Among g n → IsSize n b → IsEnum g b
 
+-- the greatest enumerator of an enum
+pub record Greatest (a : Allowed) (g : ℕ) : Type 0 where
+  pub among : Among a g
+  pub most : (n : ℕ) → Among a n → n ≤ g
+
+-- the bytes of an enumerator in 1.0, by the greatest: to 126, to 32,766, above
+pub data OldWidth (g : ℕ) : ℕ → Type 0 where
+  a-byte : g ≤ 126 → OldWidth g 1
+  a-short : 127 ≤ g → g ≤ 32766 → OldWidth g 2
+  an-int : 32767 ≤ g → OldWidth g 4
+
+-- in 1.0 an enumerator is a number of so many bytes, unsigned
+pub data IsOldEnum (a : Allowed) : List ℕ → Type 0 where
+  old-enumerator : {g : ℕ} {b : List ℕ} → Greatest a g → OldWidth g (length b) → Among a (val b) → IsOldEnum a b
+
 -- string: size, then that many bytes; sequence: size, elements; dictionary: size, pairs, order and equal keys kept; struct: its members
 unfoldable mutual
   pub IsValue : Ty → List ℕ → Type 0
@@ -127,9 +143,11 @@ unfoldable mutual
   IsValue bool = ByteBelow 2
   IsValue byte = AnyBytes 1
   IsValue string = IsText
-  IsValue proxy = IsProxy
+  IsValue proxy = IsProxy 4
+  IsValue oldProxy = IsProxy 0
   IsValue (num w) = IsNum w
   IsValue (enum g) = IsEnum g
+  IsValue (oldEnum g) = IsOldEnum g
   IsValue (struct ts) = AreValues ts
   IsValue (seq t) = Counted (IsValue t)
   IsValue (dict k v) = Counted (IsValue k ⨾ IsValue v)
@@ -157,8 +175,10 @@ unfoldable mutual
   ListsRise byte = Unit {0}
   ListsRise string = Unit {0}
   ListsRise proxy = Unit {0}
+  ListsRise oldProxy = Unit {0}
   ListsRise (num w) = Unit {0}
   ListsRise (enum a) = ListRises a
+  ListsRise (oldEnum a) = ListRises a
   ListsRise (struct ts) = AllRise ts
   ListsRise (seq t) = ListsRise t
   ListsRise (dict k v) = ListsRise k × ListsRise v

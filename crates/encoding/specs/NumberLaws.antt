@@ -17,7 +17,7 @@ use lib.Dec.{ltb}
 use borrow.Author.Tests.{leb-false, ltb-true, ltb-false, lt-leb, lt-ltb, le-ltb}
 use mathlib.Core.Option.{Option}
 use Rattle.encoding.specs.Result.{Parser, ok, pick, _>>=_, pure, chunk, item, must, firstOf}
-use Rattle.encoding.specs.ResultLaws.{Closed, by-pick, held, pick-true, pick-judges, firstOf-judges, none-judges, Bound, bind-ok, bind-step, bind-take, bind-written, pure-ok, chunk-ok, chunk-written, item-ok, item-step, must-ok, must-step, firstOf-ok, Held, Ends, ends-chunk, ends-item, ends-bind, Eats, eats-chunk, eats-first, eats-item, eats-must, eats-mapc, Starved, starved-chunk}
+use Rattle.encoding.specs.ResultLaws.{Closed, by-pick, held, pick-true, pick-judges, firstOf-judges, none-judges, Bound, bind-ok, bind-step, bind-take, bind-written, pure-ok, chunk-ok, chunk-written, item-ok, item-step, must-ok, must-step, firstOf-ok, Held, Ends, ends-chunk, ends-item, ends-bind, Eats, eats-chunk, eats-first, eats-item, eats-must, eats-mapc, Starved, starved-chunk, starved-item, starved-must, starved-bind}
 use Rattle.encoding.specs.Utf8.{isUtf8, Utf8}
 use Rattle.encoding.specs.Utf8Laws.{utf8-ok, utf8-step}
 use Rattle.encoding.specs.Number.{Bytes, val, leBytes, negative, number, byte, boolForm, bool, sizeForm, sizeTail, size, sizeBytes, lengthForm, declared, Content, string, stringBytes}
@@ -93,7 +93,7 @@ starved-number k = starved-chunk k val
 
 -- ---- properties that all ways of joining readers keep
 
-module _ {P : (A : Type 0) → Parser A → Type 0} {Stops : (List ℕ → Option ℕ) → Type 0} (C : Closed P Stops) where
+module _ {old : Bool} {P : (A : Type 0) → Parser A → Type 0} {Stops : (List ℕ → Option ℕ) → Type 0} (C : Closed old P Stops) where
   pub closed-number : (k : ℕ) → P ℕ (number k)
   unfolding number
   closed-number k = C .by-chunk k val
@@ -104,40 +104,40 @@ module _ {P : (A : Type 0) → Parser A → Type 0} {Stops : (List ℕ → Optio
 
   pub closed-bool : P (Unit {0}) bool
   unfolding bool boolForm
-  closed-bool = C .by-mapc _ (C .by-must _ closed-byte boolForm (λ b. pick-judges (ltb b 2) 0 8 refl refl)) (λ _ _. tt)
+  closed-bool = C .by-mapc _ (C .by-must _ closed-byte boolForm (λ b. pick-judges old (ltb b 2) 0 8 refl refl)) (λ _ _. tt)
 
   pub closed-size : P ℕ size
   unfolding size sizeTail sizeForm
   closed-size =
       C .by-item _ (C .by-bind byte sizeTail closed-byte λ b.
       by-pick C (ltb b 255) _ _ (C .by-pure b)
-      (C .by-must _ (closed-number 4) sizeForm (λ n. firstOf-judges 7 (ltb n 255) _ refl (firstOf-judges 7 (negative 4 n) [] refl none-judges))))
+      (C .by-must _ (closed-number 4) sizeForm (λ n. firstOf-judges old 7 (ltb n 255) _ refl (firstOf-judges old 7 (negative 4 n) [] refl (none-judges old)))))
 
   pub closed-declared : (least own : ℕ) → P (List ℕ) (declared least own)
   unfolding declared lengthForm
   closed-declared least own =
       C .by-item _ (C .by-bind _ _
-      (C .by-must _ (closed-number 4) (lengthForm least) (λ n. firstOf-judges 11 (ltb n least) _ refl (firstOf-judges 11 (negative 4 n) [] refl none-judges)))
+      (C .by-must _ (closed-number 4) (lengthForm least) (λ n. firstOf-judges old 11 (ltb n least) _ refl (firstOf-judges old 11 (negative 4 n) [] refl (none-judges old))))
       (λ n. C .by-chunk (n - own) (λ b. b)))
 
   pub closed-string : P (List ℕ) string
   unfolding string Content
-  closed-string = C .by-must _ (C .by-item _ (C .by-bind size _ closed-size (λ n. C .by-chunk n (λ b. b)))) Content (λ b. pick-judges (isUtf8 b) 0 24 refl refl)
+  closed-string = C .by-must _ (C .by-item _ (C .by-bind size _ closed-size (λ n. C .by-chunk n (λ b. b)))) Content (λ b. pick-judges old (isUtf8 b) 0 24 refl refl)
 
 pub held-byte : Held byte
-held-byte = closed-byte held
+held-byte = closed-byte (held false)
 
 pub held-bool : Held bool
-held-bool = closed-bool held
+held-bool = closed-bool (held false)
 
 pub held-size : Held size
-held-size = closed-size held
+held-size = closed-size (held false)
 
 pub held-declared : (least own : ℕ) → Held (declared least own)
-held-declared = closed-declared held
+held-declared = closed-declared (held false)
 
 pub held-string : Held string
-held-string = closed-string held
+held-string = closed-string (held false)
 
 -- ---- one byte
 
@@ -148,6 +148,10 @@ eats-byte = eats-number 1 (omega arith)
 pub starved-byte : Starved byte
 unfolding byte
 starved-byte = starved-number 0
+
+pub starved-string : Starved string
+unfolding string size
+starved-string = starved-must Content _ (starved-item _ (starved-bind _ _ (starved-item _ (starved-bind _ _ starved-byte))))
 
 pub byte-written : (b : ℕ) (r : List ℕ) → byte (b ∷ r) ≡ ok b 1
 unfolding byte number val

@@ -4,7 +4,7 @@
 --   FixedSize t, FixedSizes ts   t is fixed-size; so is each of ts
 --   HasForm t f                  an optional of type t has form f
 use mathlib.Core.Path.{_≡_}
-use Rattle.encoding.specs.Types.{Allowed, Num, short, int, long, float, double, Ty, Tys, nil, cons, broken, bool, byte, string, proxy, num, enum, struct, seq, dict, f1, f2, f4, f8, size, Form, bare, own, counted, sized}
+use Rattle.encoding.specs.Types.{Allowed, Num, short, int, long, float, double, Ty, Tys, nil, cons, broken, bool, byte, string, proxy, oldProxy, num, enum, oldEnum, struct, seq, dict, f1, f2, f4, f8, size, Form, bare, own, counted, sized}
 
 -- kinds 0..6 and structs of only these
 mutual
@@ -19,7 +19,7 @@ mutual
     one-more : {t : Ty} {ts : Tys} → FixedSize t → FixedSizes ts → FixedSizes (cons t ts)
 
 -- bool and byte F1; short F2; int and float F4; long and double F8; enum Size; string, sequence of bool or byte VSize with no further size;
--- other fixed-size structs and containers of fixed-size parts VSize; the rest, proxy too, FSize
+-- other fixed-size structs and containers of fixed-size parts VSize; the rest, proxy too, FSize. 1.0 has no optionals: its types are among the rest
 pub data HasForm : Ty → Form → Type 0 where
   bool-f1 : HasForm bool (bare f1)
   byte-f1 : HasForm byte (bare f1)
@@ -39,4 +39,6 @@ pub data HasForm : Ty → Form → Type 0 where
   sequence-sized : {t : Ty} → (FixedSize t → ⊥) → HasForm (seq t) sized
   dictionary-sized : {k v : Ty} → (FixedSize k × FixedSize v → ⊥) → HasForm (dict k v) sized
   proxy-sized : HasForm proxy sized
+  old-proxy-sized : HasForm oldProxy sized
+  old-enum-sized : {g : Allowed} → HasForm (oldEnum g) sized
   broken-sized : HasForm broken sized

@@ -7,8 +7,8 @@ use mathlib.Core.Bool.{Bool, true, false, _&&_, true≢false, false≢true}
 use mathlib.Core.Logic.{_⊎_, inl, inr, ⊎-elim}
 use Rattle.encoding.specs.Result.{pick}
 use Rattle.encoding.specs.ResultLaws.{both-true}
-use Rattle.encoding.specs.Types.{Num, short, int, long, float, double, Ty, Tys, nil, cons, broken, bool, byte, string, proxy, num, enum, struct, seq, dict, fixed, fixeds, single, Form, own, counted, sized, formOf}
-use Rattle.encoding.specs.OptionalForm.{FixedSize, a-bool, a-byte, a-number, a-struct, FixedSizes, no-more, one-more, HasForm, bool-f1, byte-f1, short-f2, int-f4, float-f4, long-f8, double-f8, enum-size, string-own, bools-own, bytes-own, struct-counted, sequence-counted, dictionary-counted, struct-sized, sequence-sized, dictionary-sized, proxy-sized, broken-sized}
+use Rattle.encoding.specs.Types.{Num, short, int, long, float, double, Ty, Tys, nil, cons, broken, bool, byte, string, proxy, oldProxy, num, enum, oldEnum, struct, seq, dict, fixed, fixeds, single, Form, own, counted, sized, formOf}
+use Rattle.encoding.specs.OptionalForm.{FixedSize, a-bool, a-byte, a-number, a-struct, FixedSizes, no-more, one-more, HasForm, bool-f1, byte-f1, short-f2, int-f4, float-f4, long-f8, double-f8, enum-size, string-own, bools-own, bytes-own, struct-counted, sequence-counted, dictionary-counted, struct-sized, sequence-sized, dictionary-sized, proxy-sized, old-proxy-sized, old-enum-sized, broken-sized}
 
 -- ---- fixed-size
 
@@ -21,8 +21,10 @@ mutual
   fixed-is byte e = a-byte
   fixed-is string e = absurd (false≢true e)
   fixed-is proxy e = absurd (false≢true e)
+  fixed-is oldProxy e = absurd (false≢true e)
   fixed-is (num w) e = a-number
   fixed-is (enum g) e = absurd (false≢true e)
+  fixed-is (oldEnum g) e = absurd (false≢true e)
   fixed-is (struct ts) e = a-struct (fixeds-are ts e)
   fixed-is (seq t) e = absurd (false≢true e)
   fixed-is (dict k v) e = absurd (false≢true e)
@@ -71,8 +73,10 @@ single-is bool e = inl refl
 single-is byte e = inr refl
 single-is string e = absurd (false≢true e)
 single-is proxy e = absurd (false≢true e)
+single-is oldProxy e = absurd (false≢true e)
 single-is (num w) e = absurd (false≢true e)
 single-is (enum g) e = absurd (false≢true e)
+single-is (oldEnum g) e = absurd (false≢true e)
 single-is (struct ts) e = absurd (false≢true e)
 single-is (seq t) e = absurd (false≢true e)
 single-is (dict k v) e = absurd (false≢true e)
@@ -95,8 +99,10 @@ form-has bool = bool-f1
 form-has byte = byte-f1
 form-has string = string-own
 form-has proxy = proxy-sized
+form-has oldProxy = old-proxy-sized
 form-has (num w) = num-form w
 form-has (enum g) = enum-size
+form-has (oldEnum g) = old-enum-sized
 form-has (struct ts) = go (fixeds ts) refl
   where
     go : (b : Bool) → fixeds ts ≡ b → HasForm (struct ts) (pick b counted sized)
@@ -141,4 +147,6 @@ is-form (dictionary-sized {k} {v} N) = go (fixed k) refl (fixed v) refl
     go true q false e = refl
     go false q b e = refl
 is-form proxy-sized = refl
+is-form old-proxy-sized = refl
+is-form old-enum-sized = refl
 is-form broken-sized = refl

@@ -21,16 +21,16 @@ use Rattle.encoding.specs.ResultLaws.{Closed, Judges, by-pick, framed, h
 use Rattle.encoding.specs.Number.{Bytes, sizeBytes}
 use Rattle.encoding.specs.Number
 use Rattle.encoding.specs.NumberLaws.{closed-byte, closed-size, closed-declared, held-size, ends-declared, eats-byte, starved-byte, size-canonical, declared-canonical}
-use Rattle.encoding.specs.Types.{Ty, short, int, long, float, double, broken, bool, byte, string, proxy, num, enum, struct, seq, dict, fixed, fixeds, single, Bits, f1, f2, f4, f8, size, vsize, fsize, class, bitsAt, Form, bare, own, counted, sized, bitsOf, formOf}
+use Rattle.encoding.specs.Types.{Ty, short, int, long, float, double, broken, bool, byte, string, proxy, oldProxy, num, enum, oldEnum, struct, seq, dict, fixed, fixeds, single, Bits, f1, f2, f4, f8, size, vsize, fsize, class, bitsAt, Form, bare, own, counted, sized, bitsOf, formOf}
 use Rattle.encoding.specs.ValueLaws.{closed-value}
 use Rattle.encoding.specs.Table.{Member, lookup}
 use Rattle.encoding.specs.Optional.{Piece, Header, firstForm, headerTail, headerForm, header, extent, part, content, nextOptional, optionals, requireds, lengthBytes, required, optional, skipped}
 
 -- ---- headers
 
-headers-judge : (ms : List Member) (least : ℕ) (h : Header) → Judges (headerForm ms least h)
+headers-judge : (ms : List Member) (least : ℕ) (h : Header) → Judges false (headerForm ms least h)
 unfolding headerForm
-headers-judge ms least h = firstOf-judges 12 _ _ refl (firstOf-judges 12 _ _ refl (firstOf-judges 13 _ _ refl (firstOf-judges 12 _ [] refl none-judges)))
+headers-judge ms least h = firstOf-judges false 12 _ _ refl (firstOf-judges false 12 _ _ refl (firstOf-judges false 13 _ _ refl (firstOf-judges false 12 _ [] refl (none-judges false))))
 
 module _ (ms : List Member) (least : ℕ) where
   pub eats-header : Eats (header ms least)
@@ -64,12 +64,12 @@ ends-extent class xs d n h = absurd (ok≢bad h refl)
 
 -- ---- properties that all ways of joining readers keep
 
-module _ {P : (A : Type 0) → Parser A → Type 0} {Stops : (List ℕ → Option ℕ) → Type 0} (C : Closed P Stops) where
+module _ {P : (A : Type 0) → Parser A → Type 0} {Stops : (List ℕ → Option ℕ) → Type 0} (C : Closed false P Stops) where
   pub closed-header : (ms : List Member) (least : ℕ) → P Header (header ms least)
   unfolding header headerTail firstForm
   closed-header ms least =
       C .by-must _
-      (C .by-bind _ headerTail (C .by-must _ (closed-byte C) firstForm (λ h. pick-judges (ltb (h / 8) 31) 0 12 refl refl)) λ h.
+      (C .by-bind _ headerTail (C .by-must _ (closed-byte C) firstForm (λ h. pick-judges false (ltb (h / 8) 31) 0 12 refl refl)) λ h.
       by-pick C (eqb (h / 8) 30) _ _ (C .by-mapc _ (closed-size C) (λ n _. record { long = true; tag = n; type = bitsAt (h % 8) }))
       (C .by-pure (record { long = false; tag = h / 8; type = bitsAt (h % 8) })))
       (headerForm ms least) (headers-judge ms least)
@@ -93,16 +93,16 @@ module _ {P : (A : Type 0) → Parser A → Type 0} {Stops : (List ℕ → Optio
   closed-part sized = closed-extent fsize
 
 pub held-header : (ms : List Member) (least : ℕ) → Held (header ms least)
-held-header = closed-header held
+held-header = closed-header (held false)
 
 pub framed-extent : (k : Bits) → Framed (extent k)
-framed-extent = closed-extent framed
+framed-extent = closed-extent (framed false)
 
 pub held-extent : (k : Bits) → Held (extent k)
-held-extent = closed-extent held
+held-extent = closed-extent (held false)
 
 pub held-part : (f : Form) → Held (part f)
-held-part = closed-part held
+held-part = closed-part (held false)
 
 pub ends-part : (f : Form) → Ends (part f)
 unfolding part
@@ -111,7 +111,7 @@ ends-part own xs d n h = ends-bytes _ (held-extent vsize) xs d n h
 ends-part counted xs d n h = ends-extent vsize xs d n h
 ends-part sized xs d n h = ends-extent fsize xs d n h
 
-module _ {P : (A : Type 0) → Parser A → Type 0} {Stops : (List ℕ → Option ℕ) → Type 0} (C : Closed P Stops) where
+module _ {P : (A : Type 0) → Parser A → Type 0} {Stops : (List ℕ → Option ℕ) → Type 0} (C : Closed false P Stops) where
   pub closed-content : (o : Option Member) (h : Header) → P Piece (content o h)
   unfolding content
   closed-content none h = C .by-mapc _ (C .by-bytes _ (closed-extent C (h .type))) (λ b _. skipped (h .tag) (h .type) b)
@@ -126,19 +126,21 @@ module _ {P : (A : Type 0) → Parser A → Type 0} {Stops : (List ℕ → Optio
   unfolding optionals
   closed-optionals stop s ms = C .by-fuel (λ f. many stop (nextOptional ms) f 0) (λ f. C .by-many stop (nextOptional ms) s (closed-optional ms) (eats-optional ms) f 0) (many-fuel stop (nextOptional ms) (eats-optional ms) 0)
 
+-- required members are the same in both encodings, but for their types
+module _ {old : Bool} {P : (A : Type 0) → Parser A → Type 0} {Stops : (List ℕ → Option ℕ) → Type 0} (C : Closed old P Stops) where
   pub closed-requireds : (ms : List Member) → P (List Piece) (requireds ms)
   unfolding requireds
   closed-requireds [] = C .by-pure []
   closed-requireds (m ∷ ms) = C .by-bind _ _ (C .by-bytes _ (closed-value C (m .ty))) (λ b. C .by-mapc _ (closed-requireds ms) (λ ps _. required (m .key) b ∷ ps))
 
 pub held-content : (o : Option Member) (h : Header) → Held (content o h)
-held-content = closed-content held
+held-content = closed-content (held false)
 
 pub held-optional : (ms : List Member) (least : ℕ) → Held (nextOptional ms least)
-held-optional = closed-optional held
+held-optional = closed-optional (held false)
 
 pub held-requireds : (ms : List Member) → Held (requireds ms)
-held-requireds = closed-requireds held
+held-requireds = closed-requireds (held false)
 
 -- any fuel that is not below the bytes left gives the same
 pub optionals-enough : (ms : List Member) (stop : List ℕ → Option ℕ) (f : ℕ) (xs : List ℕ) → length xs ≤ f → optionals stop ms xs ≡ many stop (nextOptional ms) f 0 xs
@@ -171,12 +173,14 @@ formOf-sound bool = tt
 formOf-sound byte = tt
 formOf-sound string = tt
 formOf-sound proxy = tt
+formOf-sound oldProxy = tt
 formOf-sound (num short) = tt
 formOf-sound (num int) = tt
 formOf-sound (num long) = tt
 formOf-sound (num float) = tt
 formOf-sound (num double) = tt
 formOf-sound (enum g) = tt
+formOf-sound (oldEnum g) = tt
 formOf-sound (struct ts) = go (fixeds ts)
   where
     go : (b : Bool) → Sound (pick b counted sized)

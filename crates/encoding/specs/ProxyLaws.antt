@@ -3,6 +3,7 @@
 --   takes-text, takes-bool, takes-proxy   of a string, a bool and a proxy
 use mathlib.Core.Path.{_≡_, refl, subst}
 use mathlib.Core.List.{List, [], _∷_, _++_, append-nil}
+use mathlib.Core.Bool.{Bool}
 use Prim.Native.Nat.{ℕ, zero, suc, _+_, _≤_}
 use native.Mathlib.Omega.{arith}
 use lib.ListN.{length, length-append}
@@ -78,9 +79,13 @@ takes-endpoints = reads-as (λ _ b w. onward (w .0) (w .1)) (λ _ b w. back w) (
 
 -- ---- all of a reference
 
-takes-versions : Takes versions (AnyBytes 4)
+-- the bytes of protocol and encoding
+abbrev pub versionBytes : Bool → ℕ
+versionBytes old = pick old 0 4
+
+takes-versions : (old : Bool) → Takes (versions old) (AnyBytes (versionBytes old))
 unfolding versions
-takes-versions = reads-as (λ _ b w. onward w) (λ _ b w. back 4 b w) (takes-times 4 (takes-skip 1))
+takes-versions old = reads-as (λ _ b w. onward w) (λ _ b w. back (versionBytes old) b w) (takes-times (versionBytes old) (takes-skip 1))
   where
     onward : {n : ℕ} {b : List ℕ} → Repeats (AnyBytes 1) n b → length b ≡ n
     onward none = refl
@@ -92,9 +97,9 @@ takes-versions = reads-as (λ _ b w. onward w) (λ _ b w. back 4 b w) (takes-tim
     back (suc n) [] e = absurd (omega arith)
     back (suc n) (x ∷ b) e = more {a = x ∷ []} refl (back n b (omega arith))
 
-takes-reference : Takes reference IsReference
+takes-reference : (old : Bool) → Takes (reference old) (IsReference (versionBytes old))
 unfolding reference
-takes-reference = takes-then takes-facets (takes-next (must modeForm byte) takes-mode (takes-then takes-bool (takes-then takes-versions takes-endpoints)))
+takes-reference old = takes-then takes-facets (takes-next (must modeForm byte) takes-mode (takes-then takes-bool (takes-then (takes-versions old) takes-endpoints)))
 
 -- ---- all of a proxy
 
@@ -104,42 +109,45 @@ Category n l b = (c : List ℕ) × (l ≡ (n, length c)) × IsString c b
 abbrev Identity : ℕ × ℕ → List ℕ → Type 0
 Identity l b = (identityForm l ≡ 0) × ((n : List ℕ) × (IsString n ⨾ Category (length n) l) b)
 
-abbrev Rest : ℕ → List ℕ → Type 0
-Rest zero = AnyBytes 0
-Rest (suc n) = IsReference
+abbrev Rest : ℕ → ℕ → List ℕ → Type 0
+Rest k zero = AnyBytes 0
+Rest k (suc n) = IsReference k
 
-takes-rest : (n : ℕ) → Takes (pick (eqb n 0) (pure tt) reference) (Rest n)
-takes-rest zero = takes-pure
-takes-rest (suc n) = rw (ne-eqb (suc n) 0 (λ e. omega arith)) takes-reference
+takes-rest : (old : Bool) (n : ℕ) → Takes (pick (eqb n 0) (pure tt) (reference old)) (Rest (versionBytes old) n)
+takes-rest old zero = takes-pure
+takes-rest old (suc n) = rw (ne-eqb (suc n) 0 (λ e. omega arith)) (takes-reference old)
 
 reads-identity : Reads identity Identity
 unfolding identity
 reads-identity = reads-must identityForm (reads-bind reads-string (λ n. reads-map (λ c. (length n, length c)) reads-string))
 
-pub takes-proxy : Takes proxy IsProxy
+pub takes-proxy : (old : Bool) → Takes (proxy old) (IsProxy (versionBytes old))
 unfolding proxy identityForm
-takes-proxy = reads-as (λ _ b w. onward (w .0) (w .1)) (λ _ b w. back w) (reads-bind reads-identity (λ (l : ℕ × ℕ). takes-rest (l .0)))
+takes-proxy old = reads-as (λ _ b w. onward (w .0) (w .1)) (λ _ b w. back w) (reads-bind reads-identity (λ (l : ℕ × ℕ). takes-rest old (l .0)))
   where
-    whole : (n c : List ℕ) {u v : List ℕ} (b : List ℕ) → identityForm (length n, length c) ≡ 0 → IsString n u → IsString c v → Rest (length n) b → IsProxy (u ++ v ++ b)
+    k : ℕ
+    k = versionBytes old
+
+    whole : (n c : List ℕ) {u v : List ℕ} (b : List ℕ) → identityForm (length n, length c) ≡ 0 → IsString n u → IsString c v → Rest k (length n) b → IsProxy k (u ++ v ++ b)
     whole [] [] {u} {v} [] f sn sc w = rw append-nil (is-nil sn sc)
     whole [] [] (x ∷ b) f sn sc w = let z : suc (length b) ≡ 0 = w in absurd (omega arith)
     whole [] (x ∷ c) b f sn sc w = absurd (omega (arith, ltb-false 0 (suc (length c)) (pick-ok (ltb 0 (suc (length c))) 9 f)))
     whole (x ∷ n) c b f sn sc w = is-full {name = x ∷ n} (omega arith) sn sc w
 
-    named : {l : ℕ × ℕ} (n : List ℕ) {a : List ℕ} (b : List ℕ) → identityForm l ≡ 0 → (IsString n ⨾ Category (length n) l) a → Rest (l .0) b → IsProxy (a ++ b)
+    named : {l : ℕ × ℕ} (n : List ℕ) {a : List ℕ} (b : List ℕ) → identityForm l ≡ 0 → (IsString n ⨾ Category (length n) l) a → Rest k (l .0) b → IsProxy k (a ++ b)
     named n b f (both sn (c, e, sc)) w =
-        whole n c b (subst (λ (l : ℕ × ℕ). identityForm l ≡ 0) e f) sn sc (subst (λ (l : ℕ × ℕ). Rest (l .0) b) e w)
+        whole n c b (subst (λ (l : ℕ × ℕ). identityForm l ≡ 0) e f) sn sc (subst (λ (l : ℕ × ℕ). Rest k (l .0) b) e w)
 
-    onward : (l : ℕ × ℕ) {b : List ℕ} → (Identity l ⨾ Rest (l .0)) b → IsProxy b
+    onward : (l : ℕ × ℕ) {b : List ℕ} → (Identity l ⨾ Rest k (l .0)) b → IsProxy k b
     onward l (both {b = b} i w) = named (i .1 .0) b (i .0) (i .1 .1) w
 
     identified : {n c u v : List ℕ} → identityForm (length n, length c) ≡ 0 → IsString n u → IsString c v → Identity (length n, length c) (u ++ v)
     identified {n} {c} f sn sc = (f, (n, both sn (c, refl, sc)))
 
-    full : (n c : List ℕ) {u v b : List ℕ} → 1 ≤ length n → IsString n u → IsString c v → IsReference b → (Identity (length n, length c) ⨾ Rest (length n)) (u ++ v ++ b)
+    full : (n c : List ℕ) {u v b : List ℕ} → 1 ≤ length n → IsString n u → IsString c v → IsReference k b → (Identity (length n, length c) ⨾ Rest k (length n)) (u ++ v ++ b)
     full [] c l sn sc w = absurd (omega arith)
     full (x ∷ n) c l sn sc w = both (identified (rw (ne-eqb (suc (length n)) 0 (λ e. omega arith))) sn sc) w
 
-    back : {b : List ℕ} → IsProxy b → (l : ℕ × ℕ) × (Identity l ⨾ Rest (l .0)) b
+    back : {b : List ℕ} → IsProxy k b → (l : ℕ × ℕ) × (Identity l ⨾ Rest k (l .0)) b
     back (is-nil {a} {b} sn sc) = ((0, 0), subst (Identity (0, 0) ⨾ AnyBytes 0) (append-nil (a ++ b)) (both (identified refl sn sc) refl))
     back (is-full {name} {category} l sn sc w) = ((length name, length category), full name category l sn sc w)

@@ -22,7 +22,7 @@ use Rattle.encoding.specs.Cases.{typeRow, basic, parameters, need, may, 
 -- ---- tables and messages
 
 -- byte; exception B of a byte; exception D, base B, of optional(1) byte; class C of nothing
-abbrev records : List ℕ
+abbrev pub records : List ℕ
 records =
     70 ∷ 71 ∷ 84 ∷ 1 ∷ 0 ∷ 4 ∷ 0 ∷ 2 ∷ 0 ∷ 3 ∷ 0 ∷ 0
     ∷ 1 ∷ 0 ∷ 0 ∷ 0 ∷ 0 ∷ 0 ∷ 0 ∷ 0 ∷ 0 ∷ 0 ∷ 0 ∷ 0
@@ -34,11 +34,11 @@ records =
     ∷ 66 ∷ 68 ∷ 67 ∷ []
 
 -- type row r, and a parameter list, row 1, of one required member of it
-abbrev lone : List ℕ → List ℕ
+abbrev pub lone : List ℕ → List ℕ
 lone r = tableOf (r ∷ parameters 1 ∷ []) (need 0 ∷ [])
 
 -- of one optional member with tag 1
-abbrev loneOptional : List ℕ → List ℕ
+abbrev pub loneOptional : List ℕ → List ℕ
 loneOptional r = tableOf (r ∷ parameters 1 ∷ []) (may 0 1 ∷ [])
 
 -- byte, short, a struct of both, a parameter list of a struct
@@ -173,8 +173,8 @@ short-list = refl
 -- ---- the writer
 
 -- opens the writer's definitions, beside `computed`
-unfoldable writerComputed : ℕ
-unfolding Write.next Write.above Write.begin Write.reachDue Write.optionalRow Write.orAbove Write.entered Write.reachMay Write.reach Write.anyOf Write.stillDue Write.given Write.partOf Write.judge Write.prepend Write.judgeAll Write.piecesOf Write.slicesOf Write.gathered Write.noFormat Write.bounded Write.rowAt Write.tableRules Write.early Write.stoppedFirst Write.rowsGiven Write.message Write.writing Write.writingOf Write.writingNumbers
+unfoldable pub writerComputed : ℕ
+unfolding Write.next Write.above Write.begin Write.reachDue Write.optionalRow Write.orAbove Write.entered Write.reachMay Write.reach Write.stillDue Write.given Write.partOf Write.judge Write.prepend Write.judgeAll Write.piecesOf Write.slicesOf Write.gathered Write.noFormat Write.encodingOf Write.bounded Write.rowAt Write.tableRules Write.early Write.stoppedFirst Write.rowsGiven Write.message Write.writing Write.writingOf Write.writingNumbers
 writerComputed = 0
 
 -- a call under the table of one byte, and its three numbers
@@ -188,7 +188,7 @@ pub record WriterCase : Type 0 where
   pub gives : List ℕ
 
 -- a row of row bytes
-abbrev row : ℕ → ℕ → ℕ → List ℕ
+abbrev pub row : ℕ → ℕ → ℕ → List ℕ
 row m p l = m ∷ 0 ∷ 0 ∷ 0 ∷ p ∷ 0 ∷ 0 ∷ 0 ∷ l ∷ 0 ∷ 0 ∷ 0 ∷ []
 
 -- type, format, count, rows, buffer, room, numbers
@@ -207,7 +207,7 @@ writerCases =
     ∷ writes 1 1 1 (row 0 0 2) (7 ∷ 7 ∷ []) 7 (21 ∷ 0 ∷ 0 ∷ [])  -- 21: two bytes for a byte
     ∷ writes 1 1 1 (row 0 0 0) (7 ∷ []) 7 (21 ∷ 0 ∷ 0 ∷ [])  -- no byte for a byte
     ∷ writes 1 1 1 (row 0 0 1) (7 ∷ []) 6 (22 ∷ 7 ∷ 0 ∷ [])  -- 22: a room of one byte less
-    ∷ writes 1 2 1 (row 0 0 1) (7 ∷ []) 7 (23 ∷ 0 ∷ 0 ∷ [])  -- 23: format 2
+    ∷ writes 1 3 1 (row 0 0 1) (7 ∷ []) 7 (23 ∷ 0 ∷ 0 ∷ [])  -- 23: format 3
     ∷ writes 1 0 1 (row 0 0 1) (7 ∷ []) 7 (23 ∷ 0 ∷ 0 ∷ [])  -- format 0 for a parameter list
     ∷ writes 1 1 1 (row 0 0 1) (7 ∷ []) 7 (0 ∷ 0 ∷ 7 ∷ [])  -- none: written
     ∷ []

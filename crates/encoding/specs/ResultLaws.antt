@@ -15,12 +15,12 @@ use mathlib.Core.Path.{_≡_, refl, sym, ap, ap₂, _∙_, subst}
 use mathlib.Core.Bool.{Bool, true, false, _&&_, _||_, true≢false, false≢true}
 use mathlib.Core.Option.{Option, none, some}
 use mathlib.Core.List.{List, [], _∷_, _++_, map, append-assoc, append-nil}
-use Prim.Native.Nat.{ℕ, zero, suc, _+_, _-_, _≤_}
+use Prim.Native.Nat.{ℕ, zero, suc, _+_, _-_, _≤_, _<_}
 use native.Mathlib.Omega.{arith}
 use lib.ListN.{length, take, drop, length-append, length-drop, take-append-drop}
 use lib.Seq.{take-add, drop-at, drop-drop, take-at, length-take-le}
 use lib.Dec.{eqb, leb}
-use borrow.Author.Tests.{eqb-true, leb-true, le-leb, lt-leb, eq-eqb}
+use borrow.Author.Tests.{eqb-true, eqb-false, leb-true, le-leb, lt-leb, eq-eqb, leb-false}
 use Rattle.encoding.specs.Result.{Res, ok, bad, Parser, pick, shift, after, _>>=_, pure, fail, chunk, skip, atFirst, item, judged, must, made, mapc, bytes, recalled, recall, leave, enter, inside, times, turn, many, atEnd, atMark, firstOf, sameBytes}
 
 -- ---- acceptance and refusal exclude each other
@@ -125,6 +125,58 @@ module _ {A B : Type 0} (p : Parser A) (f : A → Parser B) (xs : List ℕ) wher
   pub bind-next : {a : A} {n : ℕ} → p xs ≡ ok a n → (p >>= f) xs ≡ shift n (f a (drop n xs))
   unfolding _>>=_ after
   bind-next e = rw (_>>=_, e)
+
+-- a refusal of one reader after another is the first one's, or the next one's
+pub data BindRefused {A B : Type 0} (p : Parser A) (f : A → Parser B) (xs : List ℕ) (c q : ℕ) : Type 0 where
+  at-first : p xs ≡ bad c q → BindRefused p f xs c q
+  at-next : {a : A} {n k : ℕ} → p xs ≡ ok a n → f a (drop n xs) ≡ bad c k → q ≡ n + k → BindRefused p f xs c q
+
+pub bind-refused : {A B : Type 0} (p : Parser A) (f : A → Parser B) (xs : List ℕ) {c q : ℕ} → (p >>= f) xs ≡ bad c q → BindRefused p f xs c q
+unfolding _>>=_ after shift
+bind-refused {A} {B} p f xs {c} {q} h = go (p xs) refl h
+  where
+    next : (a : A) (n : ℕ) → p xs ≡ ok a n → (r : Res B) → f a (drop n xs) ≡ r → shift n r ≡ bad c q → BindRefused p f xs c q
+    next a n e (ok b m) i h = absurd (ok≢bad refl h)
+    next a n e (bad d k) i h =
+        let s : d ≡ c = cc in
+        let t : n + k ≡ q = cc in
+        at-next e (i ∙ ap (λ (x : ℕ). bad x k) s) (sym t)
+
+    go : (r : Res A) → p xs ≡ r → after r f xs ≡ bad c q → BindRefused p f xs c q
+    go (ok a n) e h = next a n e (f a (drop n xs)) refl h
+    go (bad d k) e h =
+        let s : d ≡ c = cc in
+        let t : k ≡ q = cc in
+        at-first (e ∙ ap₂ (λ (x y : ℕ). bad x y) s t)
+
+-- a refusal of a judged reader is its own, or that of the judgement
+pub data MustRefused {A : Type 0} (p : Parser A) (f : A → ℕ) (xs : List ℕ) (c q : ℕ) : Type 0 where
+  by-reader : p xs ≡ bad c q → MustRefused p f xs c q
+  by-judge : {a : A} {n : ℕ} → p xs ≡ ok a n → f a ≡ c → (f a ≡ 0 → ⊥) → q ≡ 0 → MustRefused p f xs c q
+
+pub must-refused : {A : Type 0} (p : Parser A) (f : A → ℕ) (xs : List ℕ) {c q : ℕ} → must f p xs ≡ bad c q → MustRefused p f xs c q
+unfolding must judged
+must-refused {A} p f xs {c} {q} h = go (p xs) refl h
+  where
+    judge : (a : A) (n : ℕ) → p xs ≡ ok a n → (b : Bool) → eqb (f a) 0 ≡ b → pick b (ok a n) (bad (f a) 0) ≡ bad c q → MustRefused p f xs c q
+    judge a n e true z h = absurd (ok≢bad refl h)
+    judge a n e false z h =
+        let s : f a ≡ c = cc in
+        let t : 0 ≡ q = cc in
+        by-judge e s (eqb-false (f a) 0 z) (sym t)
+
+    go : (r : Res A) → p xs ≡ r → judged f r ≡ bad c q → MustRefused p f xs c q
+    go (ok a n) e h = judge a n e (eqb (f a) 0) refl h
+    go (bad d k) e h = by-reader (e ∙ h)
+
+-- a chunk is refused where it runs past the end
+pub chunk-refused : {A : Type 0} (k : ℕ) (f : List ℕ → A) (xs : List ℕ) {c q : ℕ} → chunk k f xs ≡ bad c q → (length xs < k) × (c ≡ 4) × (q ≡ 0)
+unfolding chunk
+chunk-refused k f xs {c} {q} h = go (leb k (length xs)) refl h
+  where
+    go : (b : Bool) → leb k (length xs) ≡ b → pick b (ok (f (take k xs)) k) (bad 4 0) ≡ bad c q → (length xs < k) × (c ≡ 4) × (q ≡ 0)
+    go true e h = absurd (ok≢bad refl h)
+    go false e h = (leb-false k (length xs) e, cc, cc)
 
 -- two parts written one after the other are read one after the other
 pub bind-written : {A B : Type 0} (p : Parser A) (f : A → Parser B) (u v r : List ℕ) {a : A} {b : B}
@@ -605,6 +657,10 @@ pub starved-chunk : {A : Type 0} (k : ℕ) (f : List ℕ → A) → Starved (chu
 unfolding chunk
 starved-chunk k f = rw (lt-leb (suc k) 0 (omega arith))
 
+pub starved-item : {A : Type 0} (p : Parser A) → Starved p → Starved (item p)
+unfolding item atFirst
+starved-item p h = ap atFirst h
+
 pub starved-must : {A : Type 0} (f : A → ℕ) (p : Parser A) → Starved p → Starved (must f p)
 unfolding must judged
 starved-must f p P = rw (must, P)
@@ -720,23 +776,23 @@ atMark-looks = record { fits = fits; ends = ends; goes = goes }
 
 -- ---- a property that each way of joining readers keeps
 
--- the refusal numbers of what an encapsulation holds: 4, 7 to 18 and 24
-abbrev pub ofContents : ℕ → Bool
-ofContents c = eqb c 4 || (leb 7 c && leb c 18) || eqb c 24
+-- the refusal numbers of what an encapsulation holds: 4, 7 to 11, 17, 18, 24; in 1.1 also 12 to 16, in 1.0 also 25
+abbrev pub ofContents : Bool → ℕ → Bool
+ofContents old c = eqb c 4 || (leb 7 c && leb c 11) || (leb 17 c && leb c 18) || eqb c 24 || pick old (eqb c 25) (leb 12 c && leb c 16)
 
 -- a judgement gives 0 or one of them
-abbrev pub Judges : ℕ → Type 0
-Judges n = eqb n 0 || ofContents n ≡ true
+abbrev pub Judges : Bool → ℕ → Type 0
+Judges old n = eqb n 0 || ofContents old n ≡ true
 
--- P is kept by each way of joining readers; Stops says which stops of a loop keep it
-pub record Closed (P : (A : Type 0) → Parser A → Type 0) (Stops : (List ℕ → Option ℕ) → Type 0) : Type 1 where
+-- P is kept by each way of joining readers of an encoding, 1.0 or 1.1; Stops says which stops of a loop keep it
+pub record Closed (old : Bool) (P : (A : Type 0) → Parser A → Type 0) (Stops : (List ℕ → Option ℕ) → Type 0) : Type 1 where
   pub by-bind : {A B : Type 0} (p : Parser A) (f : A → Parser B) → P A p → ((a : A) → P B (f a)) → P B (p >>= f)
   pub by-pure : {A : Type 0} (a : A) → P A (pure a)
-  pub by-fail : (A : Type 0) (c : ℕ) → ofContents c ≡ true → P A (fail c)
+  pub by-fail : (A : Type 0) (c : ℕ) → ofContents old c ≡ true → P A (fail c)
   pub by-chunk : {A : Type 0} (k : ℕ) (f : List ℕ → A) → P A (chunk k f)
   pub by-item : {A : Type 0} (p : Parser A) → P A p → P A (item p)
   pub by-recall : {A : Type 0} (p : Parser A) → P A p → (k : ℕ) → P A (recall k p)
-  pub by-must : {A : Type 0} (p : Parser A) → P A p → (f : A → ℕ) → ((a : A) → Judges (f a)) → P A (must f p)
+  pub by-must : {A : Type 0} (p : Parser A) → P A p → (f : A → ℕ) → ((a : A) → Judges old (f a)) → P A (must f p)
   pub by-mapc : {A B : Type 0} (p : Parser A) → P A p → (f : A → ℕ → B) → P B (mapc f p)
   pub by-bytes : {A : Type 0} (p : Parser A) → P A p → P (List ℕ) (bytes p)
   pub by-inside : {B : Type 0} (p : Parser (List ℕ)) (q : Parser B) → P (List ℕ) p → Ends p → P B q → P B (inside p q)
@@ -744,7 +800,7 @@ pub record Closed (P : (A : Type 0) → Parser A → Type 0) (Stops : (List ℕ 
       → (f : ℕ) (s : S) → P (List A) (many stop p f s)
   pub by-fuel : {A : Type 0} (w : ℕ → Parser A) → ((f : ℕ) → P A (w f)) → Fuelled w → P A (λ xs. w (length xs) xs)
 
-module _ {P : (A : Type 0) → Parser A → Type 0} {Stops : (List ℕ → Option ℕ) → Type 0} (C : Closed P Stops) where
+module _ {old : Bool} {P : (A : Type 0) → Parser A → Type 0} {Stops : (List ℕ → Option ℕ) → Type 0} (C : Closed old P Stops) where
   pub by-pick : {A : Type 0} (b : Bool) (p q : Parser A) → P A p → P A q → P A (pick b p q)
   by-pick true p q x y = x
   by-pick false p q x y = y
@@ -759,21 +815,22 @@ module _ {P : (A : Type 0) → Parser A → Type 0} {Stops : (List ℕ → Optio
   by-times (suc n) p x = C .by-bind p (λ _. times n p) x (λ _. by-times n p x)
 
 -- how judgements are built
-pub pick-judges : (b : Bool) (x y : ℕ) → Judges x → Judges y → Judges (pick b x y)
-pick-judges true x y h k = h
-pick-judges false x y h k = k
+module _ (old : Bool) where
+  pub pick-judges : (b : Bool) (x y : ℕ) → Judges old x → Judges old y → Judges old (pick b x y)
+  pick-judges true x y h k = h
+  pick-judges false x y h k = k
 
-pub firstOf-judges : (n : ℕ) (b : Bool) (l : List (ℕ × Bool)) → Judges n → Judges (firstOf l) → Judges (firstOf ((n, b) ∷ l))
-unfolding firstOf
-firstOf-judges n b l h k = pick-judges b n (firstOf l) h k
+  pub firstOf-judges : (n : ℕ) (b : Bool) (l : List (ℕ × Bool)) → Judges old n → Judges old (firstOf l) → Judges old (firstOf ((n, b) ∷ l))
+  unfolding firstOf
+  firstOf-judges n b l h k = pick-judges b n (firstOf l) h k
 
-pub none-judges : Judges (firstOf [])
-unfolding firstOf
-none-judges = refl
+  pub none-judges : Judges old (firstOf [])
+  unfolding firstOf
+  none-judges = refl
 
 -- the frame
-pub framed : Closed (λ A p. Framed {A = A} p) Looks
-framed = record {
+pub framed : (old : Bool) → Closed old (λ A p. Framed {A = A} p) Looks
+framed old = record {
   by-bind = framed-bind;
   by-pure = framed-pure;
   by-fail = λ A c h. framed-fail c;
@@ -793,8 +850,8 @@ abbrev pub Fits : (List ℕ → Option ℕ) → Type 0
 Fits stop = (xs : List ℕ) (k : ℕ) → stop xs ≡ some k → k ≤ length xs
 
 -- bytes taken and places of refusals
-pub held : Closed (λ A p. Held {A = A} p) Fits
-held = record {
+pub held : (old : Bool) → Closed old (λ A p. Held {A = A} p) Fits
+held old = record {
   by-bind = held-bind;
   by-pure = held-pure;
   by-fail = λ A c h. held-fail A c;

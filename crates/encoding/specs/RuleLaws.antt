@@ -155,7 +155,7 @@ named-ok T nm t h =
 
 -- ---- chains
 
-base-le : (T : List ℕ) (t : ℕ) → base T t ≤ t
+pub base-le : (T : List ℕ) (t : ℕ) → base T t ≤ t
 unfolding base
 base-le T t = go (isRecord (kind T t)) (leb (field T t 2) t) refl
   where

@@ -35,11 +35,11 @@ module _ (s : Stand) (judge : Format → List ℕ → ℕ) where
   unfolding head
   starved-head = starved-bind _ _ (starved-must (flagForm s) byte starved-byte)
 
-flags-judge : (s : Stand) (f : ℕ) → Judges (flagForm s f)
+flags-judge : (s : Stand) (f : ℕ) → Judges false (flagForm s f)
 unfolding flagForm
 flags-judge s f =
-    firstOf-judges 14 _ _ refl (firstOf-judges 14 _ _ refl (firstOf-judges 14 _ _ refl
-    (firstOf-judges 13 _ _ refl (firstOf-judges 13 _ [] refl none-judges))))
+    firstOf-judges false 14 _ _ refl (firstOf-judges false 14 _ _ refl (firstOf-judges false 14 _ _ refl
+    (firstOf-judges false 13 _ _ refl (firstOf-judges false 13 _ [] refl (none-judges false)))))
 
 -- bit 2 asks for at least one optional
 pub someForm-ok : (ps : List Piece) → someForm ps ≡ 0 → 1 ≤ length ps
@@ -52,7 +52,7 @@ unfolding someForm
 someForm-step [] h = absurd (omega arith)
 someForm-step (p ∷ ps) h = refl
 
-some-judges : (ps : List Piece) → Judges (someForm ps)
+some-judges : (ps : List Piece) → Judges false (someForm ps)
 unfolding someForm
 some-judges [] = refl
 some-judges (p ∷ ps) = refl
@@ -61,17 +61,17 @@ some-judges (p ∷ ps) = refl
 abbrev pub Meant : Meaning → Type 0
 Meant skip = Unit {0}
 Meant (row t) = Unit {0}
-Meant (wrong n) = ofContents n ≡ true
+Meant (wrong n) = ofContents false n ≡ true
 
 meant-pick : (b : Bool) (m n : Meaning) → Meant m → Meant n → Meant (pick b m n)
 meant-pick true m n h k = h
 meant-pick false m n h k = k
 
-meant-judges : (m : Meaning) → Meant m → Judges (meaningForm m)
+meant-judges : (m : Meaning) → Meant m → Judges false (meaningForm m)
 unfolding meaningForm
 meant-judges skip h = refl
 meant-judges (row t) h = refl
-meant-judges (wrong n) h = go (eqb n 0) (ofContents n) h
+meant-judges (wrong n) h = go (eqb n 0) (ofContents false n) h
   where
     go : (a b : Bool) → b ≡ true → a || b ≡ true
     go true b e = refl
@@ -90,9 +90,9 @@ module _ (T : List ℕ) where
   meant-head top (follow g (suc t)) h =
       meant-pick (isSliced g && not (sameBytes (h .id) (nameOf T t)) || wrongLast T t (h .last)) (wrong 17) (row t) refl tt
 
-  id-judges : (st : Stage) (g : Format) (nm : List ℕ) → Judges (idForm T st g nm)
+  id-judges : (st : Stage) (g : Format) (nm : List ℕ) → Judges false (idForm T st g nm)
   unfolding idForm
-  id-judges (seek s) g nm = pick-judges (not (isSliced g) && isNone (named T nm)) 15 0 refl refl
+  id-judges (seek s) g nm = pick-judges false (not (isSliced g) && isNone (named T nm)) 15 0 refl refl
   id-judges (follow h b) g nm = refl
 
 module _ (T : List ℕ) (top : ℕ) (st : Stage) where
@@ -109,9 +109,9 @@ module _ (T : List ℕ) (top : ℕ) (st : Stage) where
 
 -- ---- properties that all ways of joining readers keep
 
-module _ {P : (A : Type 0) → Parser A → Type 0} {Stops : (List ℕ → Option ℕ) → Type 0} (C : Closed P Stops) where
+module _ {P : (A : Type 0) → Parser A → Type 0} {Stops : (List ℕ → Option ℕ) → Type 0} (C : Closed false P Stops) where
   -- whatever is judged of the type ID
-  pub closed-head : (s : Stand) (judge : Format → List ℕ → ℕ) → ((g : Format) (nm : List ℕ) → Judges (judge g nm)) → P Head (head s judge)
+  pub closed-head : (s : Stand) (judge : Format → List ℕ → ℕ) → ((g : Format) (nm : List ℕ) → Judges false (judge g nm)) → P Head (head s judge)
   unfolding head
   closed-head s judge most =
       C .by-bind _ _ (C .by-must _ (closed-byte C) (flagForm s) (flags-judge s))
@@ -160,10 +160,10 @@ module _ {P : (A : Type 0) → Parser A → Type 0} {Stops : (List ℕ → Optio
         (C .by-bind (slice T top st) _ (closed-slice top st) (λ (r : Slice × Stage). C .by-mapc _ (closed-walk top f (r .1)) (λ c _. ahead (r .0) c)))
 
 pub held-head : (T : List ℕ) (st : Stage) → Held (head (standOf st) (idForm T st))
-held-head T st = closed-head held (standOf st) (idForm T st) (id-judges T st)
+held-head T st = closed-head (held false) (standOf st) (idForm T st) (id-judges T st)
 
 pub held-slice : (T : List ℕ) (top : ℕ) (st : Stage) → Held (slice T top st)
-held-slice T top st = closed-slice held (atMark-looks .fits) T top st
+held-slice T top st = closed-slice (held false) (atMark-looks .fits) T top st
 
 -- ---- the walk over slices
 
@@ -240,7 +240,7 @@ module _ (T : List ℕ) (top : ℕ) where
   unfolding slices
   slices-enough f xs h = walk-enough (length xs) f (seek first) xs (omega arith) h
 
-pub closed-slices : {P : (A : Type 0) → Parser A → Type 0} {Stops : (List ℕ → Option ℕ) → Type 0} (C : Closed P Stops) → Stops atMark → (T : List ℕ) (top : ℕ)
+pub closed-slices : {P : (A : Type 0) → Parser A → Type 0} {Stops : (List ℕ → Option ℕ) → Type 0} (C : Closed false P Stops) → Stops atMark → (T : List ℕ) (top : ℕ)
     → P Chain (slices T top)
 unfolding slices
 closed-slices C marked T top =

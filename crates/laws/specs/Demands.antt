@@ -7,6 +7,7 @@
 --   OneOwner       each member row of a valid table has exactly one owner, and no owner takes a row that is not there
 --   TableFault     the number and the place of a broken rule: 31 to 39 by what is wrong with the first row that is not valid; its first byte, or 0
 --   ReaderRefuses  demand 1: each refusal of the reader has its number and place of document 01's table; every other number is 0 and no lent byte changes
+--   OldNumbers     12 to 16 are no refusals of a 1.0 message
 --   NumbersTold    the numbers of the public calls are those of the reader's answer
 --   ExactUtf8      text by the ranges of its bytes is text by its scalar values
 --   Exact          demand 2, first sentence: a message is accepted exactly when it is the encoding of pieces that conform, and those are read
@@ -20,14 +21,16 @@
 --   ExactCounts    the skip counts count what the rows leave out
 --   NumbersTogether     numbers one after another: all of them where the bytes are there, else 4 at the first that does not fit; NumbersCounted of a sequence
 --   ExactValues    a value of a type is exactly a string of the grammar of values; ExactExtents: an extent is one of the grammar of extents
---   TypesRise      the lists in the types of a valid table rise, which ExactValues asks for
+--   TypesRise      the lists in the types of a valid table rise, in 1.1 and as 1.0 has them, which ExactValues asks for
 --   ExactEnums     a value of an enum is exactly the size of one of its enumerators, as the table lists them
+--   ExactOldEnums  in 1.0 it is exactly the number of one of them, in a byte, short or int by the greatest
 --   EqualSets      types agree exactly where their trees are equal: enums with equal sets, whatever the versions of the two tables
 --   ExactForms     an optional's form is the one that its type has, said apart from the equations
 --   Viewed         the member view: where it shows a part of the message, the fallback, nothing
 --   ReadBack       demand 2: what the writer makes is read as the members given; ReadBackReading of the reader's answer
 --   WriteAgain     demand 2: an accepted message with nothing skipped, written again, is the sliced encoding of its pieces: so a compact record comes back converted
 --   WriteSame      demand 2: an accepted message that is no compact record, with nothing skipped, is written again as it was
+--   OldBelow       demand 2: no 26 for a top gives none for a type below it
 --   OneMessage     demand 2: the members and their bytes, type and format fix the message
 --   EarlyRefused   when the writer answers 31 to 39, 2, 23 or 3; the only other refusals are 20, 21 and 22
 --   RightLists     when it answers 20, and where
@@ -58,17 +61,18 @@ use Rattle.encoding.specs.Number.{Bytes, val, size}
 use Rattle.encoding.specs.Types.{short, int, long, float, double, Ty, byte, num, seq, Form, formOf, Bits}
 use Rattle.encoding.specs.OptionalForm.{HasForm}
 use Rattle.encoding.specs.Value.{value, exact}
-use Rattle.encoding.specs.Grammar.{IsSize, IsValue, ListsRise, IsExtent}
+use Rattle.encoding.specs.Grammar.{IsSize, OldWidth, IsValue, ListsRise, IsExtent}
 use Rattle.encoding.specs.Table.{types, fine, faults, memberTy, trees, tyOf, named, any, chain, range, kind, field, fault, members, Member, lookup}
 use Rattle.encoding.specs.Valid.{Owner, Valid, FirstBroken}
 use Rattle.encoding.specs.Agree.{Enumerator, Agree}
 use Rattle.encoding.specs.Table
 use Rattle.encoding.specs.Optional.{Piece, required, optional, skipped, extent}
-use Rattle.encoding.specs.Slice.{Format, compact, sliced, formatNumber, Slice, known, passed, idOf}
-use Rattle.encoding.specs.Message.{Pieces, list, exception, class, Read, encode, encapsulate, noTop, limit, rules, Row, rows, rowBytes, firstKnown, optionalsSkipped, slicesSkipped, Answer, numbers, answer, reading, room, listed, readingOf, readingNumbers}
+use Rattle.encoding.specs.Slice.{Format, compact, sliced, Slice, known, passed, idOf}
+use Rattle.encoding.specs.Old.{typeAs}
+use Rattle.encoding.specs.Message.{Pieces, list, exception, class, Encoding, v11, isOld, encodingNumber, Read, encode, encapsulate, noTop, limit, rules, Row, rows, rowBytes, firstKnown, optionalsSkipped, slicesSkipped, Answer, numbers, answer, reading, room, listed, readingOf, readingNumbers}
 use Rattle.encoding.specs.Write.{Right, out, stop, partOf, rowAt, writing, output, writingOf, writingNumbers}
 use Rattle.encoding.specs.View.{part, fallback, nothing, viewing, seenBytes}
-use Rattle.encoding.specs.Conform.{Conform}
+use Rattle.encoding.specs.Conform.{WithoutOptionals, Conform}
 use Rattle.encoding.specs.Extends.{Extends, TopsMatch, Counterpart}
 
 -- ---- the type table
@@ -89,8 +93,8 @@ TableFault = (T : List ℕ) (c p : ℕ) → (faults T ≡ fault c p → FirstBro
 
 -- ---- demand 1: one refusal, with its number and its place
 
--- format and pieces, as they are read
-abbrev pub readAs : Format → Pieces → Read
+-- encoding and pieces, as they are read
+abbrev pub readAs : Encoding → Pieces → Read
 readAs f p = record { format = f; pieces = p }
 
 -- 31 to 39, 2 and 3 have nothing to refuse
@@ -105,22 +109,42 @@ pub record Sized (T : List ℕ) (top : ℕ) (m : List ℕ) : Type 0 where
   pub least : 6 ≤ length m
   pub size : val (take 4 m) ≡ length m
 
--- a refusal by the rules, its number and its place: 31 to 39, 2 to 6 in their order, then what the encapsulation holds
+-- the version bytes of 1.1, and of 1.0
+abbrev pub Version11 : List ℕ → Type 0
+Version11 m = take 2 (drop 4 m) ≡ 1 ∷ 1 ∷ []
+
+abbrev pub Version10 : List ℕ → Type 0
+Version10 m = take 2 (drop 4 m) ≡ 1 ∷ 0 ∷ []
+
+-- a message of 1.0 that 6 does not refuse: the top is no class
+pub record OldSized (T : List ℕ) (top : ℕ) (m : List ℕ) : Type 0 where
+  pub sized : Sized T top m
+  pub version : Version10 m
+  pub no-class : kind T top ≡ 14 → ⊥
+
+-- the refusal numbers from 7 on in what an encapsulation holds, but for 24 and 25: 7 to 18, in 1.0 none of 12 to 16
+pub data Misread (m : List ℕ) (n : ℕ) : Type 0 where
+  in-both : 7 ≤ n → n ≤ 18 → (12 ≤ n → n ≤ 16 → ⊥) → Misread m n
+  in-new : (Version10 m → ⊥) → 12 ≤ n → n ≤ 16 → Misread m n
+
+-- a refusal by the rules, its number and its place: 31 to 39, 2 to 6 in their order, 26, then what the encapsulation holds
 pub data Refusal (T : List ℕ) (top : ℕ) (m : List ℕ) : ℕ → ℕ → Type 0 where
   broken-table : {c p : ℕ} → FirstBroken T c p → Refusal T top m c p
   no-top : faults T ≡ fine → noTop T top ≡ true → Refusal T top m 2 0
   too-great : faults T ≡ fine → noTop T top ≡ false → limit < length m → Refusal T top m 3 0
   no-size : Admissible T top m → length m < 4 → Refusal T top m 4 0
   wrong-size : Admissible T top m → 4 ≤ length m → ((6 ≤ length m) × (val (take 4 m) ≡ length m) → ⊥) → Refusal T top m 5 0
-  wrong-version : Sized T top m → (take 2 (drop 4 m) ≡ 1 ∷ 1 ∷ [] → ⊥) → Refusal T top m 6 4
+  wrong-version : Sized T top m → (Version11 m → ⊥) → (Version10 m → kind T top ≡ 14) → Refusal T top m 6 4
+  with-optionals : OldSized T top m → (WithoutOptionals T top → ⊥) → Refusal T top m 26 0
   cut-off : {p : ℕ} → Sized T top m → 6 ≤ p → p ≤ length m → Refusal T top m 4 p
-  misread : {n p : ℕ} → Sized T top m → 7 ≤ n → n ≤ 18 → 6 ≤ p → p ≤ length m → Refusal T top m n p
+  misread : {n p : ℕ} → Sized T top m → Misread m n → 6 ≤ p → p ≤ length m → Refusal T top m n p
   no-text : {p : ℕ} → Sized T top m → 6 ≤ p → p ≤ length m → Refusal T top m 24 p
+  wrong-lead : OldSized T top m → kind T top ≡ 13 → (take 1 (drop 6 m) ≡ 0 ∷ [] → ⊥) → Refusal T top m 25 6
 
 -- a refusal by the reader with a lent list of so many bytes: 19 comes last, at the rows needed
 pub data ReaderRefusal (T : List ℕ) (top : ℕ) (m : List ℕ) (bytes : ℕ) : ℕ → ℕ → Type 0 where
   by-rules : {n p : ℕ} → Refusal T top m n p → ReaderRefusal T top m bytes n p
-  short-list : {f : Format} {p : Pieces} {n : ℕ} → rules T top m ≡ ok (readAs f p) n → bytes < 12 * length (rows T top f p) → ReaderRefusal T top m bytes 19 (length (rows T top f p))
+  short-list : {f : Encoding} {p : Pieces} {n : ℕ} → rules T top m ≡ ok (readAs f p) n → bytes < 12 * length (rows T top f p) → ReaderRefusal T top m bytes 19 (length (rows T top f p))
 
 -- every number but the refusal's and its place is 0, and no byte of a lent list changes
 pub record NothingElse (a : Answer) : Type 0 where
@@ -135,6 +159,11 @@ abbrev pub ReaderRefuses : Type 0
 ReaderRefuses =
     (T : List ℕ) (top : ℕ) (m : List ℕ) (bytes : ℕ) → (reading T top m bytes .refusal ≡ 0 → ⊥)
     → ReaderRefusal T top m bytes (reading T top m bytes .refusal) (reading T top m bytes .place) × NothingElse (reading T top m bytes)
+
+-- 12 to 16 never come for a message of version 1.0
+abbrev pub OldNumbers : Type 0
+OldNumbers =
+    (T : List ℕ) (top : ℕ) (m : List ℕ) (bytes : ℕ) → Version10 m → 12 ≤ reading T top m bytes .refusal → reading T top m bytes .refusal ≤ 16 → ⊥
 
 -- ---- the numbers of the public calls
 
@@ -179,33 +208,33 @@ ExactUtf8 = (b : List ℕ) → (isUtf8 b ≡ true → Utf8 b) × (Utf8 b → isU
 -- ---- demand 2: what is accepted
 
 -- the table is valid, the top is one, the message is within the limit, and it is the encoding of pieces that conform to table and top
-pub record Follows (T : List ℕ) (top : ℕ) (m : List ℕ) (f : Format) (p : Pieces) : Type 0 where
+pub record Follows (T : List ℕ) (top : ℕ) (m : List ℕ) (f : Encoding) (p : Pieces) : Type 0 where
   pub table : Valid T
   pub top-there : noTop T top ≡ false
   pub short : length m ≤ limit
   pub conforms : Conform T top f p
-  pub encoded : m ≡ encapsulate (encode f p)
+  pub encoded : m ≡ encapsulate f (encode f p)
 
 -- Rules out a reader that only refuses, and one that gives a fixed list: both directions are about every message.
 -- Rules out pieces invented after the first slice: the pieces are those of the message.
 abbrev pub Exact : Type 0
 Exact =
-    (T : List ℕ) (top : ℕ) (m : List ℕ) (f : Format) (p : Pieces) (n : ℕ) → Bytes m
+    (T : List ℕ) (top : ℕ) (m : List ℕ) (f : Encoding) (p : Pieces) (n : ℕ) → Bytes m
     → (rules T top m ≡ ok (readAs f p) n → Follows T top m f p × (n ≡ length m))
     × (Follows T top m f p → rules T top m ≡ ok (readAs f p) (length m))
 
--- the answer to pieces in a format
-pub record AnswerOf (T : List ℕ) (top : ℕ) (f : Format) (p : Pieces) (a : Answer) : Type 0 where
+-- the answer to pieces in an encoding
+pub record AnswerOf (T : List ℕ) (top : ℕ) (f : Encoding) (p : Pieces) (a : Answer) : Type 0 where
   pub refusal : a .refusal ≡ 0
   pub place : a .place ≡ 0
   pub type : a .type ≡ firstKnown T top p
-  pub format : a .format ≡ formatNumber f
+  pub format : a .format ≡ encodingNumber f
   pub all-listed : a .rows ≡ rows T top f p
   pub optionals : a .optionals ≡ optionalsSkipped p
   pub slices : a .slices ≡ slicesSkipped p
 
 -- a message that follows the rules, and a lent list of so many bytes that holds its rows
-pub record Readable (T : List ℕ) (top : ℕ) (m : List ℕ) (bytes : ℕ) (f : Format) (p : Pieces) : Type 0 where
+pub record Readable (T : List ℕ) (top : ℕ) (m : List ℕ) (bytes : ℕ) (f : Encoding) (p : Pieces) : Type 0 where
   pub follows : Follows T top m f p
   pub fits : 12 * length (rows T top f p) ≤ bytes
 
@@ -213,24 +242,24 @@ pub record Readable (T : List ℕ) (top : ℕ) (m : List ℕ) (bytes : ℕ) (f :
 abbrev pub Reads : Type 0
 Reads =
     (T : List ℕ) (top : ℕ) (m : List ℕ) (bytes : ℕ) → Bytes m
-    → (reading T top m bytes .refusal ≡ 0 → (f : Format) × (p : Pieces) × Readable T top m bytes f p)
-    × ((f : Format) (p : Pieces) → Readable T top m bytes f p → AnswerOf T top f p (reading T top m bytes))
+    → (reading T top m bytes .refusal ≡ 0 → (f : Encoding) × (p : Pieces) × Readable T top m bytes f p)
+    × ((f : Encoding) (p : Pieces) → Readable T top m bytes f p → AnswerOf T top f p (reading T top m bytes))
 
 -- each element of a list has a property
 pub data All {A : Type 0} (P : A → Type 0) : List A → Type 0 where
   end : All P []
   more : {a : A} {l : List A} → P a → All P l → All P (a ∷ l)
 
--- a row lies inside the message, and its bytes are exactly one value of the member's type
+-- a row lies inside the message, and its bytes are exactly one value of the member's type, as the encoding has it
 -- Rules out rows invented after the first slice.
-pub record RowExact (T m : List ℕ) (r : Row) : Type 0 where
+pub record RowExact (T m : List ℕ) (f : Encoding) (r : Row) : Type 0 where
   pub inside : r .place + r .len ≤ length m
-  pub one : IsValue (memberTy T (trees T) (r .member)) (take (r .len) (drop (r .place) m))
+  pub one : IsValue (typeAs (isOld f) (memberTy T (trees T) (r .member))) (take (r .len) (drop (r .place) m))
 
 abbrev pub ExactRows : Type 0
 ExactRows =
-    (T : List ℕ) (top : ℕ) (m : List ℕ) (f : Format) (p : Pieces) (n : ℕ) → Bytes m
-    → rules T top m ≡ ok (readAs f p) n → All (RowExact T m) (rows T top f p)
+    (T : List ℕ) (top : ℕ) (m : List ℕ) (f : Encoding) (p : Pieces) (n : ℕ) → Bytes m
+    → rules T top m ≡ ok (readAs f p) n → All (RowExact T m f) (rows T top f p)
 
 -- a row of member d in the message m, whose bytes are b
 pub record RowOf (m : List ℕ) (d : Member) (b : List ℕ) (r : Row) : Type 0 where
@@ -263,7 +292,7 @@ Listed T m top (class ss) rs = ListedIn T m ss rs
 -- Rules out a row of another member of the same type, and one that has another value's bytes.
 abbrev pub ListedRows : Type 0
 ListedRows =
-    (T : List ℕ) (top : ℕ) (m : List ℕ) (f : Format) (p : Pieces) (n : ℕ) → Bytes m
+    (T : List ℕ) (top : ℕ) (m : List ℕ) (f : Encoding) (p : Pieces) (n : ℕ) → Bytes m
     → rules T top m ≡ ok (readAs f p) n → Listed T m top p (rows T top f p)
 
 -- rows one after another from a place on: each begins at or after the end of the one before
@@ -274,12 +303,12 @@ Apart at (r ∷ rs) = (at ≤ r .place) × Apart (r .place + r .len) rs
 -- the first row begins after size and version
 abbrev pub RowsApart : Type 0
 RowsApart =
-    (T : List ℕ) (top : ℕ) (m : List ℕ) (f : Format) (p : Pieces) (n : ℕ) → rules T top m ≡ ok (readAs f p) n → Apart 6 (rows T top f p)
+    (T : List ℕ) (top : ℕ) (m : List ℕ) (f : Encoding) (p : Pieces) (n : ℕ) → rules T top m ≡ ok (readAs f p) n → Apart 6 (rows T top f p)
 
 -- Rows that were read may be written: their members come in the writer's order, and no required one is missing.
 abbrev pub RowsRight : Type 0
 RowsRight =
-    (T : List ℕ) (top : ℕ) (m : List ℕ) (f : Format) (p : Pieces) (n : ℕ) → Bytes m
+    (T : List ℕ) (top : ℕ) (m : List ℕ) (f : Encoding) (p : Pieces) (n : ℕ) → Bytes m
     → rules T top m ≡ ok (readAs f p) n → Right T (firstKnown T top p) m (rows T top f p)
 
 -- no two rows have one member
@@ -289,13 +318,13 @@ Once (r ∷ rs) = All (λ (s : Row). r .member ≡ s .member → ⊥) rs × Once
 
 abbrev pub RowsOnce : Type 0
 RowsOnce =
-    (T : List ℕ) (top : ℕ) (m : List ℕ) (f : Format) (p : Pieces) (n : ℕ) → Bytes m
+    (T : List ℕ) (top : ℕ) (m : List ℕ) (f : Encoding) (p : Pieces) (n : ℕ) → Bytes m
     → rules T top m ≡ ok (readAs f p) n → Once (rows T top f p) × (length (rows T top f p) ≤ members T)
 
 -- no bytes are the encoding of two readings
 abbrev pub Unambiguous : Type 0
 Unambiguous =
-    (T : List ℕ) (top : ℕ) (m : List ℕ) (f g : Format) (p q : Pieces) → Bytes m → Follows T top m f p → Follows T top m g q → readAs f p ≡ readAs g q
+    (T : List ℕ) (top : ℕ) (m : List ℕ) (f g : Encoding) (p q : Pieces) → Bytes m → Follows T top m f p → Follows T top m g q → readAs f p ≡ readAs g q
 
 -- the members in known slices; the slices
 unfoldable pub membersIn : List Slice → ℕ
@@ -323,7 +352,7 @@ knownCount T top (class ss) = length (chain T (firstKnown T top (class ss)))
 -- Rules out made-up skip counts.
 abbrev pub ExactCounts : Type 0
 ExactCounts =
-    (T : List ℕ) (top : ℕ) (m : List ℕ) (f : Format) (p : Pieces) (n : ℕ) → Bytes m → rules T top m ≡ ok (readAs f p) n
+    (T : List ℕ) (top : ℕ) (m : List ℕ) (f : Encoding) (p : Pieces) (n : ℕ) → Bytes m → rules T top m ≡ ok (readAs f p) n
     → (length (rows T top f p) + optionalsSkipped p ≡ memberCount p) × (knownCount T top p + slicesSkipped p ≡ sliceCount p)
 
 -- a value is what the grammar says, no more and no less; a list of allowed enumerators that does not rise is none of a valid table
@@ -331,13 +360,21 @@ abbrev pub ExactValues : Type 0
 ExactValues = (t : Ty) → ListsRise t → (b : List ℕ) → (exact t b ≡ true → IsValue t b) × (IsValue t b → exact t b ≡ true)
 
 abbrev pub TypesRise : Type 0
-TypesRise = (T : List ℕ) → Valid T → (t : ℕ) → ListsRise (tyOf T t)
+TypesRise = (T : List ℕ) → Valid T → (old : Bool) (t : ℕ) → ListsRise (typeAs old (tyOf T t))
 
 -- Rules out an enumerator between two entries of a list.
 abbrev pub ExactEnums : Type 0
 ExactEnums =
     (T : List ℕ) → Valid T → (t : ℕ) → t < types T → kind T t ≡ 8 → (b : List ℕ)
     → (exact (tyOf T t) b ≡ true → (n : ℕ) × Enumerator T t n × IsSize n b) × ((n : ℕ) → Enumerator T t n → IsSize n b → exact (tyOf T t) b ≡ true)
+
+-- In 1.0 it is the number of one of its enumerators, in the width that the greatest, a + 65,536·b, needs.
+-- Rules out 127 in one byte, and a width by the number that is written.
+abbrev pub ExactOldEnums : Type 0
+ExactOldEnums =
+    (T : List ℕ) → Valid T → (t : ℕ) → t < types T → kind T t ≡ 8 → (b : List ℕ)
+    → (exact (typeAs true (tyOf T t)) b ≡ true → Enumerator T t (val b) × OldWidth (field T t 0 + 65536 * field T t 1) (length b))
+    × (Enumerator T t (val b) → OldWidth (field T t 0 + 65536 * field T t 1) (length b) → exact (typeAs true (tyOf T t)) b ≡ true)
 
 -- Rules out a list of all up to its last that is another type than version 1 has for the same set.
 abbrev pub EqualSets : Type 0
@@ -415,6 +452,10 @@ pub data SameMembers (m m′ : List ℕ) : List Row → List Row → Type 0 wher
 abbrev pub UnderTop : List ℕ → ℕ → ℕ → Type 0
 UnderTop T top type = any (λ r. eqb r top) (chain T type) ≡ true
 
+-- where 26 refuses nothing under a top, it refuses nothing under a type below that top: a 1.0 message that was read may be written
+abbrev pub OldBelow : Type 0
+OldBelow = (T : List ℕ) (top type : ℕ) → UnderTop T top type → WithoutOptionals T top → WithoutOptionals T type
+
 -- the rows that count and row bytes name
 abbrev pub rowList : ℕ → List ℕ → List Row
 rowList count rows = map (rowAt rows) (range 0 count)
@@ -430,15 +471,20 @@ pub record ReadBackAs (T : List ℕ) (top type format : ℕ) (rs : List Row) (bu
   pub taken : ℕ
   pub accepted : rules T top m ≡ ok read taken
   pub of-type : firstKnown T top (read .pieces) ≡ type
-  pub in-format : formatNumber (read .format) ≡ format
+  pub in-format : encodingNumber (read .format) ≡ format
   pub complete : Complete (read .pieces)
   pub members : SameMembers buffer m rs (rows T top (read .format) (read .pieces))
+
+-- the tops under which a written message is read: the named type itself; a type above it, and in format 2 one whose line has no optionals
+pub data ReadUnder (T : List ℕ) (top type format : ℕ) : Type 0 where
+  as-named : top ≡ type → ReadUnder T top type format
+  from-above : UnderTop T top type → (format ≡ 2 → WithoutOptionals T top) → ReadUnder T top type format
 
 -- Rules out a writer that touches nothing.
 abbrev pub ReadBack : Type 0
 ReadBack =
     (T : List ℕ) (top type format count : ℕ) (rs buffer : List ℕ) (room : ℕ) (m : List ℕ)
-    → writing T type format count rs buffer room ≡ out m → UnderTop T top type → ReadBackAs T top type format (rowList count rs) buffer m
+    → writing T type format count rs buffer room ≡ out m → ReadUnder T top type format → ReadBackAs T top type format (rowList count rs) buffer m
 
 -- the same of the reader's answer, where the lent list of so many bytes holds a row for each member given
 pub record ReadBackAnswer (type format : ℕ) (rs : List Row) (buffer m : List ℕ) (a : Answer) : Type 0 where
@@ -452,47 +498,54 @@ pub record ReadBackAnswer (type format : ℕ) (rs : List Row) (buffer m : List �
 abbrev pub ReadBackReading : Type 0
 ReadBackReading =
     (T : List ℕ) (top type format count : ℕ) (rs buffer : List ℕ) (room : ℕ) (m : List ℕ)
-    → writing T type format count rs buffer room ≡ out m → UnderTop T top type → (bytes : ℕ) → 12 * count ≤ bytes
+    → writing T type format count rs buffer room ≡ out m → ReadUnder T top type format → (bytes : ℕ) → 12 * count ≤ bytes
     → ReadBackAnswer type format (rowList count rs) buffer m (reading T top m bytes)
 
--- An accepted message with nothing skipped, written again from itself with its own rows, is the sliced encoding of its pieces, where limit and room allow.
+-- An accepted 1.1 message with nothing skipped, written again from itself with its own rows, is the sliced encoding of its pieces, where limit and room allow.
 abbrev pub WriteAgain : Type 0
 WriteAgain =
-    (T : List ℕ) (top : ℕ) (m : List ℕ) (f : Format) (p : Pieces) (n room : ℕ) → Bytes m → rules T top m ≡ ok (readAs f p) n
-    → Complete p → length (encapsulate (encode sliced p)) ≤ limit → length (encapsulate (encode sliced p)) ≤ room
-    → writing T (firstKnown T top p) 1 (length (rows T top f p)) (concat rowBytes (rows T top f p)) m room ≡ out (encapsulate (encode sliced p))
+    (T : List ℕ) (top : ℕ) (m : List ℕ) (g : Format) (p : Pieces) (n room : ℕ) → Bytes m → rules T top m ≡ ok (readAs (v11 g) p) n
+    → Complete p → length (encapsulate (v11 sliced) (encode (v11 sliced) p)) ≤ limit → length (encapsulate (v11 sliced) (encode (v11 sliced) p)) ≤ room
+    → writing T (firstKnown T top p) 1 (length (rows T top (v11 g) p)) (concat rowBytes (rows T top (v11 g) p)) m room ≡ out (encapsulate (v11 sliced) (encode (v11 sliced) p))
 
--- if it is no compact record, that is the message itself
+-- an accepted message of either encoding that is no compact record, written again in its own format, is the message itself
 abbrev pub WriteSame : Type 0
 WriteSame =
-    (T : List ℕ) (top : ℕ) (m : List ℕ) (p : Pieces) (n room : ℕ) → Bytes m → rules T top m ≡ ok (readAs sliced p) n
-    → Complete p → length m ≤ room
-    → writing T (firstKnown T top p) 1 (length (rows T top sliced p)) (concat rowBytes (rows T top sliced p)) m room ≡ out m
+    (T : List ℕ) (top : ℕ) (m : List ℕ) (f : Encoding) (p : Pieces) (n room : ℕ) → Bytes m → rules T top m ≡ ok (readAs f p) n
+    → Complete p → (f ≡ v11 compact → ⊥) → length m ≤ room
+    → writing T (firstKnown T top p) (encodingNumber f) (length (rows T top f p)) (concat rowBytes (rows T top f p)) m room ≡ out m
 
 -- two accepted messages of one first known type and one format, nothing skipped, with the same members and the same bytes, are equal
 abbrev pub OneMessage : Type 0
 OneMessage =
-    (T : List ℕ) (top top′ : ℕ) (m m′ : List ℕ) (f : Format) (p p′ : Pieces) (n n′ : ℕ) → Bytes m → Bytes m′
+    (T : List ℕ) (top top′ : ℕ) (m m′ : List ℕ) (f : Encoding) (p p′ : Pieces) (n n′ : ℕ) → Bytes m → Bytes m′
     → rules T top m ≡ ok (readAs f p) n → rules T top′ m′ ≡ ok (readAs f p′) n′ → firstKnown T top p ≡ firstKnown T top′ p′
     → Complete p → Complete p′ → SameMembers m m′ (rows T top f p) (rows T top′ f p′) → m ≡ m′
 
 -- ---- demand 2: which answer the writer gives
 
--- nothing is refused before the rows: the table breaks no rule, it has the type, the format is 1, and the buffer is within the limit
+-- the formats of a type: 1; and 2, but for a class
+pub data Formed (T : List ℕ) (type format : ℕ) : Type 0 where
+  in-slices : format ≡ 1 → Formed T type format
+  in-pairs : format ≡ 2 → (kind T type ≡ 14 → ⊥) → Formed T type format
+
+-- nothing is refused before the rows: the table breaks no rule, it has the type, the format is one of the type's, 1.0 has no optionals to write, and the buffer is within the limit
 pub record Ready (T : List ℕ) (type format : ℕ) (buffer : List ℕ) : Type 0 where
   pub table : faults T ≡ fine
   pub there : noTop T type ≡ false
-  pub formed : format ≡ 1
+  pub formed : Formed T type format
+  pub bare : format ≡ 2 → WithoutOptionals T type
   pub short : length buffer ≤ limit
 
--- what is refused before the rows, by number and place: the first of the four that fails
+-- what is refused before the rows, by number and place: the first of the five that fails
 pub data Early (T : List ℕ) (type format : ℕ) (buffer : List ℕ) : (number place : ℕ) → Type 0 where
   table-refused : {c p : ℕ} → FirstBroken T c p → Early T type format buffer c p
   type-refused : faults T ≡ fine → noTop T type ≡ true → Early T type format buffer 2 0
-  format-refused : faults T ≡ fine → noTop T type ≡ false → (format ≡ 1 → ⊥) → Early T type format buffer 23 0
-  buffer-refused : faults T ≡ fine → noTop T type ≡ false → format ≡ 1 → limit < length buffer → Early T type format buffer 3 0
+  format-refused : faults T ≡ fine → noTop T type ≡ false → (Formed T type format → ⊥) → Early T type format buffer 23 0
+  optionals-refused : faults T ≡ fine → noTop T type ≡ false → Formed T type format → format ≡ 2 → (WithoutOptionals T type → ⊥) → Early T type format buffer 26 0
+  buffer-refused : faults T ≡ fine → noTop T type ≡ false → Formed T type format → (format ≡ 2 → WithoutOptionals T type) → limit < length buffer → Early T type format buffer 3 0
 
--- 31 to 39, 2, 23 and 3 come exactly where the table, the type, the format or the buffer is refused, and no other number but 20, 21 and 22 comes
+-- 31 to 39, 2, 23, 26 and 3 come exactly where the table, the type, the format, an optional or the buffer is refused, and no other number but 20, 21 and 22 comes
 abbrev pub EarlyRefused : Type 0
 EarlyRefused =
     (T : List ℕ) (type format count : ℕ) (rs buffer : List ℕ) (room n i : ℕ)
@@ -504,54 +557,54 @@ pub record BeginsRight (T : List ℕ) (type : ℕ) (buffer : List ℕ) (rs : Lis
   pub others : List Row
   pub right : Right T type buffer (rs ++ others)
 
--- the bytes of a row are exactly one value of its member's type
-abbrev pub RowFits : List ℕ → List ℕ → Row → Type 0
-RowFits T buffer r = IsValue (memberTy T (trees T) (r .member)) (partOf buffer r)
+-- the bytes of a row are exactly one value of its member's type, in format 2 as 1.0 has it
+abbrev pub RowFits : List ℕ → ℕ → List ℕ → Row → Type 0
+RowFits T format buffer r = IsValue (typeAs (eqb format 2) (memberTy T (trees T) (r .member))) (partOf buffer r)
 
 -- where rows are no right list: at the first row with which no right list begins, or, if a row is missing at the end, at their count; the bytes of the rows before are values of their types
-pub data NoneRight (T : List ℕ) (type : ℕ) (buffer : List ℕ) (rs : List Row) (i : ℕ) : Type 0 where
-  at-row : i < length rs → BeginsRight T type buffer (take i rs) → (BeginsRight T type buffer (take (suc i) rs) → ⊥) → All (RowFits T buffer) (take i rs) → NoneRight T type buffer rs i
-  at-count : i ≡ length rs → BeginsRight T type buffer rs → (Right T type buffer rs → ⊥) → All (RowFits T buffer) rs → NoneRight T type buffer rs i
+pub data NoneRight (T : List ℕ) (type format : ℕ) (buffer : List ℕ) (rs : List Row) (i : ℕ) : Type 0 where
+  at-row : i < length rs → BeginsRight T type buffer (take i rs) → (BeginsRight T type buffer (take (suc i) rs) → ⊥) → All (RowFits T format buffer) (take i rs) → NoneRight T type format buffer rs i
+  at-count : i ≡ length rs → BeginsRight T type buffer rs → (Right T type buffer rs → ⊥) → All (RowFits T format buffer) rs → NoneRight T type format buffer rs i
 
 -- the place of 20: the count, if the row bytes are too few for it, else where the rows are no right list
-pub data Twenty (T : List ℕ) (type count : ℕ) (rs buffer : List ℕ) (i : ℕ) : Type 0 where
-  too-few : length rs < 12 * count → i ≡ count → Twenty T type count rs buffer i
-  none-right : 12 * count ≤ length rs → NoneRight T type buffer (rowList count rs) i → Twenty T type count rs buffer i
+pub data Twenty (T : List ℕ) (type format count : ℕ) (rs buffer : List ℕ) (i : ℕ) : Type 0 where
+  too-few : length rs < 12 * count → i ≡ count → Twenty T type format count rs buffer i
+  none-right : 12 * count ≤ length rs → NoneRight T type format buffer (rowList count rs) i → Twenty T type format count rs buffer i
 
 abbrev pub RightLists : Type 0
 RightLists =
     (T : List ℕ) (type format count : ℕ) (rs buffer : List ℕ) (room i : ℕ)
-    → (writing T type format count rs buffer room ≡ stop 20 i → Ready T type format buffer × Twenty T type count rs buffer i)
-    × (Ready T type format buffer → Twenty T type count rs buffer i → writing T type format count rs buffer room ≡ stop 20 i)
+    → (writing T type format count rs buffer room ≡ stop 20 i → Ready T type format buffer × Twenty T type format count rs buffer i)
+    × (Ready T type format buffer → Twenty T type format count rs buffer i → writing T type format count rs buffer room ≡ stop 20 i)
 
 -- the place of 21: the first row whose bytes aren't exactly one value of its type; some right list begins with the rows up to it
-pub record TwentyOne (T : List ℕ) (type : ℕ) (buffer : List ℕ) (rs : List Row) (i : ℕ) : Type 0 where
+pub record TwentyOne (T : List ℕ) (type format : ℕ) (buffer : List ℕ) (rs : List Row) (i : ℕ) : Type 0 where
   pub inside : i < length rs
   pub begins : BeginsRight T type buffer (take (suc i) rs)
-  pub before : All (RowFits T buffer) (take i rs)
-  pub misfit : RowFits T buffer (getD rs i (record { member = 0; place = 0; len = 0 })) → ⊥
+  pub before : All (RowFits T format buffer) (take i rs)
+  pub misfit : RowFits T format buffer (getD rs i (record { member = 0; place = 0; len = 0 })) → ⊥
 
 abbrev pub WrongBytes : Type 0
 WrongBytes =
     (T : List ℕ) (type format count : ℕ) (rs buffer : List ℕ) (room i : ℕ)
-    → (writing T type format count rs buffer room ≡ stop 21 i → Ready T type format buffer × (12 * count ≤ length rs) × TwentyOne T type buffer (rowList count rs) i)
-    × (Ready T type format buffer → 12 * count ≤ length rs → TwentyOne T type buffer (rowList count rs) i → writing T type format count rs buffer room ≡ stop 21 i)
+    → (writing T type format count rs buffer room ≡ stop 21 i → Ready T type format buffer × (12 * count ≤ length rs) × TwentyOne T type format buffer (rowList count rs) i)
+    × (Ready T type format buffer → 12 * count ≤ length rs → TwentyOne T type format buffer (rowList count rs) i → writing T type format count rs buffer room ≡ stop 21 i)
 
 -- what the writer takes: nothing refused before the rows, bytes for every row, a right list, and each row's bytes exactly one value of its type
 pub record Writable (T : List ℕ) (type format count : ℕ) (rs buffer : List ℕ) : Type 0 where
   pub ready : Ready T type format buffer
   pub enough : 12 * count ≤ length rs
   pub right : Right T type buffer (rowList count rs)
-  pub fits : All (RowFits T buffer) (rowList count rs)
+  pub fits : All (RowFits T format buffer) (rowList count rs)
 
 -- the message of rows: the encoding of pieces of this type and format that conform and skip nothing, whose rows are the rows given
 pub record MessageOf (T : List ℕ) (type format : ℕ) (rs : List Row) (buffer m : List ℕ) : Type 0 where
   pub read : Read
-  pub in-format : formatNumber (read .format) ≡ format
+  pub in-format : encodingNumber (read .format) ≡ format
   pub conforms : Conform T type (read .format) (read .pieces)
   pub of-type : firstKnown T type (read .pieces) ≡ type
   pub complete : Complete (read .pieces)
-  pub encoded : m ≡ encapsulate (encode (read .format) (read .pieces))
+  pub encoded : m ≡ encapsulate (read .format) (encode (read .format) (read .pieces))
   pub members : SameMembers buffer m rs (rows T type (read .format) (read .pieces))
 
 -- a list that the writer takes has a message, and only one
@@ -595,7 +648,8 @@ pub data WriterRefusal (T : List ℕ) (type format count : ℕ) (rs buffer : Lis
   wrong-row : {i : ℕ} → i ≤ count → WriterRefusal T type format count rs buffer room 20 i
   wrong-bytes : {i : ℕ} → i < count → WriterRefusal T type format count rs buffer room 21 i
   no-room : {i : ℕ} → TwentyTwo T type format count rs buffer room i → WriterRefusal T type format count rs buffer room 22 i
-  wrong-format : (format ≡ 1 → ⊥) → WriterRefusal T type format count rs buffer room 23 0
+  wrong-format : (Formed T type format → ⊥) → WriterRefusal T type format count rs buffer room 23 0
+  optionals-there : format ≡ 2 → (WithoutOptionals T type → ⊥) → WriterRefusal T type format count rs buffer room 26 0
 
 -- and no byte of the output changes
 abbrev pub WriterRefuses : Type 0
@@ -651,20 +705,20 @@ pub data Foreign (old : List ℕ) : Format → Pieces → ℕ → Type 0 where
   an-exception : {ss : List Slice} → named old (firstId ss) ≡ none → Foreign old compact (exception ss) 7
   a-class : {ss : List Slice} → named old (firstId ss) ≡ none → Foreign old compact (class ss) 8
 
--- what demand 3 is about: a message that the rules accept under a new table that extends an old one, the tops matching
+-- what demand 3 is about: a 1.1 message that the rules accept under a new table that extends an old one, the tops matching
 pub record Newer (old new : List ℕ) (top top′ : ℕ) (m : List ℕ) (f : Format) (p : Pieces) : Type 0 where
   pub extends : Extends old new
   pub tops : TopsMatch old new top top′
   pub bytes : Bytes m
   pub taken : ℕ
-  pub accepted : rules new top′ m ≡ ok (readAs f p) taken
+  pub accepted : rules new top′ m ≡ ok (readAs (v11 f) p) taken
 
 -- what the old table makes of it: accepted, in the same format, with the rows of the members that it knows; it skips no fewer slices
 pub record Understood (old new : List ℕ) (top top′ : ℕ) (m : List ℕ) (f : Format) (p : Pieces) : Type 0 where
   pub pieces : Pieces
   pub taken : ℕ
-  pub accepted : rules old top m ≡ ok (readAs f pieces) taken
-  pub kept : Kept old new top top′ (rows new top′ f p) (rows old top f pieces)
+  pub accepted : rules old top m ≡ ok (readAs (v11 f) pieces) taken
+  pub kept : Kept old new top top′ (rows new top′ (v11 f) p) (rows old top (v11 f) pieces)
   pub skips : slicesSkipped p ≤ slicesSkipped pieces
 
 abbrev pub NewerRead : Type 0
@@ -691,12 +745,12 @@ NewerRefusedReading =
     (old new : List ℕ) (top top′ : ℕ) (m : List ℕ) (f : Format) (p : Pieces) → Newer old new top top′ m f p
     → (place : ℕ) → Foreign old f p place → (lent : ℕ) → (reading old top m lent .refusal ≡ 15) × (reading old top m lent .place ≡ place)
 
--- A message that the writer makes under the new table, of a type below the new top: the new table accepts it, and so does the old one.
+-- A 1.1 message that the writer makes under the new table, of a type below the new top: the new table accepts it, and so does the old one.
 -- Rules out a writer whose messages old hubs refuse by 15.
 abbrev pub NewerWritten : Type 0
 NewerWritten =
-    (old new : List ℕ) (top top′ type format count : ℕ) (rs buffer : List ℕ) (room : ℕ) (m : List ℕ) → Extends old new → TopsMatch old new top top′ → Bytes m
-    → writing new type format count rs buffer room ≡ out m → UnderTop new top′ type
+    (old new : List ℕ) (top top′ type count : ℕ) (rs buffer : List ℕ) (room : ℕ) (m : List ℕ) → Extends old new → TopsMatch old new top top′ → Bytes m
+    → writing new type 1 count rs buffer room ≡ out m → UnderTop new top′ type
     → (p : Pieces) × Newer old new top top′ m sliced p × Understood old new top top′ m sliced p
 
 -- a member of the new table matches at most one member of the old one, so the rows that are kept are fixed

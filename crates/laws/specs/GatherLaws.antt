@@ -32,23 +32,23 @@ piecesIn gs = map (λ (g : Given). g .piece) gs
 
 -- ---- slots one after another
 
-pub judged-append : {buffer : List ℕ} {ss ss′ : List Slot} {rs rs′ : List Row} {gs gs′ : List Given} → Judged buffer ss rs gs → Judged buffer ss′ rs′ gs′ → Judged buffer (ss ++ ss′) (rs ++ rs′) (gs ++ gs′)
+pub judged-append : {old : Bool} {buffer : List ℕ} {ss ss′ : List Slot} {rs rs′ : List Row} {gs gs′ : List Given} → Judged old buffer ss rs gs → Judged old buffer ss′ rs′ gs′ → Judged old buffer (ss ++ ss′) (rs ++ rs′) (gs ++ gs′)
 judged-append over K = K
 judged-append (taken e i x H) K = taken e i x (judged-append H K)
 judged-append (missed d H) K = missed d (judged-append H K)
 
 -- rows that choose from slots and from those after them
-pub record Split (buffer : List ℕ) (ss ss′ : List Slot) (rs : List Row) (gs : List Given) : Type 0 where
+pub record Split (old : Bool) (buffer : List ℕ) (ss ss′ : List Slot) (rs : List Row) (gs : List Given) : Type 0 where
   pub rows : List Row
   pub rows′ : List Row
   pub gives : List Given
   pub gives′ : List Given
   pub all-rows : rs ≡ rows ++ rows′
   pub all-gives : gs ≡ gives ++ gives′
-  pub first : Judged buffer ss rows gives
-  pub second : Judged buffer ss′ rows′ gives′
+  pub first : Judged old buffer ss rows gives
+  pub second : Judged old buffer ss′ rows′ gives′
 
-pub judged-split : {buffer : List ℕ} (ss : List Slot) {ss′ : List Slot} {rs : List Row} {gs : List Given} → Judged buffer (ss ++ ss′) rs gs → Split buffer ss ss′ rs gs
+pub judged-split : {old : Bool} {buffer : List ℕ} (ss : List Slot) {ss′ : List Slot} {rs : List Row} {gs : List Given} → Judged old buffer (ss ++ ss′) rs gs → Split old buffer ss ss′ rs gs
 judged-split [] {rs = rs} {gs = gs} K = record { rows = []; rows′ = rs; gives = []; gives′ = gs; all-rows = refl; all-gives = refl; first = over; second = K }
 judged-split {buffer} (s ∷ ss) (taken {r = r} e i x K) =
     let S = judged-split ss K in
@@ -68,7 +68,7 @@ judged-split (s ∷ ss) (missed d K) =
 
 -- ---- by owners
 
-pub judged-owner : (P : ℕ → Type 0) {buffer : List ℕ} {ss : List Slot} {rs : List Row} {gs : List Given} → All (λ (s : Slot). P (s .owner)) ss → Judged buffer ss rs gs → All (λ (g : Given). P (g .owner)) gs
+pub judged-owner : (P : ℕ → Type 0) {old : Bool} {buffer : List ℕ} {ss : List Slot} {rs : List Row} {gs : List Given} → All (λ (s : Slot). P (s .owner)) ss → Judged old buffer ss rs gs → All (λ (g : Given). P (g .owner)) gs
 unfolding givenOf
 judged-owner P end over = end
 judged-owner P {buffer} (more {a} p L) (taken {r = r} e i x K) = more {a = givenOf a (partOf buffer r)} p (judged-owner P L K)

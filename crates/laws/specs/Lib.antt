@@ -8,6 +8,8 @@ pub mod CountsExact
 pub mod RowsMost
 pub mod OptionalExact
 pub mod SliceExact
+pub mod OldExact
+pub mod OldLine
 pub mod MessageExact
 pub mod TableFault
 pub mod NumbersTogether

@@ -16,8 +16,8 @@ use Rattle.encoding.specs.Types.{bitsOf}
 use Rattle.encoding.specs.Table.{named, Member, lookup}
 use Rattle.encoding.specs.Table
 use Rattle.encoding.specs.Optional.{Piece, required, optional, skipped, headerBytes, lengthBytes, frontBytes, contentBytes, pieceBytes, isOptional}
-use Rattle.encoding.specs.Slice.{Format, Slice, known, passed, Stand, first, later, anyOptional, hasOptionals, idOf, dataBytes, sliceFront, isLast, slicesBytes}
-use Rattle.encoding.specs.Message.{Pieces, list, exception, class, encode, passedIn, slicesSkipped}
+use Rattle.encoding.specs.Slice.{Format, Slice, known, passed, Stand, first, later, anyOptional, hasOptionals, idOf, dataBytes, sliceFront, isLast}
+use Rattle.encoding.specs.Message.{Pieces, list, exception, class, v11, encode, passedIn, slicesSkipped, slicesBytes}
 use Rattle.laws.specs.Lose.{keepOr, losePiece, loseKnown, loseSlice, lose}
 
 pub losePiece-bytes : (ms : List Member) (p : Piece) → pieceBytes (losePiece ms p) ≡ pieceBytes p
@@ -87,14 +87,14 @@ module _ (old : List ℕ) where
   loseSlices-last [] = refl
   loseSlices-last (s ∷ ss) = refl
 
-  pub loseSlices-bytes : (g : Format) (s : Stand) (ss : List Slice) → slicesBytes g s (map (loseSlice old) ss) ≡ slicesBytes g s ss
+  pub loseSlices-bytes : (g : Format) (s : Stand) (ss : List Slice) → slicesBytes (v11 g) s (map (loseSlice old) ss) ≡ slicesBytes (v11 g) s ss
   unfolding slicesBytes
   loseSlices-bytes g s [] = refl
   loseSlices-bytes g s (sl ∷ ss) =
-      ap₂ (λ (f d : List ℕ). f ++ d ++ slicesBytes g (later g) (map (loseSlice old) ss)) (ap (λ (b : Bool). sliceFront g s b (loseSlice old sl)) (loseSlices-last ss) ∙ loseSlice-front g s (isLast ss) sl) (loseSlice-data sl)
+      ap₂ (λ (f d : List ℕ). f ++ d ++ slicesBytes (v11 g) (later g) (map (loseSlice old) ss)) (ap (λ (b : Bool). sliceFront g s b (loseSlice old sl)) (loseSlices-last ss) ∙ loseSlice-front g s (isLast ss) sl) (loseSlice-data sl)
       ∙ ap (λ (w : List ℕ). sliceFront g s (isLast ss) sl ++ dataBytes sl ++ w) (loseSlices-bytes g (later g) ss)
 
-  pub lose-bytes : (top : ℕ) (g : Format) (p : Pieces) → encode g (lose old top p) ≡ encode g p
+  pub lose-bytes : (top : ℕ) (g : Format) (p : Pieces) → encode (v11 g) (lose old top p) ≡ encode (v11 g) p
   unfolding encode lose
   lose-bytes top g (list ps) = losePieces-bytes (Table.optionalMembers old top) ps
   lose-bytes top g (exception ss) = loseSlices-bytes g first ss

@@ -21,9 +21,9 @@ use Rattle.encoding.specs.NumberLaws.{byte-written}
 use Rattle.encoding.specs.Table.{types, kind, isRecord, named}
 use Rattle.encoding.specs.RuleLaws.{record-kind, named-short, named-text}
 use Rattle.encoding.specs.Optional.{Piece}
-use Rattle.encoding.specs.Slice.{Format, compact, sliced, Slice, known, passed, first, later, due, seek, standOf, finished, isNone, idForm, slice, Chain, unlessFinished, walk, slices, anyOptional, hasOptionals, idOf, dataBytes, flagBits, sliceFront, isLast, slicesBytes}
+use Rattle.encoding.specs.Slice.{Format, compact, sliced, Slice, known, passed, first, later, due, seek, standOf, finished, isNone, idForm, slice, Chain, unlessFinished, walk, slices, anyOptional, hasOptionals, idOf, dataBytes, flagBits, sliceFront, isLast}
 use Rattle.encoding.specs.WalkLaws.{head-ok, head-refused, slice-refused}
-use Rattle.encoding.specs.Message.{Pieces, list, exception, class, Read, encode, encapsulate, markerForm, contents, ended, body, noTop, limit, rules, rows, Answer, answer, within, room, reading, accepted}
+use Rattle.encoding.specs.Message.{Pieces, list, exception, class, v11, Read, encode, encapsulate, markerForm, contents, ended, body, noTop, limit, rules, rows, Answer, answer, within, room, reading, accepted, slicesBytes}
 use Rattle.encoding.specs.MessageLaws.{top-there, length-encapsulate, body-encapsulated, rules-body}
 use Rattle.encoding.specs.Conform.{Slices, Conform}
 use Rattle.encoding.specs.Extends.{Extends, TopsMatch, as-records, as-lists, SameOwner, as-tops}
@@ -46,8 +46,8 @@ else-sliced P foreign compact fit a = absurd (fit (foreign a))
 else-sliced P foreign sliced fit a = refl
 
 module _ (old new : List ℕ) (X : Extends old new) (top top′ : ℕ) where
-  pub conform-newer : TopsMatch old new top top′ → (g : Format) (p : Pieces) → Conform new top′ g p → Short (length (encode g p)) → ((place : ℕ) → Foreign old g p place → ⊥)
-      → Conform old top g (lose old top p)
+  pub conform-newer : TopsMatch old new top top′ → (g : Format) (p : Pieces) → Conform new top′ (v11 g) p → Short (length (encode (v11 g) p)) → ((place : ℕ) → Foreign old g p place → ⊥)
+      → Conform old top (v11 g) (lose old top p)
   unfolding encode lose
   conform-newer (as-records l S) g (list ps) C h fit = absurd (record-list (kind new top′) (new-record S) (C .0))
   conform-newer (as-records l S) g (exception ss) C h fit = (
@@ -62,7 +62,7 @@ module _ (old new : List ℕ) (X : Extends old new) (top top′ : ℕ) where
   conform-newer (as-lists l l′ k k′ M) g (exception ss) C h fit = absurd (omega (arith, k′, C .0))
   conform-newer (as-lists l l′ k k′ M) g (class ss) C h fit = absurd (omega (arith, k′, C .0))
 
-  pub rows-newer : TopsMatch old new top top′ → top′ < types new → (g : Format) (p : Pieces) → Conform new top′ g p → Kept old new top top′ (rows new top′ g p) (rows old top g (lose old top p))
+  pub rows-newer : TopsMatch old new top top′ → top′ < types new → (g : Format) (p : Pieces) → Conform new top′ (v11 g) p → Kept old new top top′ (rows new top′ (v11 g) p) (rows old top (v11 g) (lose old top p))
   unfolding rows lose
   rows-newer (as-records l S) t g (list ps) C = absurd (record-list (kind new top′) (new-record S) (C .0))
   rows-newer (as-lists l l′ k k′ M) t g (list ps) C =
@@ -86,22 +86,22 @@ old-top old new top top′ (as-records l S) = rw (lt-leb (types old) top l, le-l
 old-top old new top top′ (as-lists l l′ k k′ M) = rw (lt-leb (types old) top l, le-ltb (kind old top) 13 (omega arith))
 
 module _ (old new : List ℕ) (top top′ : ℕ) (m : List ℕ) (f : Format) (p : Pieces) (N : Newer old new top top′ m f p) where
-  followed : Follows new top′ m f p
-  followed = exact-message new top′ m f p (N .taken) (N .bytes) .0 (N .accepted) .0
+  followed : Follows new top′ m (v11 f) p
+  followed = exact-message new top′ m (v11 f) p (N .taken) (N .bytes) .0 (N .accepted) .0
 
   understood : ((place : ℕ) → Foreign old f p place → ⊥) → Understood old new top top′ m f p
   understood fit =
       let E = followed in
-      let short : Short (length (encode f p)) = omega (arith, ap length (E .encoded) ∙ length-encapsulate (encode f p), E .short) in
+      let short : Short (length (encode (v11 f) p)) = omega (arith, ap length (E .encoded) ∙ length-encapsulate (v11 f) (encode (v11 f) p), E .short) in
       record {
         pieces = lose old top p;
         taken = length m;
-        accepted = exact-message old top m f (lose old top p) (length m) (N .bytes) .1 (record {
+        accepted = exact-message old top m (v11 f) (lose old top p) (length m) (N .bytes) .1 (record {
           table = valid old (N .extends .old-right);
           top-there = old-top old new top top′ (N .tops);
           short = E .short;
           conforms = conform-newer old new (N .extends) top top′ (N .tops) f p (E .conforms) short fit;
-          encoded = E .encoded ∙ ap encapsulate (sym (lose-bytes old top f p));
+          encoded = E .encoded ∙ ap (encapsulate (v11 f)) (sym (lose-bytes old top f p));
         });
         kept = rows-newer old new (N .extends) top top′ (N .tops) (top-there new top′ (E .top-there) .0) f p (E .conforms);
         skips = lose-passed old top p;
@@ -114,11 +114,11 @@ newer-read = understood
 
 -- 15 at the type ID, after the flags
 slices-refused : (T : List ℕ) (top : ℕ) (o : List ℕ) → named T o ≡ none → InString o → (ps : List Piece) (ss : List Slice)
-    → slices T top (slicesBytes compact first (known o ps ∷ ss)) ≡ bad 15 1
+    → slices T top (slicesBytes (v11 compact) first (known o ps ∷ ss)) ≡ bad 15 1
 unfolding slices slicesBytes sliceFront walk unlessFinished finished standOf due idForm isNone idOf hasOptionals
 slices-refused T top o unknown id ps ss =
     let d : List ℕ = dataBytes (known o ps) in
-    let w : List ℕ = slicesBytes compact (later compact) ss in
+    let w : List ℕ = slicesBytes (v11 compact) (later compact) ss in
     let xs : List ℕ = flagBits compact true (anyOptional ps) (isLast ss) ∷ (stringBytes o ++ (d ++ w)) in
     let H = head-written first (λ _ _. 0) compact (anyOptional ps) (isLast ss) o (d ++ w) tt (id, refl) in
     let R = head-refused first (idForm T (seek first)) xs _ _ (head-ok first (λ _ _. 0) xs _ _ H .0) 14 refl (rw unknown) in
@@ -132,42 +132,42 @@ top-kind (as-records l S) = S .kinds
 top-kind (as-lists l l′ k k′ M) = k ∙ sym k′
 
 -- the first slice of a compact record is known to the new table
-first-refused : (old new : List ℕ) → Extends old new → (top top′ : ℕ) (ss : List Slice) → Slices new top′ compact ss → named old (firstId ss) ≡ none
-    → slices old top (slicesBytes compact first ss) ≡ bad 15 1
+first-refused : (old new : List ℕ) → Extends old new → (top top′ : ℕ) (ss : List Slice) → Slices new top′ (v11 compact) ss → named old (firstId ss) ≡ none
+    → slices old top (slicesBytes (v11 compact) first ss) ≡ bad 15 1
 unfolding firstId idOf
 first-refused old new X top top′ [] C z = absurd C
 first-refused old new X top top′ (passed b nm d ∷ ss) C z = let e = C .0 .format in let u : _≡_ {A = ℕ} 0 1 = cc in absurd (omega arith)
 first-refused old new X top top′ (known o ps ∷ ss) C z =
     slices-refused old top o z (record { length-short = omega (arith, named-short new (X .new-right) o (C .row) (C .known)); is-text = named-text new (X .new-right) o (C .row) (C .known) }) ps ss
 
-module _ (T : List ℕ) (top : ℕ) (ss : List Slice) (refused : slices T top (slicesBytes compact first ss) ≡ bad 15 1) where
-  exception-refused : kind T top ≡ 13 → contents T top (encode compact (exception ss)) ≡ bad 15 1
+module _ (T : List ℕ) (top : ℕ) (ss : List Slice) (refused : slices T top (slicesBytes (v11 compact) first ss) ≡ bad 15 1) where
+  exception-refused : kind T top ≡ 13 → contents T top (encode (v11 compact) (exception ss)) ≡ bad 15 1
   unfolding contents encode mapc made
   exception-refused k = rw (k, mapc, refused)
 
-  class-refused : kind T top ≡ 14 → contents T top (encode compact (class ss)) ≡ bad 15 2
+  class-refused : kind T top ≡ 14 → contents T top (encode (v11 compact) (class ss)) ≡ bad 15 2
   unfolding contents encode mapc made markerForm shift
   class-refused k =
-      let w : List ℕ = slicesBytes compact first ss in
-      let rest : ℕ → Parser Read = λ _. mapc (λ (c : Chain) _. readAs (c .format) (class (c .list))) (slices T top) in
+      let w : List ℕ = slicesBytes (v11 compact) first ss in
+      let rest : ℕ → Parser Read = λ _. mapc (λ (c : Chain) _. readAs (v11 (c .format)) (class (c .list))) (slices T top) in
       rw k (bind-next (must markerForm byte) rest (1 ∷ w) (must-step byte (1 ∷ w) markerForm (byte-written 1 w) refl)
-      ∙ ap (λ (r : Res Chain). shift 1 (made (λ (c : Chain) _. readAs (c .format) (class (c .list))) r)) refused)
+      ∙ ap (λ (r : Res Chain). shift 1 (made (λ (c : Chain) _. readAs (v11 (c .format)) (class (c .list))) r)) refused)
 
 pub newer-refused : NewerRefused
 unfolding shift
 newer-refused old new top top′ m f p N place F = go F (followed old new top top′ m f p N)
   where
-    whole : (b : List ℕ) (q : ℕ) → m ≡ encapsulate b → length m ≤ limit → contents old top b ≡ bad 15 q → rules old top m ≡ bad 15 (6 + q)
+    whole : (b : List ℕ) (q : ℕ) → m ≡ encapsulate (v11 compact) b → length m ≤ limit → contents old top b ≡ bad 15 q → rules old top m ≡ bad 15 (6 + q)
     whole b q e l h =
         rules-body old top m (N .extends .old-right) (old-top old new top top′ (N .tops)) l ∙ ap (body old top) e
-        ∙ body-encapsulated old top b (omega (arith, ap length e ∙ length-encapsulate b, l)) ∙ ap (shift 6) (bind-bad (contents old top) ended b h)
+        ∙ body-encapsulated old top (v11 compact) b tt (omega (arith, ap length e ∙ length-encapsulate (v11 compact) b, l)) ∙ ap (shift 6) (bind-bad (contents old top) ended b h)
 
-    go : {g : Format} {p : Pieces} {place : ℕ} → Foreign old g p place → Follows new top′ m g p → rules old top m ≡ bad 15 place
+    go : {g : Format} {p : Pieces} {place : ℕ} → Foreign old g p place → Follows new top′ m (v11 g) p → rules old top m ≡ bad 15 place
     go (an-exception {ss = ss} z) E =
-        whole (encode compact (exception ss)) 1 (E .encoded) (E .short)
+        whole (encode (v11 compact) (exception ss)) 1 (E .encoded) (E .short)
         (exception-refused old top ss (first-refused old new (N .extends) top top′ ss (E .conforms .1) z) (top-kind (N .tops) ∙ E .conforms .0))
     go (a-class {ss = ss} z) E =
-        whole (encode compact (class ss)) 2 (E .encoded) (E .short)
+        whole (encode (v11 compact) (class ss)) 2 (E .encoded) (E .short)
         (class-refused old top ss (first-refused old new (N .extends) top top′ ss (E .conforms .1) z) (top-kind (N .tops) ∙ E .conforms .0))
 
 -- ---- the reader's answer, where the lent list has room
@@ -180,6 +180,6 @@ pub newer-reading : NewerReading
 unfolding answer accepted
 newer-reading old new top top′ m f p N fit lent lent′ h h′ =
     let U = newer-read old new top top′ m f p N fit in
-    let e : reading old top m lent ≡ answer old top (ok (readAs f (U .pieces)) (U .taken)) = reading-room old top m lent h ∙ ap (answer old top) (U .accepted) in
-    let e′ : reading new top′ m lent′ ≡ answer new top′ (ok (readAs f p) (N .taken)) = reading-room new top′ m lent′ h′ ∙ ap (answer new top′) (N .accepted) in
+    let e : reading old top m lent ≡ answer old top (ok (readAs (v11 f) (U .pieces)) (U .taken)) = reading-room old top m lent h ∙ ap (answer old top) (U .accepted) in
+    let e′ : reading new top′ m lent′ ≡ answer new top′ (ok (readAs (v11 f) p) (N .taken)) = reading-room new top′ m lent′ h′ ∙ ap (answer new top′) (N .accepted) in
     (ap (λ (a : Answer). a .refusal) e, subst₂ (λ (a a′ : Answer). Kept old new top top′ (a′ .rows) (a .rows)) (sym e) (sym e′) (U .kept))

@@ -25,7 +25,7 @@ use Rattle.encoding.specs.Number
 use Rattle.encoding.specs.Proxy
 use Rattle.encoding.specs.Number.{Bytes, Short, byte, leBytes, sizeBytes}
 use Rattle.encoding.specs.NumberLaws.{bytes-drop, byte-written, byte-canonical, size-written, size-canonical, length-leBytes, declared-written}
-use Rattle.encoding.specs.Types.{Ty, short, int, long, float, double, broken, bool, string, proxy, num, enum, struct, seq, dict, fixed, fixeds, single, Bits, f1, f2, f4, f8, size, vsize, fsize, class, bits, bitsAt, Form, bare, own, counted, sized, bitsOf, formOf}
+use Rattle.encoding.specs.Types.{Ty, short, int, long, float, double, broken, bool, string, proxy, oldProxy, num, enum, oldEnum, struct, seq, dict, fixed, fixeds, single, Bits, f1, f2, f4, f8, size, vsize, fsize, class, bits, bitsAt, Form, bare, own, counted, sized, bitsOf, formOf}
 use Rattle.encoding.specs.Types
 use Rattle.encoding.specs.TypesLaws.{bits-below, bits-back, bits-there}
 use Rattle.encoding.specs.Value.{value}
@@ -157,8 +157,10 @@ single-one bool e xs n h = chunk-ok 1 Number.val xs (must-ok _ xs Number.boolFor
 single-one Types.byte e xs n h = chunk-ok 1 (λ _. tt) xs h .2
 single-one string e xs n h = absurd (false≢true e)
 single-one proxy e xs n h = absurd (false≢true e)
+single-one oldProxy e xs n h = absurd (false≢true e)
 single-one (num w) e xs n h = absurd (false≢true e)
 single-one (enum g) e xs n h = absurd (false≢true e)
+single-one (oldEnum g) e xs n h = absurd (false≢true e)
 single-one (struct ts) e xs n h = absurd (false≢true e)
 single-one (seq t) e xs n h = absurd (false≢true e)
 single-one (dict k v) e xs n h = absurd (false≢true e)
@@ -177,6 +179,7 @@ value-fits bool b h = chunk-fit 1 b (chunk-ok 1 Number.val b (must-ok _ b Number
 value-fits Types.byte b h = chunk-fit 1 b (chunk-ok 1 (λ _. tt) b h .2)
 value-fits string b h = let M = mapc-ok _ b (λ _ _. tt) h in (M .0, must-ok _ b Number.Content (M .1) .0)
 value-fits proxy b h = eats-value proxy refl b tt (length b) h
+value-fits oldProxy b h = eats-value oldProxy refl b tt (length b) h
 value-fits (num short) b h = chunk-fit 2 b (chunk-ok 2 (λ _. tt) b h .2)
 value-fits (num int) b h = chunk-fit 4 b (chunk-ok 4 (λ _. tt) b h .2)
 value-fits (num long) b h = chunk-fit 8 b (chunk-ok 8 (λ _. tt) b h .2)
@@ -185,6 +188,7 @@ value-fits (num double) b h = chunk-fit 8 b (chunk-ok 8 (λ _. tt) b h .2)
 value-fits (enum g) b h =
     let M = mapc-ok _ b (λ _ _. tt) h in
     bytes-step Number.size b (must-ok Number.size b _ (M .1) .0) ∙ ap (λ (y : List ℕ). ok y (length b)) (take-length b)
+value-fits (oldEnum g) b h = eats-value (oldEnum g) refl b tt (length b) h
 value-fits (struct ts) b h = go (fixeds ts) refl
   where
     go : (q : Bool) → fixeds ts ≡ q → Fit (pick q counted sized) b
@@ -231,7 +235,7 @@ value-taken t R xs {b} {n} h =
     let W = bytes-ok (value t) xs h in
     (W .2, subst (IsValue t) (sym (W .2)) (takes-value t R .canonical xs tt n (W .1)))
 
-value-written : (t : Ty) → ListsRise t → (b r : List ℕ) → IsValue t b → bytes (value t) (b ++ r) ≡ ok b (length b)
+pub value-written : (t : Ty) → ListsRise t → (b r : List ℕ) → IsValue t b → bytes (value t) (b ++ r) ≡ ok b (length b)
 value-written t R b r w = bytes-step (value t) (b ++ r) (takes-value t R .written tt b w r) ∙ ap (λ (y : List ℕ). ok y (length b)) (take-at b r (length b) refl)
 
 -- ---- an optional

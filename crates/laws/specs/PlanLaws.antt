@@ -33,7 +33,8 @@ use Rattle.encoding.specs.Table.{Member, lookup, requiredMembers, optionalMembe
 use Rattle.encoding.specs.Optional
 use Rattle.encoding.specs.Message.{Row}
 use Rattle.encoding.specs.Write
-use Rattle.encoding.specs.Write.{Slot, Chosen, chosen, left, RowsWithin, insert, rising, slot, slots, planOf, Out, out, stop, next, State, Reached, reachDue, optionalRow, orAbove, entered, reachMay, reach, anyOf, stillDue, Given, given, partOf, judge, prepend, judgeAll}
+use Rattle.encoding.specs.Old.{typeAs, anyOf}
+use Rattle.encoding.specs.Write.{Slot, Chosen, chosen, left, RowsWithin, insert, rising, slot, slots, planOf, Out, out, stop, next, State, Reached, reachDue, optionalRow, orAbove, entered, reachMay, reach, stillDue, Given, given, partOf, judge, prepend, judgeAll}
 use Rattle.laws.specs.Demands.{All, end, more}
 use Rattle.laws.specs.RowsExact.{all-append, all-map, lookup-all}
 
@@ -350,18 +351,18 @@ givenOf s b = record {
 }
 
 -- 20 where the row chooses no slot or lies outside, then 21
-unfoldable pub judgeSlot : List ℕ → ℕ → Row → Option Spot → Out Spot
-judgeSlot buffer i r none = stop 20 i
-judgeSlot buffer i r (some z) =
+unfoldable pub judgeSlot : Bool → List ℕ → ℕ → Row → Option Spot → Out Spot
+judgeSlot old buffer i r none = stop 20 i
+judgeSlot old buffer i r (some z) =
     pick (leb (r .place + r .len) (length buffer))
-    (pick (exact (z .slot .member .ty) (partOf buffer r)) (out z) (stop 21 i))
+    (pick (exact (typeAs old (z .slot .member .ty)) (partOf buffer r)) (out z) (stop 21 i))
     (stop 20 i)
 
-unfoldable pub judgeSlots : List ℕ → List Slot → ℕ → List Row → Out (List Given)
-judgeSlots buffer ss i [] = pick (anyDue ss) (stop 20 i) (out [])
-judgeSlots buffer ss i (r ∷ rs) =
-    next (judgeSlot buffer i r (find (r .member) ss)) λ (z : Spot).
-    next (judgeSlots buffer (z .rest) (suc i) rs) (prepend (givenOf (z .slot) (partOf buffer r)))
+unfoldable pub judgeSlots : Bool → List ℕ → List Slot → ℕ → List Row → Out (List Given)
+judgeSlots old buffer ss i [] = pick (anyDue ss) (stop 20 i) (out [])
+judgeSlots old buffer ss i (r ∷ rs) =
+    next (judgeSlot old buffer i r (find (r .member) ss)) λ (z : Spot).
+    next (judgeSlots old buffer (z .rest) (suc i) rs) (prepend (givenOf (z .slot) (partOf buffer r)))
 
 module _ (T : List ℕ) where
   due-append : (a b : List Slot) → anyDue (a ++ b) ≡ anyDue a || anyDue b
@@ -390,24 +391,24 @@ module _ (T : List ℕ) where
       let os : List Member = from (leastOf (s .due) (s .least)) (rising (optionalMembers T (s .owner))) in
       sym (due-append (map (slot (s .owner) true) (s .due) ++ map (slot (s .owner) false) os) (planOf T (s .above)) ∙ ap₂ _||_ (due-required (s .owner) (s .due) os) (due-plan (s .above)))
 
-  pub judge-slots : (buffer : List ℕ) (rs : List Row) (i : ℕ) (s : State) → All (Ordered T) (s .owner ∷ s .above) → judgeAll T buffer s i rs ≡ judgeSlots buffer (future T s) i rs
+  pub judge-slots : (old : Bool) (buffer : List ℕ) (rs : List Row) (i : ℕ) (s : State) → All (Ordered T) (s .owner ∷ s .above) → judgeAll T old buffer s i rs ≡ judgeSlots old buffer (future T s) i rs
   unfolding judgeAll judgeSlots judge judgeSlot given givenOf next spot slot
-  judge-slots buffer [] i s O = ap (λ (q : Bool). pick q (stop 20 i) (out [])) (due-future s)
-  judge-slots buffer (r ∷ rs) i s O = go (reach-same T (r .member) s O) (λ s O. judge-slots buffer rs (suc i) s O)
+  judge-slots old buffer [] i s O = ap (λ (q : Bool). pick q (stop 20 i) (out [])) (due-future s)
+  judge-slots old buffer (r ∷ rs) i s O = go (reach-same T (r .member) s O) (λ s O. judge-slots old buffer rs (suc i) s O)
     where
       b : List ℕ
       b = partOf buffer r
 
       go : {f : Option Spot} {z : Option Reached} → Same T f z
-          → ((s : State) → All (Ordered T) (s .owner ∷ s .above) → judgeAll T buffer s (suc i) rs ≡ judgeSlots buffer (future T s) (suc i) rs)
-          → next (judge buffer i r z) (λ (z : Reached). next (judgeAll T buffer (z .state) (suc i) rs) (prepend (given z b)))
-          ≡ next (judgeSlot buffer i r f) (λ (z : Spot). next (judgeSlots buffer (z .rest) (suc i) rs) (prepend (givenOf (z .slot) b)))
+          → ((s : State) → All (Ordered T) (s .owner ∷ s .above) → judgeAll T old buffer s (suc i) rs ≡ judgeSlots old buffer (future T s) (suc i) rs)
+          → next (judge old buffer i r z) (λ (z : Reached). next (judgeAll T old buffer (z .state) (suc i) rs) (prepend (given z b)))
+          ≡ next (judgeSlot old buffer i r f) (λ (z : Spot). next (judgeSlots old buffer (z .rest) (suc i) rs) (prepend (givenOf (z .slot) b)))
       go neither ih = refl
-      go (both z O) ih = go₂ (leb (r .place + r .len) (length buffer)) (exact (z .member .ty) b)
+      go (both z O) ih = go₂ (leb (r .place + r .len) (length buffer)) (exact (typeAs old (z .member .ty)) b)
         where
           go₂ : (p q : Bool)
-              → next (pick p (pick q (out z) (stop 21 i)) (stop 20 i)) (λ (z : Reached). next (judgeAll T buffer (z .state) (suc i) rs) (prepend (given z b)))
-              ≡ next (pick p (pick q (out (spot T z)) (stop 21 i)) (stop 20 i)) (λ (z : Spot). next (judgeSlots buffer (z .rest) (suc i) rs) (prepend (givenOf (z .slot) b)))
+              → next (pick p (pick q (out z) (stop 21 i)) (stop 20 i)) (λ (z : Reached). next (judgeAll T old buffer (z .state) (suc i) rs) (prepend (given z b)))
+              ≡ next (pick p (pick q (out (spot T z)) (stop 21 i)) (stop 20 i)) (λ (z : Spot). next (judgeSlots old buffer (z .rest) (suc i) rs) (prepend (givenOf (z .slot) b)))
           go₂ true true = ap (λ (o : Out (List Given)). next o (prepend (given z b))) (ih (z .state) O)
           go₂ true false = refl
           go₂ false q = refl
@@ -415,11 +416,11 @@ module _ (T : List ℕ) where
 -- ---- rows that are judged right
 
 -- rows choose slots in order, leave out none that is due, lie in the buffer and have their types' bytes; with what they give
-pub data Judged (buffer : List ℕ) : List Slot → List Row → List Given → Type 0 where
-  over : Judged buffer [] [] []
+pub data Judged (old : Bool) (buffer : List ℕ) : List Slot → List Row → List Given → Type 0 where
+  over : Judged old buffer [] [] []
   taken : {s : Slot} {ss : List Slot} {r : Row} {rs : List Row} {gs : List Given} → r .member ≡ s .member .row → r .place + r .len ≤ length buffer
-      → exact (s .member .ty) (partOf buffer r) ≡ true → Judged buffer ss rs gs → Judged buffer (s ∷ ss) (r ∷ rs) (givenOf s (partOf buffer r) ∷ gs)
-  missed : {s : Slot} {ss : List Slot} {rs : List Row} {gs : List Given} → s .due ≡ false → Judged buffer ss rs gs → Judged buffer (s ∷ ss) rs gs
+      → exact (typeAs old (s .member .ty)) (partOf buffer r) ≡ true → Judged old buffer ss rs gs → Judged old buffer (s ∷ ss) (r ∷ rs) (givenOf s (partOf buffer r) ∷ gs)
+  missed : {s : Slot} {ss : List Slot} {rs : List Row} {gs : List Given} → s .due ≡ false → Judged old buffer ss rs gs → Judged old buffer (s ∷ ss) rs gs
 
 -- no two slots have one member row
 abbrev pub SlotsDiffer : Slot → Slot → Type 0
@@ -437,26 +438,26 @@ module _ {A B : Type 0} (o : Out A) (f : A → Out B) where
       go (out a) e h = (a, e, h)
       go (stop n p) e h = absurd (out≢stop h refl)
 
-module _ (buffer : List ℕ) (r : Row) where
+module _ (old : Bool) (buffer : List ℕ) (r : Row) where
   pub record Fitting (f : Option Spot) (z : Spot) : Type 0 where
     pub found : f ≡ some z
     pub inside : r .place + r .len ≤ length buffer
-    pub one : exact (z .slot .member .ty) (partOf buffer r) ≡ true
+    pub one : exact (typeAs old (z .slot .member .ty)) (partOf buffer r) ≡ true
 
-  judgeSlot-ok : (i : ℕ) (f : Option Spot) {z : Spot} → judgeSlot buffer i r f ≡ out z → Fitting f z
+  judgeSlot-ok : (i : ℕ) (f : Option Spot) {z : Spot} → judgeSlot old buffer i r f ≡ out z → Fitting f z
   unfolding judgeSlot
   judgeSlot-ok i none h = absurd (out≢stop h refl)
-  judgeSlot-ok i (some x) {z} h = go (leb (r .place + r .len) (length buffer)) refl (exact (x .slot .member .ty) (partOf buffer r)) refl h
+  judgeSlot-ok i (some x) {z} h = go (leb (r .place + r .len) (length buffer)) refl (exact (typeAs old (x .slot .member .ty)) (partOf buffer r)) refl h
     where
-      go : (p : Bool) → leb (r .place + r .len) (length buffer) ≡ p → (q : Bool) → exact (x .slot .member .ty) (partOf buffer r) ≡ q
+      go : (p : Bool) → leb (r .place + r .len) (length buffer) ≡ p → (q : Bool) → exact (typeAs old (x .slot .member .ty)) (partOf buffer r) ≡ q
           → pick p (pick q (out x) (stop 21 i)) (stop 20 i) ≡ out z → Fitting (some x) z
       go true e true g h =
           let s : x ≡ z = cc in
-          record { found = ap some s; inside = leb-true (r .place + r .len) (length buffer) e; one = subst (λ (y : Spot). exact (y .slot .member .ty) (partOf buffer r) ≡ true) s g }
+          record { found = ap some s; inside = leb-true (r .place + r .len) (length buffer) e; one = subst (λ (y : Spot). exact (typeAs old (y .slot .member .ty)) (partOf buffer r) ≡ true) s g }
       go true e false g h = absurd (out≢stop h refl)
       go false e q g h = absurd (out≢stop h refl)
 
-  pub judgeSlot-step : (i : ℕ) (f : Option Spot) {z : Spot} → Fitting f z → judgeSlot buffer i r f ≡ out z
+  pub judgeSlot-step : (i : ℕ) (f : Option Spot) {z : Spot} → Fitting f z → judgeSlot old buffer i r f ≡ out z
   unfolding judgeSlot
   judgeSlot-step i f F = rw (F .found, le-leb (r .place + r .len) (length buffer) (F .inside), F .one)
 
@@ -486,21 +487,21 @@ module _ (Q : List Slot → Type 0) (m : ℕ) where
       go false true e ih = absurd (some≢none e refl)
       go false false e ih = ih e
 
-pub find-judged : {buffer : List ℕ} {r : Row} {rs : List Row} {gs : List Given} (ss : List Slot) (z : Spot) → find (r .member) ss ≡ some z → Judged buffer (z .slot ∷ z .rest) (r ∷ rs) gs → Judged buffer ss (r ∷ rs) gs
-find-judged {buffer} {r} {rs} {gs} ss z e K = find-left (λ (ss : List Slot). Judged buffer ss (r ∷ rs) gs) (r .member) (λ s ss d K. missed d K) ss z e K
+pub find-judged : {old : Bool} {buffer : List ℕ} {r : Row} {rs : List Row} {gs : List Given} (ss : List Slot) (z : Spot) → find (r .member) ss ≡ some z → Judged old buffer (z .slot ∷ z .rest) (r ∷ rs) gs → Judged old buffer ss (r ∷ rs) gs
+find-judged {old} {buffer} {r} {rs} {gs} ss z e K = find-left (λ (ss : List Slot). Judged old buffer ss (r ∷ rs) gs) (r .member) (λ s ss d K. missed d K) ss z e K
 
 -- rows that are judged right choose their slots
-pub judged-chosen : {buffer : List ℕ} {ss : List Slot} {rs : List Row} {gs : List Given} → Judged buffer ss rs gs → Chosen ss rs
+pub judged-chosen : {old : Bool} {buffer : List ℕ} {ss : List Slot} {rs : List Row} {gs : List Given} → Judged old buffer ss rs gs → Chosen ss rs
 judged-chosen over = Write.end
 judged-chosen (taken e i x K) = chosen e (judged-chosen K)
 judged-chosen (missed d K) = left d (judged-chosen K)
 
-pub judged-within : {buffer : List ℕ} {ss : List Slot} {rs : List Row} {gs : List Given} → Judged buffer ss rs gs → RowsWithin (length buffer) rs
+pub judged-within : {old : Bool} {buffer : List ℕ} {ss : List Slot} {rs : List Row} {gs : List Given} → Judged old buffer ss rs gs → RowsWithin (length buffer) rs
 judged-within over = tt
 judged-within (taken e i x K) = (i, judged-within K)
 judged-within (missed d K) = judged-within K
 
-pub missed-all : {buffer : List ℕ} (ss : List Slot) → anyDue ss ≡ false → Judged buffer ss [] []
+pub missed-all : {old : Bool} {buffer : List ℕ} (ss : List Slot) → anyDue ss ≡ false → Judged old buffer ss [] []
 unfolding anyDue
 missed-all [] e = over
 missed-all (s ∷ ss) e = let d = either-false (s .due) (anyDue ss) e in missed (d .0) (missed-all ss (d .1))
@@ -518,32 +519,32 @@ find-member m (s ∷ ss) {z} e = go (eqb m (s .member .row)) refl (s .due) e (λ
     go false f true e ih = absurd (some≢none e refl)
     go false f false e ih = ih e
 
-pub judged-ok : (buffer : List ℕ) (rs : List Row) (ss : List Slot) (i : ℕ) {gs : List Given} → judgeSlots buffer ss i rs ≡ out gs → Judged buffer ss rs gs
+pub judged-ok : (old : Bool) (buffer : List ℕ) (rs : List Row) (ss : List Slot) (i : ℕ) {gs : List Given} → judgeSlots old buffer ss i rs ≡ out gs → Judged old buffer ss rs gs
 unfolding judgeSlots prepend
-judged-ok buffer [] ss i {gs} h = go (anyDue ss) refl h
+judged-ok old buffer [] ss i {gs} h = go (anyDue ss) refl h
   where
-    go : (q : Bool) → anyDue ss ≡ q → pick q (stop 20 i) (out []) ≡ out gs → Judged buffer ss [] gs
+    go : (q : Bool) → anyDue ss ≡ q → pick q (stop 20 i) (out []) ≡ out gs → Judged old buffer ss [] gs
     go true e h = absurd (out≢stop h refl)
-    go false e h = let x : [] ≡ gs = cc in subst (Judged buffer ss []) x (missed-all ss e)
-judged-ok buffer (r ∷ rs) ss i {gs} h =
-    let A = next-ok (judgeSlot buffer i r (find (r .member) ss)) _ h in
+    go false e h = let x : [] ≡ gs = cc in subst (Judged old buffer ss []) x (missed-all ss e)
+judged-ok old buffer (r ∷ rs) ss i {gs} h =
+    let A = next-ok (judgeSlot old buffer i r (find (r .member) ss)) _ h in
     let z : Spot = A .0 in
-    let F = judgeSlot-ok buffer r i (find (r .member) ss) (A .1) in
-    let B = next-ok (judgeSlots buffer (z .rest) (suc i) rs) _ (A .2) in
+    let F = judgeSlot-ok old buffer r i (find (r .member) ss) (A .1) in
+    let B = next-ok (judgeSlots old buffer (z .rest) (suc i) rs) _ (A .2) in
     let x : givenOf (z .slot) (partOf buffer r) ∷ B .0 ≡ gs = cc in
-    subst (Judged buffer ss (r ∷ rs)) x
-    (find-judged ss z (F .found) (taken (find-member (r .member) ss (F .found)) (F .inside) (F .one) (judged-ok buffer rs (z .rest) (suc i) (B .1))))
+    subst (Judged old buffer ss (r ∷ rs)) x
+    (find-judged ss z (F .found) (taken (find-member (r .member) ss (F .found)) (F .inside) (F .one) (judged-ok old buffer rs (z .rest) (suc i) (B .1))))
 
 -- the slot of the first row is among the slots
 pub first-among : {P : Slot → Type 0} {ss : List Slot} {r : Row} {rs : List Row} → All P ss → Chosen ss (r ∷ rs) → (s : Slot) × P s × (r .member ≡ s .member .row)
 first-among (more {a} p L) (chosen e C) = (a, p, e)
 first-among (more p L) (left d C) = first-among L C
 
-pub judged-step : {buffer : List ℕ} {ss : List Slot} {rs : List Row} {gs : List Given} (i : ℕ) → Pairs SlotsDiffer ss → Judged buffer ss rs gs → judgeSlots buffer ss i rs ≡ out gs
+pub judged-step : {old : Bool} {buffer : List ℕ} {ss : List Slot} {rs : List Row} {gs : List Given} (i : ℕ) → Pairs SlotsDiffer ss → Judged old buffer ss rs gs → judgeSlots old buffer ss i rs ≡ out gs
 unfolding judgeSlots anyDue find next prepend
 judged-step i alone over = refl
-judged-step {buffer} i (before D P) (taken {s} {ss} {r} e b x K) =
-    rw (eq-eqb (r .member) (s .member .row) e, judgeSlot-step buffer r i _ {z = record { slot = s; rest = ss }} (record { found = refl; inside = b; one = x })) (rw (judged-step (suc i) P K))
+judged-step {old} {buffer} i (before D P) (taken {s} {ss} {r} e b x K) =
+    rw (eq-eqb (r .member) (s .member .row) e, judgeSlot-step old buffer r i _ {z = record { slot = s; rest = ss }} (record { found = refl; inside = b; one = x })) (rw (judged-step (suc i) P K))
 judged-step i (before D P) (missed {s} {ss} {rs = []} d K) = ap (λ (q : Bool). pick (q || anyDue ss) (stop 20 i) (out [])) d ∙ judged-step i P K
 judged-step i (before D P) (missed {s} {ss} {rs = r ∷ rs} d K) =
     let F = first-among D (judged-chosen K) in

@@ -229,9 +229,9 @@ pub list-chain : (T : List ℕ) (t : ℕ) → kind T t ≡ 15 → chain T t ≡ 
 unfolding base upward
 list-chain T t k = chain-node T t ∙ ap (λ (b : ℕ). t ∷ upward (chain T) b) (ap (λ (x : ℕ). pick (isRecord x && leb (field T t 2) t) (field T t 2) 0) k)
 
--- rows under a table that breaks no rule, for a type of it, after 2, 23 and 3
-abbrev pub judging : List ℕ → ℕ → List ℕ → List Row → Out (List Given)
-judging T type buffer rs = judgeAll T buffer (begin T type (above (chain T type))) 0 rs
+-- rows under a table that breaks no rule, for a type of it, after 2, 23, 26 and 3, in 1.0 or 1.1
+abbrev pub judging : List ℕ → ℕ → Bool → List ℕ → List Row → Out (List Given)
+judging T type old buffer rs = judgeAll T old buffer (begin T type (above (chain T type))) 0 rs
 
 -- ---- the slots of a chain
 
@@ -347,8 +347,8 @@ module _ (T : List ℕ) where
           ap (λ (l : List Member). map (slot type true) (requiredMembers T type) ++ map (slot type false) l ++ planOf T ts)
           (ap (λ (n : ℕ). from n (rising (optionalMembers T type))) (least-zero (requiredMembers T type)) ∙ from-zero (rising (optionalMembers T type)))
 
-      pub judging-slots : (buffer : List ℕ) (rs : List Row) → judging T type buffer rs ≡ judgeSlots buffer (plan T type) 0 rs
+      pub judging-slots : (old : Bool) (buffer : List ℕ) (rs : List Row) → judging T type old buffer rs ≡ judgeSlots old buffer (plan T type) 0 rs
       unfolding plan begin
-      judging-slots buffer rs =
-          judge-slots T buffer rs 0 (begin T type (above (chain T type))) (subst (All (Ordered T)) chain-above (all-map (λ (t : ℕ) (O : Owner T t). owner-ordered T t right O) chain-owners))
-          ∙ ap (λ (ss : List Slot). judgeSlots buffer ss 0 rs) (begin-future (above (chain T type)) ∙ ap (planOf T) (sym chain-above))
+      judging-slots old buffer rs =
+          judge-slots T old buffer rs 0 (begin T type (above (chain T type))) (subst (All (Ordered T)) chain-above (all-map (λ (t : ℕ) (O : Owner T t). owner-ordered T t right O) chain-owners))
+          ∙ ap (λ (ss : List Slot). judgeSlots old buffer ss 0 rs) (begin-future (above (chain T type)) ∙ ap (planOf T) (sym chain-above))

@@ -4,13 +4,14 @@ use Rattle.encoding.specs.OptionalForm.{HasForm}
 use Rattle.encoding.specs.OptionalFormLaws.{form-has, is-form}
 use Rattle.encoding.specs.Utf8Laws.{utf8-ok, utf8-step}
 use Rattle.encoding.specs.ExactLaws.{exact-is, is-exact, extent-is, is-extent}
-use Rattle.laws.specs.Demands.{ExactTable, OneOwner, TableFault, ReaderRefuses, NumbersTold, ExactUtf8, NumbersTogether, NumbersCounted, Exact, Reads, ExactRows, ListedRows, RowsApart, RowsRight, RowsOnce, Unambiguous, ExactCounts, ExactValues, TypesRise, ExactEnums, EqualSets, ExactExtents, ExactForms, Viewed, ReadBack, ReadBackReading, WriteAgain, WriteSame, OneMessage, EarlyRefused, RightLists, WrongBytes, RightMakes, TooLong, RightWritten, WriterRefuses, WritingNumbersTold, ListFilled, OutputFilled, NewerRead, NewerRefused, NewerReading, NewerRefusedReading, NewerWritten, OneCounterpart, NewerThere}
+use Rattle.laws.specs.Demands.{ExactTable, OneOwner, TableFault, ReaderRefuses, OldNumbers, NumbersTold, ExactUtf8, NumbersTogether, NumbersCounted, Exact, Reads, ExactRows, ListedRows, RowsApart, RowsRight, RowsOnce, Unambiguous, ExactCounts, ExactValues, TypesRise, ExactEnums, ExactOldEnums, EqualSets, ExactExtents, ExactForms, Viewed, ReadBack, ReadBackReading, WriteAgain, WriteSame, OldBelow, OneMessage, EarlyRefused, RightLists, WrongBytes, RightMakes, TooLong, RightWritten, WriterRefuses, WritingNumbersTold, ListFilled, OutputFilled, NewerRead, NewerRefused, NewerReading, NewerRefusedReading, NewerWritten, OneCounterpart, NewerThere}
 use Rattle.laws.specs.TableExact.{exact-table, one-owner}
 use Rattle.laws.specs.TableFault.{table-fault}
-use Rattle.laws.specs.SetsExact.{types-rise, exact-enums}
+use Rattle.laws.specs.SetsExact.{types-rise, exact-enums, exact-old-enums}
 use Rattle.laws.specs.TypesAgree.{equal-sets}
 use Rattle.laws.specs.NumbersTogether.{numbers-together, numbers-counted}
-use Rattle.laws.specs.Refusals.{reader-refuses, numbers-told}
+use Rattle.laws.specs.Refusals.{reader-refuses, old-numbers, numbers-told}
+use Rattle.laws.specs.OldLine.{old-below}
 use Rattle.laws.specs.MessageExact.{exact-message, exact-rows}
 use Rattle.laws.specs.RowsListed.{listed-rows}
 use Rattle.laws.specs.RowsApart.{listed-apart}
@@ -33,6 +34,7 @@ pub record Promises : Type 0 where
   pub owner : OneOwner
   pub fault : TableFault
   pub refuses : ReaderRefuses
+  pub old-numbers : OldNumbers
   pub numbers : NumbersTold
   pub text : ExactUtf8
   pub together : NumbersTogether
@@ -49,6 +51,7 @@ pub record Promises : Type 0 where
   pub values : ExactValues
   pub lists : TypesRise
   pub enums : ExactEnums
+  pub old-enums : ExactOldEnums
   pub sets : EqualSets
   pub extents : ExactExtents
   pub forms : ExactForms
@@ -57,6 +60,7 @@ pub record Promises : Type 0 where
   pub reads-back-answer : ReadBackReading
   pub writes-again : WriteAgain
   pub writes-same : WriteSame
+  pub old-below : OldBelow
   pub one : OneMessage
   pub early : EarlyRefused
   pub right : RightLists
@@ -82,6 +86,7 @@ promises = record {
   owner = one-owner;
   fault = table-fault;
   refuses = reader-refuses;
+  old-numbers = old-numbers;
   numbers = numbers-told;
   text = λ b. (utf8-ok b, utf8-step b);
   together = numbers-together;
@@ -98,6 +103,7 @@ promises = record {
   values = λ t R b. (exact-is t R b, is-exact t R b);
   lists = types-rise;
   enums = exact-enums;
+  old-enums = exact-old-enums;
   sets = equal-sets;
   extents = λ k b. (λ w. extent-is k b (w .0) (w .1), is-extent k b);
   forms = λ t f. (λ e. subst (HasForm t) e (form-has t), is-form);
@@ -106,6 +112,7 @@ promises = record {
   reads-back-answer = read-back-reading;
   writes-again = write-again;
   writes-same = write-same;
+  old-below = old-below;
   one = one-message;
   early = early-refused;
   right = right-lists;

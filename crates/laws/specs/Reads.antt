@@ -10,8 +10,7 @@ use native.Mathlib.Omega.{arith}
 use lib.ListN.{length}
 use borrow.Author.Tests.{le-leb}
 use Rattle.encoding.specs.Result.{ok, bad}
-use Rattle.encoding.specs.Slice.{Format}
-use Rattle.encoding.specs.Message.{Pieces, Read, Row, rules, rows, Answer, refused, accepted, answer, room, within, reading}
+use Rattle.encoding.specs.Message.{Pieces, Encoding, Read, Row, rules, rows, Answer, refused, accepted, answer, room, within, reading}
 use Rattle.laws.specs.Demands.{readAs, AnswerOf, Readable, Reads, SameMembers, no-members, same-member, rowList, ReadBackAnswer, ReadBackReading, NewerRefusedReading}
 use Rattle.laws.specs.Refusals.{Answered, yes-read, not-read, answered, reader-number}
 use Rattle.laws.specs.MessageExact.{exact-message}
@@ -29,7 +28,7 @@ module _ (T : List ℕ) (top : ℕ) (m : List ℕ) (bytes : ℕ) where
   unfolding reading within answer refused room
   reading-refused h = rw (h, le-leb 0 (bytes / 12) (omega arith))
 
-accepted-answer : (T : List ℕ) (top : ℕ) (f : Format) (p : Pieces) → AnswerOf T top f p (accepted T top (readAs f p))
+accepted-answer : (T : List ℕ) (top : ℕ) (f : Encoding) (p : Pieces) → AnswerOf T top f p (accepted T top (readAs f p))
 unfolding accepted
 accepted-answer T top f p = record { refusal = refl; place = refl; type = refl; format = refl; all-listed = refl; optionals = refl; slices = refl }
 
@@ -37,11 +36,11 @@ pub reads : Reads
 unfolding accepted refused
 reads T top m bytes y = (λ h. found (reading T top m bytes) (answered T top m bytes) h, given)
   where
-    found : (a : Answer) → Answered T top m bytes a → a .refusal ≡ 0 → (f : Format) × (p : Pieces) × Readable T top m bytes f p
+    found : (a : Answer) → Answered T top m bytes a → a .refusal ≡ 0 → (f : Encoding) × (p : Pieces) × Readable T top m bytes f p
     found a (yes-read {r} {n} e l) h = (r .format, r .pieces, record { follows = exact-message T top m (r .format) (r .pieces) n y .0 e .0; fits = l })
     found a (not-read R) h = absurd (omega (arith, reader-number R))
 
-    given : (f : Format) (p : Pieces) → Readable T top m bytes f p → AnswerOf T top f p (reading T top m bytes)
+    given : (f : Encoding) (p : Pieces) → Readable T top m bytes f p → AnswerOf T top f p (reading T top m bytes)
     given f p R =
         subst (AnswerOf T top f p) (sym (reading-accepted T top m bytes (exact-message T top m f p (length m) y .1 (R .follows)) (R .fits))) (accepted-answer T top f p)
 

@@ -16,13 +16,13 @@ use borrow.Author.Tests.{ltb-true, ltb-false}
 use Rattle.encoding.specs.Result.{ok, concat}
 use Rattle.encoding.specs.Number.{Bytes, val, leBytes}
 use Rattle.encoding.specs.NumberLaws.{length-leBytes, val-leBytes}
-use Rattle.encoding.specs.Types.{Ty}
+use Rattle.encoding.specs.Types.{Ty, broken}
 use Rattle.encoding.specs.Grammar.{IsValue}
 use Rattle.encoding.specs.Table.{at, members, memberTy, trees, range, fine, faults}
 use Rattle.encoding.specs.TableLaws.{member-past}
 use Rattle.encoding.specs.RuleLaws.{members-most}
-use Rattle.encoding.specs.Slice.{Format}
-use Rattle.encoding.specs.Message.{Pieces, limit, rules, Row, rows, rowBytes}
+use Rattle.encoding.specs.Old.{asOld, typeAs}
+use Rattle.encoding.specs.Message.{Pieces, Encoding, isOld, limit, rules, Row, rows, rowBytes}
 use Rattle.encoding.specs.MessageLaws.{length-row}
 use Rattle.encoding.specs.Write.{rowAt}
 use Rattle.laws.specs.Demands.{readAs, All, end, more, RowExact}
@@ -87,22 +87,26 @@ rows-back L x v e = rows-behind L x [] v 0 e refl
 -- ---- the rows of an accepted message
 
 -- no bytes are a value of a member that the table has not
-member-there : (T : List ℕ) (m : ℕ) (b : List ℕ) → IsValue (memberTy T (trees T) m) b → m < members T
-unfolding IsValue
-member-there T m b w = go (ltb m (members T)) refl
+member-there : (T : List ℕ) (old : Bool) (m : ℕ) (b : List ℕ) → IsValue (typeAs old (memberTy T (trees T) m)) b → m < members T
+unfolding IsValue asOld
+member-there T old m b w = go (ltb m (members T)) refl
   where
+    none : (old : Bool) → IsValue (typeAs old broken) b → ⊥
+    none true w = w
+    none false w = w
+
     go : (q : Bool) → ltb m (members T) ≡ q → m < members T
     go true e = ltb-true m (members T) e
     go false e =
-        absurd (subst (λ (t : Ty). IsValue t b) (member-past T m (trees T) (ltb-false m (members T) e)) w)
+        absurd (none old (subst (λ (t : Ty). IsValue (typeAs old t) b) (member-past T m (trees T) (ltb-false m (members T) e)) w))
 
-rows-small : (T : List ℕ) → faults T ≡ fine → (m : List ℕ) → length m ≤ limit → {rs : List Row} → All (RowExact T m) rs → All SmallRow rs
-rows-small T right m h end = end
-rows-small T right m h (more {a = r} E L) =
-    let b = member-there T (r .member) _ (E .one) in
-    more {a = r} (record { member = omega (arith, members-most T right, b); place = omega (arith, E .inside); len = omega (arith, E .inside) }) (rows-small T right m h L)
+rows-small : (T : List ℕ) → faults T ≡ fine → (m : List ℕ) → length m ≤ limit → (f : Encoding) {rs : List Row} → All (RowExact T m f) rs → All SmallRow rs
+rows-small T right m h f end = end
+rows-small T right m h f (more {a = r} E L) =
+    let b = member-there T (isOld f) (r .member) _ (E .one) in
+    more {a = r} (record { member = omega (arith, members-most T right, b); place = omega (arith, E .inside); len = omega (arith, E .inside) }) (rows-small T right m h f L)
 
-pub accepted-rows-small : (T : List ℕ) (top : ℕ) (m : List ℕ) (f : Format) (p : Pieces) (n : ℕ) → Bytes m → rules T top m ≡ ok (readAs f p) n → All SmallRow (rows T top f p)
+pub accepted-rows-small : (T : List ℕ) (top : ℕ) (m : List ℕ) (f : Encoding) (p : Pieces) (n : ℕ) → Bytes m → rules T top m ≡ ok (readAs f p) n → All SmallRow (rows T top f p)
 accepted-rows-small T top m f p n y h =
     let E = exact-message T top m f p n y .0 h .0 in
-    rows-small T (sound T (E .table)) m (E .short) (exact-rows T top m f p n y h)
+    rows-small T (sound T (E .table)) m (E .short) f (exact-rows T top m f p n y h)

@@ -23,9 +23,10 @@ use Rattle.encoding.specs.Grammar.{IsValue}
 use Rattle.encoding.specs.Table.{mark, Member, memberTy, trees, ownRows, requiredsIn, optionalsIn, lookup, chain}
 use Rattle.encoding.specs.Table
 use Rattle.encoding.specs.Optional.{Piece, required, optional, skipped, frontBytes, contentBytes, pieceBytes}
-use Rattle.encoding.specs.Slice.{Format, Slice, known, passed, Stand, first, later, isLast, sliceFront, dataBytes, slicesBytes}
-use Rattle.encoding.specs.Message.{Pieces, list, exception, class, encode, encapsulate, Row, listRow, pieceMember, pieceRows, sliceRows, orZero, firstIn, rows}
-use Rattle.encoding.specs.Conform.{Level, Owned, Follow, Slices, Conform}
+use Rattle.encoding.specs.Slice.{Format, Slice, known, passed, Stand, first, isLast, dataBytes}
+use Rattle.encoding.specs.Old.{typeAs, oldMember, membersAs}
+use Rattle.encoding.specs.Message.{Pieces, list, exception, class, Encoding, v10, v11, isOld, frontAs, laterAs, encode, minor, encapsulate, Row, listRow, pieceMember, pieceRows, sliceRows, orZero, firstIn, rows, slicesBytes}
+use Rattle.encoding.specs.Conform.{Level, Bare, OwnedAs, Follow, Slices, Conform}
 use Rattle.laws.specs.Demands.{All, end, more, RowExact, Exact, ExactRows}
 
 -- ---- bytes at a place of a message
@@ -62,13 +63,13 @@ stands-there {m} {at} b S =
     ∙ ap (take (length b)) (drop-at (S .before) (b ++ S .after) at (S .place))
     ∙ take-at b (S .after) (length b) refl
 
-pub stands-encapsulated : (b : List ℕ) → Stands (encapsulate b) 6 b
+pub stands-encapsulated : (e : Encoding) (b : List ℕ) → Stands (encapsulate e b) 6 b
 unfolding encapsulate
-stands-encapsulated b = record {
-  before = leBytes 4 (6 + length b) ++ (1 ∷ 1 ∷ []);
+stands-encapsulated e b = record {
+  before = leBytes 4 (6 + length b) ++ (1 ∷ minor e ∷ []);
   after = [];
   spelt = rw (append-nil b, append-assoc) refl;
-  place = omega (arith, length-append (leBytes 4 (6 + length b)) (1 ∷ 1 ∷ []), length-leBytes 4 (6 + length b));
+  place = omega (arith, length-append (leBytes 4 (6 + length b)) (1 ∷ minor e ∷ []), length-leBytes 4 (6 + length b));
 }
 
 -- ---- looking up members
@@ -161,13 +162,13 @@ required-found T t = all-map (λ x F. F .1) (required-from T (trees T) 0 (ownRow
 
 module _ (T m : List ℕ) where
   -- the row of a piece's content, of a member whose value it is, and rows after it
-  listed-exact : {o : Option Member} {x : Member} (at : ℕ) (b : List ℕ) {rs : List Row} → o ≡ some x → x .ty ≡ memberTy T (trees T) (x .row)
-      → IsValue (x .ty) b → Stands m at b → All (RowExact T m) rs → All (RowExact T m) (listRow o at b rs)
+  listed-exact : (f : Encoding) {o : Option Member} {x : Member} (at : ℕ) (b : List ℕ) {rs : List Row} → o ≡ some x → x .ty ≡ memberTy T (trees T) (x .row)
+      → IsValue (typeAs (isOld f) (x .ty)) b → Stands m at b → All (RowExact T m f) rs → All (RowExact T m f) (listRow o at b rs)
   unfolding listRow
-  listed-exact {x = x} at b q e h S R = rw q (more row R)
+  listed-exact f {x = x} at b q e h S R = rw q (more row R)
     where
-      row : RowExact T m (record { member = x .row; place = at; len = length b })
-      row = record { inside = stands-inside b S; one = rw (stands-there b S) (subst (λ (u : Ty). IsValue u b) e h) }
+      row : RowExact T m f (record { member = x .row; place = at; len = length b })
+      row = record { inside = stands-inside b S; one = rw (stands-there b S) (subst (λ (u : Ty). IsValue (typeAs (isOld f) u) b) e h) }
 
   module _ (p : Piece) (ps : List Piece) (at : ℕ) (S : Stands m at (concat pieceBytes (p ∷ ps))) where
     pub content-stands : Stands m (at + length (frontBytes p)) (contentBytes p)
@@ -178,68 +179,85 @@ module _ (T m : List ℕ) where
     unfolding concat
     others-stand = stands-next (pieceBytes p) (concat pieceBytes ps) S _ refl
 
-  pieceRows-exact : (t : ℕ) (ms : List Member) → All (Found (Table.requiredMembers T t)) ms → (least : ℕ) (ps : List Piece)
-      → Level ms (Table.optionalMembers T t) least ps → (at : ℕ) → Stands m at (concat pieceBytes ps) → All (RowExact T m) (pieceRows T t at ps)
+  pieceRows-exact : (g : Format) (t : ℕ) (ms : List Member) → All (Found (Table.requiredMembers T t)) ms → (least : ℕ) (ps : List Piece)
+      → Level ms (Table.optionalMembers T t) least ps → (at : ℕ) → Stands m at (concat pieceBytes ps) → All (RowExact T m (v11 g)) (pieceRows T t at ps)
   unfolding pieceRows pieceMember contentBytes listRow
-  pieceRows-exact t [] F least [] L at S = end
-  pieceRows-exact t [] F least (required i b ∷ ps) L at S = absurd L
-  pieceRows-exact t [] F least (optional k f b ∷ ps) (K, L) at S =
-      listed-exact _ b (K .found) (optional-ty T t k (K .found)) (K .one) (content-stands (optional k f b) ps at S)
-      (pieceRows-exact t [] F (suc k) ps L _ (others-stand (optional k f b) ps at S))
-  pieceRows-exact t [] F least (skipped k f b ∷ ps) (U, L) at S = pieceRows-exact t [] F (suc k) ps L _ (others-stand (skipped k f b) ps at S)
-  pieceRows-exact t (x ∷ ms) F least [] L at S = absurd L
-  pieceRows-exact t (x ∷ ms) (more q F) least (required i b ∷ ps) (e, h, L) at S =
+  pieceRows-exact g t [] F least [] L at S = end
+  pieceRows-exact g t [] F least (required i b ∷ ps) L at S = absurd L
+  pieceRows-exact g t [] F least (optional k f b ∷ ps) (K, L) at S =
+      listed-exact (v11 g) _ b (K .found) (optional-ty T t k (K .found)) (K .one) (content-stands (optional k f b) ps at S)
+      (pieceRows-exact g t [] F (suc k) ps L _ (others-stand (optional k f b) ps at S))
+  pieceRows-exact g t [] F least (skipped k f b ∷ ps) (U, L) at S = pieceRows-exact g t [] F (suc k) ps L _ (others-stand (skipped k f b) ps at S)
+  pieceRows-exact g t (x ∷ ms) F least [] L at S = absurd L
+  pieceRows-exact g t (x ∷ ms) (more q F) least (required i b ∷ ps) (e, h, L) at S =
       let f : lookup i (Table.requiredMembers T t) ≡ some x = rw e q in
-      listed-exact _ b f (required-ty T t i f) h (content-stands (required i b) ps at S)
-      (pieceRows-exact t ms F least ps L _ (others-stand (required i b) ps at S))
-  pieceRows-exact t (x ∷ ms) F least (optional k f b ∷ ps) L at S = absurd L
-  pieceRows-exact t (x ∷ ms) F least (skipped k f b ∷ ps) L at S = absurd L
+      listed-exact (v11 g) _ b f (required-ty T t i f) h (content-stands (required i b) ps at S)
+      (pieceRows-exact g t ms F least ps L _ (others-stand (required i b) ps at S))
+  pieceRows-exact g t (x ∷ ms) F least (optional k f b ∷ ps) L at S = absurd L
+  pieceRows-exact g t (x ∷ ms) F least (skipped k f b ∷ ps) L at S = absurd L
 
-  owned-exact : (t : ℕ) (ps : List Piece) → Owned T t ps → (at : ℕ) → Stands m at (concat pieceBytes ps) → All (RowExact T m) (pieceRows T t at ps)
-  owned-exact t ps L at S = pieceRows-exact t (Table.requiredMembers T t) (required-found T t) 0 ps L at S
+  -- in 1.0 there are required members alone
+  bareRows-exact : (t : ℕ) (ms : List Member) → All (Found (Table.requiredMembers T t)) ms → (ps : List Piece) → Bare (membersAs true ms) ps → (at : ℕ) → Stands m at (concat pieceBytes ps)
+      → All (RowExact T m v10) (pieceRows T t at ps)
+  unfolding pieceRows pieceMember contentBytes listRow oldMember
+  bareRows-exact t [] F [] B at S = end
+  bareRows-exact t [] F (p ∷ ps) B at S = absurd B
+  bareRows-exact t (x ∷ ms) F [] B at S = absurd B
+  bareRows-exact t (x ∷ ms) (more q F) (required i b ∷ ps) (e, h, B) at S =
+      let f : lookup i (Table.requiredMembers T t) ≡ some x = rw e q in
+      listed-exact v10 _ b f (required-ty T t i f) h (content-stands (required i b) ps at S) (bareRows-exact t ms F ps B _ (others-stand (required i b) ps at S))
+  bareRows-exact t (x ∷ ms) F (optional k f b ∷ ps) B at S = absurd B
+  bareRows-exact t (x ∷ ms) F (skipped k f b ∷ ps) B at S = absurd B
+
+  owned-exact : (e : Encoding) (t : ℕ) (ps : List Piece) → OwnedAs e T t ps → (at : ℕ) → Stands m at (concat pieceBytes ps) → All (RowExact T m e) (pieceRows T t at ps)
+  owned-exact v10 t ps L at S = bareRows-exact t (Table.requiredMembers T t) (required-found T t) ps L at S
+  owned-exact (v11 g) t ps L at S = pieceRows-exact g t (Table.requiredMembers T t) (required-found T t) 0 ps L at S
 
   -- ---- the rows of slices
 
-  module _ (g : Format) (s : Stand) (sl : Slice) (ss : List Slice) (at : ℕ) (S : Stands m at (slicesBytes g s (sl ∷ ss))) where
-    pub data-stand : Stands m (at + length (sliceFront g s (isLast ss) sl)) (dataBytes sl)
+  module _ (e : Encoding) (s : Stand) (sl : Slice) (ss : List Slice) (at : ℕ) (S : Stands m at (slicesBytes e s (sl ∷ ss))) where
+    pub data-stand : Stands m (at + length (frontAs e s (isLast ss) sl)) (dataBytes sl)
     unfolding slicesBytes
     data-stand =
-        let f : List ℕ = sliceFront g s (isLast ss) sl in
-        stands-next f (dataBytes sl) (stands-first (f ++ dataBytes sl) (slicesBytes g (later g) ss) S) _ refl
+        let f : List ℕ = frontAs e s (isLast ss) sl in
+        stands-next f (dataBytes sl) (stands-first (f ++ dataBytes sl) (slicesBytes e (laterAs e) ss) S) _ refl
 
-    pub slices-stand : Stands m (at + length (sliceFront g s (isLast ss) sl) + length (dataBytes sl)) (slicesBytes g (later g) ss)
+    pub slices-stand : Stands m (at + length (frontAs e s (isLast ss) sl) + length (dataBytes sl)) (slicesBytes e (laterAs e) ss)
     unfolding slicesBytes
     slices-stand =
-        let f : List ℕ = sliceFront g s (isLast ss) sl in
-        stands-next (f ++ dataBytes sl) (slicesBytes g (later g) ss) S _ (omega (arith, length-append f (dataBytes sl)))
+        let f : List ℕ = frontAs e s (isLast ss) sl in
+        stands-next (f ++ dataBytes sl) (slicesBytes e (laterAs e) ss) S _ (omega (arith, length-append f (dataBytes sl)))
 
-  follow-exact : (g : Format) (ts : List ℕ) (ss : List Slice) → Follow T ts ss → (s : Stand) (at : ℕ) → Stands m at (slicesBytes g s ss)
-      → All (RowExact T m) (sliceRows T g s at ts ss)
+  follow-exact : (e : Encoding) (ts : List ℕ) (ss : List Slice) → Follow T e ts ss → (s : Stand) (at : ℕ) → Stands m at (slicesBytes e s ss)
+      → All (RowExact T m e) (sliceRows T e s at ts ss)
   unfolding sliceRows dataBytes
-  follow-exact g [] [] F s at S = end
-  follow-exact g [] (sl ∷ ss) F s at S = absurd F
-  follow-exact g (t ∷ ts) [] F s at S = absurd F
-  follow-exact g (t ∷ ts) (known o ps ∷ ss) (e, L, F) s at S =
-      all-append (owned-exact t ps L _ (stands-first (concat pieceBytes ps) _ (data-stand g s (known o ps) ss at S)))
-      (follow-exact g ts ss F (later g) _ (slices-stand g s (known o ps) ss at S))
-  follow-exact g (t ∷ ts) (passed b nm d ∷ ss) F s at S = absurd F
+  follow-exact e [] [] F s at S = end
+  follow-exact e [] (sl ∷ ss) F s at S = absurd F
+  follow-exact e (t ∷ ts) [] F s at S = absurd F
+  follow-exact e (t ∷ ts) (known o ps ∷ ss) (i, L, F) s at S =
+      all-append (owned-exact e t ps L _ (stands-first (concat pieceBytes ps) _ (data-stand e s (known o ps) ss at S)))
+      (follow-exact e ts ss F (laterAs e) _ (slices-stand e s (known o ps) ss at S))
+  follow-exact e (t ∷ ts) (passed b nm d ∷ ss) F s at S = absurd F
 
-  slices-exact : (top : ℕ) (g : Format) (ss : List Slice) → Slices T top g ss → (s : Stand) (at : ℕ) → Stands m at (slicesBytes g s ss)
-      → All (RowExact T m) (sliceRows T g s at (chain T (firstIn T ss)) ss)
+  slices-exact : (top : ℕ) (e : Encoding) (ss : List Slice) → Slices T top e ss → (s : Stand) (at : ℕ) → Stands m at (slicesBytes e s ss)
+      → All (RowExact T m e) (sliceRows T e s at (chain T (firstIn T ss)) ss)
   unfolding sliceRows firstIn dataBytes orZero
-  slices-exact top g [] C s at S = absurd C
-  slices-exact top g (known o ps ∷ ss) C s at S = rw (C .known) (follow-exact g (chain T (C .row)) (known o ps ∷ ss) (C .follow) s at S)
-  slices-exact top g (passed b nm d ∷ ss) (P, C) s at S = slices-exact top g ss C (later g) _ (slices-stand g s (passed b nm d) ss at S)
+  slices-exact top e [] C s at S = absurd C
+  slices-exact top e (known o ps ∷ ss) C s at S = rw (C .known) (follow-exact e (chain T (C .row)) (known o ps ∷ ss) (C .follow) s at S)
+  slices-exact top e (passed b nm d ∷ ss) (P, C) s at S = slices-exact top e ss C (laterAs e) _ (slices-stand e s (passed b nm d) ss at S)
 
 -- ---- the rows of a message
 
-pub rows-exact : (T : List ℕ) (top : ℕ) (f : Format) (p : Pieces) → Conform T top f p → All (RowExact T (encapsulate (encode f p))) (rows T top f p)
+pub rows-exact : (T : List ℕ) (top : ℕ) (f : Encoding) (p : Pieces) → Conform T top f p → All (RowExact T (encapsulate f (encode f p)) f) (rows T top f p)
 unfolding rows encode
-rows-exact T top f (list ps) (k, g, L) = owned-exact T _ top ps L 6 (stands-encapsulated _)
-rows-exact T top f (exception ss) (k, C) = slices-exact T _ top f ss C first 6 (stands-encapsulated _)
-rows-exact T top f (class ss) (k, C) = slices-exact T _ top f ss C first 7 (stands-next (1 ∷ []) _ (stands-encapsulated _) 7 refl)
+rows-exact T top (v11 g) (list ps) (k, i, L) = owned-exact T _ (v11 g) top ps L 6 (stands-encapsulated (v11 g) _)
+rows-exact T top (v11 g) (exception ss) (k, C) = slices-exact T _ top (v11 g) ss C first 6 (stands-encapsulated (v11 g) _)
+rows-exact T top (v11 g) (class ss) (k, C) = slices-exact T _ top (v11 g) ss C first 7 (stands-next (1 ∷ []) _ (stands-encapsulated (v11 g) _) 7 refl)
+rows-exact T top v10 (list ps) (k, W, L) = owned-exact T _ v10 top ps L 6 (stands-encapsulated v10 _)
+rows-exact T top v10 (exception ss) (k, W, C) = slices-exact T _ top v10 ss C first 7 (stands-next (0 ∷ []) _ (stands-encapsulated v10 _) 7 refl)
+rows-exact T top v10 (class ss) C = absurd C
 
 pub exact-rows-from : Exact → ExactRows
 exact-rows-from E T top m f p n y h =
     let F = E T top m f p n y .0 h .0 in
-    subst (λ (z : List ℕ). All (RowExact T z) (rows T top f p)) (sym (F .encoded)) (rows-exact T top f p (F .conforms))
+    subst (λ (z : List ℕ). All (RowExact T z f) (rows T top f p)) (sym (F .encoded)) (rows-exact T top f p (F .conforms))

@@ -19,9 +19,10 @@ use Rattle.encoding.specs.Table.{types, members, kind, field, owns, fine, fault
 use Rattle.encoding.specs.Table
 use Rattle.encoding.specs.RuleLaws.{own-sum, owns-record, named-ok, chain-node, AboveRecord, base-record, taken-rises, taken-next, taken-whole, members-most}
 use Rattle.encoding.specs.Optional.{Piece, required, optional, skipped, frontBytes, contentBytes, pieceBytes}
-use Rattle.encoding.specs.Slice.{Format, Slice, known, passed, Stand, first, later, isLast, sliceFront, dataBytes}
-use Rattle.encoding.specs.Message.{Pieces, list, exception, class, Row, listRow, pieceMember, pieceRows, sliceRows, orZero, firstIn, rows}
-use Rattle.encoding.specs.Conform.{Level, Owned, Follow, Slices, Conform}
+use Rattle.encoding.specs.Slice.{Slice, known, passed, Stand, first, isLast, dataBytes}
+use Rattle.encoding.specs.Old.{membersAs}
+use Rattle.encoding.specs.Message.{Pieces, list, exception, class, Encoding, v10, v11, frontAs, laterAs, Row, listRow, pieceMember, pieceRows, sliceRows, orZero, firstIn, rows}
+use Rattle.encoding.specs.Conform.{Level, Bare, OwnedAs, Follow, Slices, Conform}
 
 -- ---- one owner
 
@@ -92,57 +93,77 @@ module _ (T : List ℕ) where
   level-most t (x ∷ ms) least (optional k f b ∷ ps) L at = absurd L
   level-most t (x ∷ ms) least (skipped k f b ∷ ps) L at = absurd L
 
-  pub pieceRows-most : (t : ℕ) (ps : List Piece) → Owned T t ps → (at : ℕ) → length (pieceRows T t at ps) ≤ field T t 1
-  pieceRows-most t ps L at = omega (arith, level-most t (Table.requiredMembers T t) 0 ps L at, above-most 0 (Table.optionalMembers T t), own-sum T t)
+  -- in 1.0 there are required members alone
+  bare-most : (t : ℕ) (ms : List Member) (ps : List Piece) → Bare (membersAs true ms) ps → (at : ℕ) → length (pieceRows T t at ps) ≤ length ms
+  unfolding pieceRows pieceMember listRow contentBytes
+  bare-most t [] [] B at = omega arith
+  bare-most t [] (p ∷ ps) B at = absurd B
+  bare-most t (x ∷ ms) [] B at = absurd B
+  bare-most t (x ∷ ms) (required i b ∷ ps) (e, h, B) at =
+      let one : length (pieceRows T t at (required i b ∷ ps)) ≤ suc (length (pieceRows T t (at + length (pieceBytes (required i b))) ps)) =
+      listRow-most (lookup i (Table.requiredMembers T t)) (at + length (frontBytes (required i b))) b (pieceRows T t (at + length (pieceBytes (required i b))) ps) in
+      omega (arith, bare-most t ms ps B (at + length (pieceBytes (required i b))))
+  bare-most t (x ∷ ms) (optional k f b ∷ ps) B at = absurd B
+  bare-most t (x ∷ ms) (skipped k f b ∷ ps) B at = absurd B
+
+  pub pieceRows-most : (f : Encoding) (t : ℕ) (ps : List Piece) → OwnedAs f T t ps → (at : ℕ) → length (pieceRows T t at ps) ≤ field T t 1
+  pieceRows-most v10 t ps L at = omega (arith, bare-most t (Table.requiredMembers T t) ps L at, own-sum T t)
+  pieceRows-most (v11 g) t ps L at = omega (arith, level-most t (Table.requiredMembers T t) 0 ps L at, above-most 0 (Table.optionalMembers T t), own-sum T t)
 
 -- ---- a chain, and a message
 
 module _ (T : List ℕ) (right : faults T ≡ fine) where
   -- the slices of a record and its bases, one after another: the first number is fuel, since a base is smaller
-  upward-most : (f b : ℕ) → b ≤ f → AboveRecord T b → (g : Format) (ss : List Slice) → Follow T (upward (chain T) b) ss → (s : Stand) (at : ℕ)
-      → length (sliceRows T g s at (upward (chain T) b) ss) ≤ taken T b
+  upward-most : (n b : ℕ) → b ≤ n → AboveRecord T b → (f : Encoding) (ss : List Slice) → Follow T f (upward (chain T) b) ss → (s : Stand) (at : ℕ)
+      → length (sliceRows T f s at (upward (chain T) b) ss) ≤ taken T b
   unfolding upward sliceRows
-  upward-most zero zero h R g [] F s at = omega arith
-  upward-most zero zero h R g (sl ∷ ss) F s at = absurd F
-  upward-most zero (suc r) h R g ss F s at = absurd (omega arith)
-  upward-most (suc f) zero h R g [] F s at = omega arith
-  upward-most (suc f) zero h R g (sl ∷ ss) F s at = absurd F
-  upward-most (suc f) (suc r) h R g ss F s at =
+  upward-most zero zero h R f [] F s at = omega arith
+  upward-most zero zero h R f (sl ∷ ss) F s at = absurd F
+  upward-most zero (suc r) h R f ss F s at = absurd (omega arith)
+  upward-most (suc n) zero h R f [] F s at = omega arith
+  upward-most (suc n) zero h R f (sl ∷ ss) F s at = absurd F
+  upward-most (suc n) (suc r) h R f ss F s at =
       let B = base-record T right r R (base T r) refl in
-      rw (chain-node T r) (go ss (subst (λ (ts : List ℕ). Follow T ts ss) (chain-node T r) F)
-      (λ ss F s at. omega (arith, upward-most f (base T r) (omega (arith, B .0)) (B .1) g ss F s at, taken-rises T (base T r) r (B .0))))
+      rw (chain-node T r) (go ss (subst (λ (ts : List ℕ). Follow T f ts ss) (chain-node T r) F)
+      (λ ss F s at. omega (arith, upward-most n (base T r) (omega (arith, B .0)) (B .1) f ss F s at, taken-rises T (base T r) r (B .0))))
     where
-      go : (ss : List Slice) → Follow T (r ∷ upward (chain T) (base T r)) ss
-          → ((ss : List Slice) → Follow T (upward (chain T) (base T r)) ss → (s : Stand) (at : ℕ) → length (sliceRows T g s at (upward (chain T) (base T r)) ss) ≤ taken T r)
-          → length (sliceRows T g s at (r ∷ upward (chain T) (base T r)) ss) ≤ taken T (suc r)
+      go : (ss : List Slice) → Follow T f (r ∷ upward (chain T) (base T r)) ss
+          → ((ss : List Slice) → Follow T f (upward (chain T) (base T r)) ss → (s : Stand) (at : ℕ) → length (sliceRows T f s at (upward (chain T) (base T r)) ss) ≤ taken T r)
+          → length (sliceRows T f s at (r ∷ upward (chain T) (base T r)) ss) ≤ taken T (suc r)
       go [] F ih = absurd F
       go (known o ps ∷ ss) (e, L, F) ih =
-          let d = at + length (sliceFront g s (isLast ss) (known o ps)) in
-          let rest = sliceRows T g (later g) (d + length (dataBytes (known o ps))) (upward (chain T) (base T r)) ss in
-          let sum : length (sliceRows T g s at (r ∷ upward (chain T) (base T r)) (known o ps ∷ ss)) ≡ length (pieceRows T r d ps) + length rest = length-append (pieceRows T r d ps) rest in
-          omega (arith, pieceRows-most T r ps L d, ih ss F (later g) (d + length (dataBytes (known o ps))), taken-next T r (owns-record (kind T r) (R .1)))
+          let d = at + length (frontAs f s (isLast ss) (known o ps)) in
+          let rest = sliceRows T f (laterAs f) (d + length (dataBytes (known o ps))) (upward (chain T) (base T r)) ss in
+          let sum : length (sliceRows T f s at (r ∷ upward (chain T) (base T r)) (known o ps ∷ ss)) ≡ length (pieceRows T r d ps) + length rest = length-append (pieceRows T r d ps) rest in
+          omega (arith, pieceRows-most T f r ps L d, ih ss F (laterAs f) (d + length (dataBytes (known o ps))), taken-next T r (owns-record (kind T r) (R .1)))
       go (passed b nm d ∷ ss) F ih = absurd F
 
-  slices-most : (top : ℕ) (g : Format) (ss : List Slice) → Slices T top g ss → (s : Stand) (at : ℕ) → length (sliceRows T g s at (chain T (firstIn T ss)) ss) ≤ members T
+  slices-most : (top : ℕ) (f : Encoding) (ss : List Slice) → Slices T top f ss → (s : Stand) (at : ℕ) → length (sliceRows T f s at (chain T (firstIn T ss)) ss) ≤ members T
   unfolding sliceRows firstIn orZero upward
-  slices-most top g [] C s at = absurd C
-  slices-most top g (known o ps ∷ ss) C s at =
+  slices-most top f [] C s at = absurd C
+  slices-most top f (known o ps ∷ ss) C s at =
       let N = named-ok T o (C .row) (C .known) in
       rw (C .known) (omega (
         arith,
-        upward-most (suc (C .row)) (suc (C .row)) (omega arith) (N .0, N .1) g (known o ps ∷ ss) (C .follow) s at,
+        upward-most (suc (C .row)) (suc (C .row)) (omega arith) (N .0, N .1) f (known o ps ∷ ss) (C .follow) s at,
         taken-rises T (suc (C .row)) (types T) (N .0),
         taken-whole T right,
       ))
-  slices-most top g (passed b nm d ∷ ss) (P, C) s at = slices-most top g ss C (later g) _
+  slices-most top f (passed b nm d ∷ ss) (P, C) s at = slices-most top f ss C (laterAs f) _
 
-  pub rows-members : (top : ℕ) (f : Format) (p : Pieces) → top < types T → Conform T top f p → length (rows T top f p) ≤ members T
-  unfolding rows
-  rows-members top f (list ps) l (k, g, L) =
+  list-members : (top : ℕ) (f : Encoding) (ps : List Piece) → top < types T → kind T top ≡ 15 → OwnedAs f T top ps → length (pieceRows T top 6 ps) ≤ members T
+  list-members top f ps l k L =
       let o : owns (kind T top) ≡ true = ap (λ (i : ℕ). owns i) k in
-      omega (arith, pieceRows-most T top ps L 6, taken-next T top o, taken-rises T (suc top) (types T) l, taken-whole T right)
-  rows-members top f (exception ss) l (k, C) = slices-most top f ss C first 6
-  rows-members top f (class ss) l (k, C) = slices-most top f ss C first 7
+      omega (arith, pieceRows-most T f top ps L 6, taken-next T top o, taken-rises T (suc top) (types T) l, taken-whole T right)
 
-  pub rows-most : (top : ℕ) (f : Format) (p : Pieces) → top < types T → Conform T top f p → length (rows T top f p) ≤ 1024
+  pub rows-members : (top : ℕ) (f : Encoding) (p : Pieces) → top < types T → Conform T top f p → length (rows T top f p) ≤ members T
+  unfolding rows
+  rows-members top (v11 g) (list ps) l (k, i, L) = list-members top (v11 g) ps l k L
+  rows-members top (v11 g) (exception ss) l (k, C) = slices-most top (v11 g) ss C first 6
+  rows-members top (v11 g) (class ss) l (k, C) = slices-most top (v11 g) ss C first 7
+  rows-members top v10 (list ps) l (k, W, L) = list-members top v10 ps l k L
+  rows-members top v10 (exception ss) l (k, W, C) = slices-most top v10 ss C first 7
+  rows-members top v10 (class ss) l C = absurd C
+
+  pub rows-most : (top : ℕ) (f : Encoding) (p : Pieces) → top < types T → Conform T top f p → length (rows T top f p) ≤ 1024
   rows-most top f p l C = omega (arith, rows-members top f p l C, members-most T right)

@@ -18,7 +18,7 @@ use Rattle.encoding.specs.Table
 use Rattle.encoding.specs.RuleLaws.{Own, required-own, optional-own, owns-record, named-ok, named-at, chain-node, rows-apart}
 use Rattle.encoding.specs.Optional.{Piece, required, optional, skipped, frontBytes, contentBytes, pieceBytes}
 use Rattle.encoding.specs.Slice.{Format, Slice, known, passed, Stand, later, anyOptional, dataBytes, sliceFront, isLast}
-use Rattle.encoding.specs.Message.{Row, listRow, pieceMember, pieceRows, sliceRows, orZero, firstIn}
+use Rattle.encoding.specs.Message.{v11, Row, listRow, pieceMember, pieceRows, sliceRows, orZero, firstIn}
 use Rattle.encoding.specs.Conform.{Follow, Slices}
 use Rattle.encoding.specs.Extends.{OwnersMatch, Extends, SameOwner, as-records, as-tops, MembersMatch, both-required, both-optional, Counterpart, typeOf}
 use Rattle.laws.specs.Demands.{Kept, ended, kept, lost}
@@ -201,7 +201,7 @@ module _ (old new : List ℕ) (X : Extends old new) (top top′ : ℕ) (top-ther
 
   -- the rows of slices of the new chain us, under the old chain ts
   abbrev Lists : Format → Stand → List ℕ → List ℕ → List Slice → Type 0
-  Lists g s us ts ss = (at : ℕ) → Kept old new top top′ (sliceRows new g s at us ss) (sliceRows old g s at ts (map (loseSlice old) ss))
+  Lists g s us ts ss = (at : ℕ) → Kept old new top top′ (sliceRows new (v11 g) s at us ss) (sliceRows old (v11 g) s at ts (map (loseSlice old) ss))
 
   front-same : (g : Format) (s : Stand) (sl : Slice) (ss : List Slice) (sl′ : Slice) → loseSlice old sl ≡ sl′
       → length (sliceFront g s (isLast ss) sl) ≡ length (sliceFront g s (isLast (map (loseSlice old) ss)) sl′)
@@ -220,9 +220,9 @@ module _ (old new : List ℕ) (X : Extends old new) (top top′ : ℕ) (top-ther
       let lose : loseSlice old (known o ps) ≡ now = ap (loseKnown old o ps) e in
       let f : ℕ = length (sliceFront g s (isLast ss) (known o ps)) in
       let w : ℕ = length (dataBytes (known o ps)) in
-      subst (λ (sl : Slice). Kept old new top top′ (sliceRows new g s at (u ∷ us) (known o ps ∷ ss)) (sliceRows old g s at (t ∷ ts) (sl ∷ map (loseSlice old) ss))) (sym lose)
-      (subst₂ (λ (a b : ℕ). Kept old new top top′ (pieceRows new u (at + f) ps ++ sliceRows new g (later g) (at + f + w) us ss)
-      (pieceRows old t (at + a) (loseAll old t ps) ++ sliceRows old g (later g) (at + a + b) ts (map (loseSlice old) ss)))
+      subst (λ (sl : Slice). Kept old new top top′ (sliceRows new (v11 g) s at (u ∷ us) (known o ps ∷ ss)) (sliceRows old (v11 g) s at (t ∷ ts) (sl ∷ map (loseSlice old) ss))) (sym lose)
+      (subst₂ (λ (a b : ℕ). Kept old new top top′ (pieceRows new u (at + f) ps ++ sliceRows new (v11 g) (later g) (at + f + w) us ss)
+      (pieceRows old t (at + a) (loseAll old t ps) ++ sliceRows old (v11 g) (later g) (at + a + b) ts (map (loseSlice old) ss)))
       (front-same g s (known o ps) ss now lose) (data-same (known o ps) now lose)
       (kept-append (pieces-kept t u W (at + f) ps) (rest (at + f + w))))
 
@@ -235,41 +235,41 @@ module _ (old new : List ℕ) (X : Extends old new) (top top′ : ℕ) (top-ther
       let now : Slice = passed (anyOptional ps) o d in
       let lose : loseSlice old (known o ps) ≡ now = ap (loseKnown old o ps) e in
       let f : ℕ = length (sliceFront g s (isLast ss) (known o ps)) in
-      subst (λ (sl : Slice). Kept old new top top′ (sliceRows new g s at (u ∷ us) (known o ps ∷ ss)) (sliceRows old g s at ts (sl ∷ map (loseSlice old) ss))) (sym lose)
-      (subst (λ (a : ℕ). Kept old new top top′ (pieceRows new u (at + f) ps ++ sliceRows new g (later g) (at + f + length d) us ss)
-      (sliceRows old g (later g) (at + a + length d) ts (map (loseSlice old) ss)))
+      subst (λ (sl : Slice). Kept old new top top′ (sliceRows new (v11 g) s at (u ∷ us) (known o ps ∷ ss)) (sliceRows old (v11 g) s at ts (sl ∷ map (loseSlice old) ss))) (sym lose)
+      (subst (λ (a : ℕ). Kept old new top top′ (pieceRows new u (at + f) ps ++ sliceRows new (v11 g) (later g) (at + f + length d) us ss)
+      (sliceRows old (v11 g) (later g) (at + a + length d) ts (map (loseSlice old) ss)))
       (front-same g s (known o ps) ss now lose)
       (kept-append (pieces-lost u l r (ap (named old) (sym i) ∙ e) (at + f) ps) (rest (at + f + length d))))
 
   -- after a slice that both know
-  follow-kept : (ss : List Slice) (g : Format) (s : Stand) {b c : ℕ} → Bases old new b c → Follow new (upward (chain new) c) ss → Lists g s (upward (chain new) c) (upward (chain old) b) ss
+  follow-kept : (ss : List Slice) (g : Format) (s : Stand) {b c : ℕ} → Bases old new b c → Follow new (v11 g) (upward (chain new) c) ss → Lists g s (upward (chain new) c) (upward (chain old) b) ss
   unfolding upward sliceRows
   follow-kept [] g s B F = λ at. ended
   follow-kept (passed b nm d ∷ ss) g s neither F = absurd F
-  follow-kept (passed b nm d ∷ ss) g s (both {u = u} P) F = absurd (subst (λ (l : List ℕ). Follow new l (passed b nm d ∷ ss)) (chain-node new u) F)
+  follow-kept (passed b nm d ∷ ss) g s (both {u = u} P) F = absurd (subst (λ (l : List ℕ). Follow new (v11 g) l (passed b nm d ∷ ss)) (chain-node new u) F)
   follow-kept (known o ps ∷ ss) g s neither F = absurd F
   follow-kept (known o ps ∷ ss) g s (both {t = t} {u = u} P) F =
-      let G = subst (λ (l : List ℕ). Follow new l (known o ps ∷ ss)) (chain-node new u) F in
+      let G = subst (λ (l : List ℕ). Follow new (v11 g) l (known o ps ∷ ss)) (chain-node new u) F in
       subst₂ (λ (us ts : List ℕ). Lists g s us ts (known o ps ∷ ss)) (sym (chain-node new u)) (sym (chain-node old t))
       (known-kept t u (owners-of t u P) g s (upward (chain new) (base new u)) (upward (chain old) (base old t)) o ps ss (ap (named old) (G .0) ∙ pair-named old new X t u P)
       (follow-kept ss g (later g) (bases-of old new X t u P) (G .2)))
 
   -- where the old table seeks
-  behind-kept : (ss : List Slice) (g : Format) (s : Stand) (c : ℕ) → Standing new c → Follow new (upward (chain new) c) ss
+  behind-kept : (ss : List Slice) (g : Format) (s : Stand) (c : ℕ) → Standing new c → Follow new (v11 g) (upward (chain new) c) ss
       → Lists g s (upward (chain new) c) (chain old (firstIn old (map (loseSlice old) ss))) ss
   unfolding upward sliceRows loseSlice loseKnown firstIn orZero
   behind-kept [] g s c S F = λ at. ended
   behind-kept (passed b nm d ∷ ss) g s zero S F = absurd F
-  behind-kept (passed b nm d ∷ ss) g s (suc u) S F = absurd (subst (λ (l : List ℕ). Follow new l (passed b nm d ∷ ss)) (chain-node new u) F)
+  behind-kept (passed b nm d ∷ ss) g s (suc u) S F = absurd (subst (λ (l : List ℕ). Follow new (v11 g) l (passed b nm d ∷ ss)) (chain-node new u) F)
   behind-kept (known o ps ∷ ss) g s zero S F = absurd F
   behind-kept (known o ps ∷ ss) g s (suc u) S F =
-      go (subst (λ (l : List ℕ). Follow new l (known o ps ∷ ss)) (chain-node new u) F) (named old o) refl (λ c R H. behind-kept ss g (later g) c R H)
+      go (subst (λ (l : List ℕ). Follow new (v11 g) l (known o ps ∷ ss)) (chain-node new u) F) (named old o) refl (λ c R H. behind-kept ss g (later g) c R H)
     where
       head-of : Slice → ℕ
       head-of sl = firstIn old (sl ∷ map (loseSlice old) ss)
 
-      go : Follow new (u ∷ upward (chain new) (base new u)) (known o ps ∷ ss) → (n : Option ℕ) → named old o ≡ n
-          → ((c : ℕ) → Standing new c → Follow new (upward (chain new) c) ss → Lists g (later g) (upward (chain new) c) (chain old (firstIn old (map (loseSlice old) ss))) ss)
+      go : Follow new (v11 g) (u ∷ upward (chain new) (base new u)) (known o ps ∷ ss) → (n : Option ℕ) → named old o ≡ n
+          → ((c : ℕ) → Standing new c → Follow new (v11 g) (upward (chain new) c) ss → Lists g (later g) (upward (chain new) c) (chain old (firstIn old (map (loseSlice old) ss))) ss)
           → Lists g s (chain new u) (chain old (head-of (loseSlice old (known o ps)))) (known o ps ∷ ss)
       go G (some t) e ih =
           let first : head-of (loseSlice old (known o ps)) ≡ t = ap (λ (n : Option ℕ). head-of (loseKnown old o ps n)) e ∙ ap orZero e in
@@ -281,13 +281,13 @@ module _ (old new : List ℕ) (X : Extends old new) (top top′ : ℕ) (top-ther
           (unknown-kept u (S .0) (S .1) g s (upward (chain new) (base new u)) (chain old (firstIn old (map (loseSlice old) ss))) o ps ss (G .0) e
           (ih (base new u) (standing-base new (X .new-right) u (S .0) (S .1)) (G .2)))
 
-  pub slices-kept : (ss : List Slice) (g : Format) (s : Stand) → Slices new top′ g ss → (at : ℕ)
-      → Kept old new top top′ (sliceRows new g s at (chain new (firstIn new ss)) ss) (sliceRows old g s at (chain old (firstIn old (map (loseSlice old) ss))) (map (loseSlice old) ss))
+  pub slices-kept : (ss : List Slice) (g : Format) (s : Stand) → Slices new top′ (v11 g) ss → (at : ℕ)
+      → Kept old new top top′ (sliceRows new (v11 g) s at (chain new (firstIn new ss)) ss) (sliceRows old (v11 g) s at (chain old (firstIn old (map (loseSlice old) ss))) (map (loseSlice old) ss))
   unfolding upward sliceRows loseSlice firstIn orZero
   slices-kept [] g s C = absurd C
   slices-kept (passed b nm d ∷ ss) g s C = λ at.
-      subst (λ (a : ℕ). Kept old new top top′ (sliceRows new g (later g) (at + length (sliceFront g s (isLast ss) (passed b nm d)) + length d) (chain new (firstIn new ss)) ss)
-      (sliceRows old g (later g) (at + a + length d) (chain old (firstIn old (map (loseSlice old) ss))) (map (loseSlice old) ss)))
+      subst (λ (a : ℕ). Kept old new top top′ (sliceRows new (v11 g) (later g) (at + length (sliceFront g s (isLast ss) (passed b nm d)) + length d) (chain new (firstIn new ss)) ss)
+      (sliceRows old (v11 g) (later g) (at + a + length d) (chain old (firstIn old (map (loseSlice old) ss))) (map (loseSlice old) ss)))
       (front-same g s (passed b nm d) ss (passed b nm d) refl) (slices-kept ss g (later g) (C .1) _)
   slices-kept (known o ps ∷ ss) g s C =
       let N = named-ok new o (C .row) (C .known) in

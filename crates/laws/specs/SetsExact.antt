@@ -6,7 +6,7 @@
 --   among-enumerator, enumerator-among   what the form allows are the row's enumerators, and back
 --   has-tree                      a row of a valid table has a tree; enum-tree that of an enum
 --   allowed-normal                an enum row of a valid table has such a form
---   types-rise, exact-enums       the lists in types rise; a value of an enum is the size of one of its enumerators
+--   types-rise, exact-enums       the lists in types rise; a value of an enum is the size of one of its enumerators; exact-old-enums: in 1.0
 use mathlib.Core.Path.{_≡_, refl, sym, ap, ap₂, _∙_, subst}
 use mathlib.Core.Bool.{Bool, true, false}
 use mathlib.Core.List.{List, [], _∷_}
@@ -18,15 +18,18 @@ use lib.Dec.{eqb}
 use borrow.Author.Tests.{eqb-true, eqb-false, le-leb}
 use Rattle.encoding.specs.Result.{pick}
 use Rattle.encoding.specs.Types.{Allowed, upto, only, allowedOf, enum}
-use Rattle.encoding.specs.Grammar.{Among, IsSize, IsEnum, enumerator, IsValue, Rises}
+use Rattle.encoding.specs.Number.{val}
+use Rattle.encoding.specs.Grammar.{Among, Greatest, IsSize, IsEnum, enumerator, OldWidth, IsOldEnum, old-enumerator, IsValue, Rises}
 use Rattle.encoding.specs.Table.{at, version, withLists, types, typeRows, kind, field, greatest, listEntry, entriesOf, hasList, allowed, tyOf}
 use Rattle.encoding.specs.TableLaws.{row-enum}
+use Rattle.encoding.specs.Old.{asOld}
+use Rattle.encoding.specs.OldLaws.{rises-as}
 use Rattle.encoding.specs.AllowedLaws.{rises-apart}
 use Rattle.encoding.specs.ListLaws.{length-entries, entry-at, Reaches, list-reaches, type-rises}
 use Rattle.encoding.specs.ExactLaws.{exact-is, is-exact}
 use Rattle.encoding.specs.Valid.{Valid, version-1, version-2, ValidVersion}
 use Rattle.encoding.specs.Agree.{Enumerator, of-range, of-entry}
-use Rattle.laws.specs.Demands.{TypesRise, ExactEnums}
+use Rattle.laws.specs.Demands.{TypesRise, ExactEnums, ExactOldEnums}
 use Rattle.laws.specs.TableExact.{sound}
 
 -- ---- a list that rises to its greatest
@@ -192,17 +195,43 @@ module _ (T : List ℕ) (S : Valid T) (t : ℕ) (below : t < types T) (k : kind 
   pub enum-tree : tyOf T t ≡ enum (allowed T t)
   enum-tree = row-enum T t (has-tree T S t below) k
 
+  -- the greatest of them is the row's
+  allowed-greatest : Greatest (allowed T t) (greatest T t)
+  unfolding allowed allowedOf withLists
+  allowed-greatest = go (eqb (version T) 2) refl (eqb (length (entriesOf T t)) (suc (greatest T t)))
+    where
+      go : (b : Bool) → eqb (version T) 2 ≡ b → (c : Bool) → Greatest (pick b (pick c (upto (greatest T t)) (only (entriesOf T t))) (upto (greatest T t))) (greatest T t)
+      go true e true = record { among = omega arith; most = λ n w. w }
+      go true e false =
+          let R = reaches (eqb-true (version T) 2 e) in
+          record { among = last-among (greatest T t) (entriesOf T t) R; most = λ n w. omega (arith, w .2, rises-most (greatest T t) (entriesOf T t) R (w .0) (w .1)) }
+      go false e c = record { among = omega arith; most = λ n w. w }
+
 -- ---- the promises
 
 pub types-rise : TypesRise
-types-rise T S t = type-rises T (sound T S) t
+types-rise T S old t = rises-as old (tyOf T t) (type-rises T (sound T S) t)
 
 pub exact-enums : ExactEnums
 unfolding IsValue
 exact-enums T S t l k b = (
-  λ h. read (subst (λ u. IsValue u b) (enum-tree T S t l k) (exact-is (tyOf T t) (types-rise T S t) b h)),
-  λ n e z. is-exact (tyOf T t) (types-rise T S t) b (subst (λ u. IsValue u b) (sym (enum-tree T S t l k)) (enumerator (enumerator-among T S t l k n e) z)),
+  λ h. read (subst (λ u. IsValue u b) (enum-tree T S t l k) (exact-is (tyOf T t) (types-rise T S false t) b h)),
+  λ n e z. is-exact (tyOf T t) (types-rise T S false t) b (subst (λ u. IsValue u b) (sym (enum-tree T S t l k)) (enumerator (enumerator-among T S t l k n e) z)),
 )
   where
     read : IsEnum (allowed T t) b → (n : ℕ) × Enumerator T t n × IsSize n b
     read (enumerator {n} a z) = (n, among-enumerator T S t l k n a, z)
+
+pub exact-old-enums : ExactOldEnums
+unfolding IsValue asOld greatest
+exact-old-enums T S t l k b = (
+  λ h. read (subst (λ u. IsValue (asOld u) b) (enum-tree T S t l k) (exact-is (asOld (tyOf T t)) (types-rise T S true t) b h)),
+  λ e w. is-exact (asOld (tyOf T t)) (types-rise T S true t) b
+      (subst (λ u. IsValue (asOld u) b) (sym (enum-tree T S t l k)) (old-enumerator (allowed-greatest T S t l k) w (enumerator-among T S t l k (val b) e))),
+)
+  where
+    read : IsOldEnum (allowed T t) b → Enumerator T t (val b) × OldWidth (field T t 0 + 65536 * field T t 1) (length b)
+    read (old-enumerator {g = h} G w a) =
+        let M = allowed-greatest T S t l k in
+        let same : h ≡ field T t 0 + 65536 * field T t 1 = omega (arith, M .most h (G .among), G .most (field T t 0 + 65536 * field T t 1) (M .among)) in
+        (among-enumerator T S t l k (val b) a, subst (λ (x : ℕ). OldWidth x (length b)) same w)

@@ -27,7 +27,8 @@ use Rattle.encoding.specs.NumberLaws.{bytes-end, bytes-take, bytes-drop, byte-w
 use Rattle.encoding.specs.Table.{types, kind, isRecord, nameOf, named, base, upward, chain, any, fine, faults}
 use Rattle.encoding.specs.RuleLaws.{AboveRecord, base-record, named-ok, name-text, chain-node}
 use Rattle.encoding.specs.Optional.{Piece}
-use Rattle.encoding.specs.Slice.{Format, compact, sliced, isSliced, Slice, known, passed, bit, formatOfFlags, Stand, first, later, mixed, due, flagForm, Head, head, fields, knownData, wrongLast, Stage, seek, follow, standOf, finished, Meaning, skip, row, wrong, knownMeaning, seekMeaning, meaning, isNone, idForm, meaningForm, enterSlice, slice, Chain, ahead, walk, slices, anyOptional, worth, hasOptionals, idOf, dataBytes, flagBits, sliceFront, isLast, slicesBytes}
+use Rattle.encoding.specs.Slice.{Format, compact, sliced, isSliced, Slice, known, passed, bit, formatOfFlags, Stand, first, later, mixed, due, flagForm, Head, head, fields, knownData, wrongLast, Stage, seek, follow, standOf, finished, Meaning, skip, row, wrong, knownMeaning, seekMeaning, meaning, isNone, idForm, meaningForm, enterSlice, slice, Chain, ahead, walk, slices, anyOptional, worth, hasOptionals, idOf, dataBytes, flagBits, sliceFront, isLast}
+use Rattle.encoding.specs.Message.{Encoding, v11, slicesBytes}
 use Rattle.encoding.specs.SliceLaws.{walk-ended, walk-on}
 use Rattle.encoding.specs.WalkLaws
 use Rattle.encoding.specs.WalkLaws.{Heads, head-ok, heads-later, Sliced, slice-ok, slice-step, Walk, walk-of}
@@ -240,7 +241,7 @@ pub record Finds (T : List ℕ) (top : ℕ) (s : Stand) (o : List ℕ) (ps : Lis
 -- a skipped one
 pub record Skips (T : List ℕ) (s : Stand) (b : Bool) (nm d z : List ℕ) (next : Stage) : Type 0 where
   pub agrees : Agrees s sliced
-  pub unknown : Passed T sliced nm d
+  pub unknown : Passed T (v11 sliced) b nm d
   pub spelt : z ≡ sliceFront sliced s false (passed b nm d) ++ dataBytes (passed b nm d)
   pub behind : next ≡ seek (later sliced)
 
@@ -523,33 +524,33 @@ module _ (T : List ℕ) (top : ℕ) where
 
 -- the slices that are still to come, and their format
 abbrev pub Fits : List ℕ → ℕ → Stage → Format → List Slice → Type 0
-Fits T top (seek s) g ss = Agrees s g × Slices T top g ss
-Fits T top (follow h b) g ss = (h ≡ g) × Follow T (upward (chain T) b) ss
+Fits T top (seek s) g ss = Agrees s g × Slices T top (v11 g) ss
+Fits T top (follow h b) g ss = (h ≡ g) × Follow T (v11 g) (upward (chain T) b) ss
 
 module _ (T : List ℕ) (top : ℕ) where
-  slices-some : (g : Format) (ss : List Slice) → Slices T top g ss → isLast ss ≡ false
+  slices-some : (e : Encoding) (ss : List Slice) → Slices T top e ss → isLast ss ≡ false
   unfolding isLast
-  slices-some g [] S = absurd S
-  slices-some g (s ∷ ss) S = refl
+  slices-some e [] S = absurd S
+  slices-some e (s ∷ ss) S = refl
 
   -- bit 5 is set exactly on the row without a base
-  follow-last : (b : ℕ) (ss : List Slice) → Follow T (upward (chain T) b) ss → isLast ss ≡ eqb b 0
+  follow-last : (e : Encoding) (b : ℕ) (ss : List Slice) → Follow T e (upward (chain T) b) ss → isLast ss ≡ eqb b 0
   unfolding isLast upward
-  follow-last zero [] L = refl
-  follow-last zero (s ∷ ss) L = absurd L
-  follow-last (suc r) [] L = absurd (subst (λ (l : List ℕ). Follow T l []) (chain-node T r) L)
-  follow-last (suc r) (s ∷ ss) L = sym (ne-eqb (suc r) 0 (λ e. omega arith))
+  follow-last e zero [] L = refl
+  follow-last e zero (s ∷ ss) L = absurd L
+  follow-last e (suc r) [] L = absurd (subst (λ (l : List ℕ). Follow T e l []) (chain-node T r) L)
+  follow-last e (suc r) (s ∷ ss) L = sym (ne-eqb (suc r) 0 (λ e. omega arith))
 
   knows-bytes : (t : ℕ) (h g : Format) (s : Stand) (o : List ℕ) (ps : List Piece) (z w : List ℕ) (next : Stage) (ss : List Slice) → Knows T t h s o ps z next → h ≡ g
-      → Follow T (upward (chain T) (base T t)) ss → w ≡ slicesBytes g (standOf next) ss → z ++ w ≡ slicesBytes g s (known o ps ∷ ss)
+      → Follow T (v11 g) (upward (chain T) (base T t)) ss → w ≡ slicesBytes (v11 g) (standOf next) ss → z ++ w ≡ slicesBytes (v11 g) s (known o ps ∷ ss)
   unfolding slicesBytes standOf
   knows-bytes t h g s o ps z w next ss K e L b =
-      ap₂ _++_ (K .spelt ∙ ap₂ (λ (f : Format) (l : Bool). sliceFront f s l (known o ps) ++ dataBytes (known o ps)) e (sym (follow-last (base T t) ss L)))
-      (b ∙ ap (λ (st : Stage). slicesBytes g (standOf st) ss) (K .behind) ∙ ap (λ (f : Format). slicesBytes g (later f) ss) e)
+      ap₂ _++_ (K .spelt ∙ ap₂ (λ (f : Format) (l : Bool). sliceFront f s l (known o ps) ++ dataBytes (known o ps)) e (sym (follow-last (v11 g) (base T t) ss L)))
+      (b ∙ ap (λ (st : Stage). slicesBytes (v11 g) (standOf st) ss) (K .behind) ∙ ap (λ (f : Format). slicesBytes (v11 g) (later f) ss) e)
 
   -- a slice before those that come after it
-  fits-ahead : (st : Stage) (sl : Slice) (next : Stage) (g : Format) (ss : List Slice) (z w : List ℕ) → Taken T top z st sl next → Fits T top next g ss → w ≡ slicesBytes g (standOf next) ss
-      → Fits T top st g (sl ∷ ss) × (z ++ w ≡ slicesBytes g (standOf st) (sl ∷ ss))
+  fits-ahead : (st : Stage) (sl : Slice) (next : Stage) (g : Format) (ss : List Slice) (z w : List ℕ) → Taken T top z st sl next → Fits T top next g ss → w ≡ slicesBytes (v11 g) (standOf next) ss
+      → Fits T top st g (sl ∷ ss) × (z ++ w ≡ slicesBytes (v11 g) (standOf st) (sl ∷ ss))
   unfolding slicesBytes standOf upward
   fits-ahead (seek s) (known o ps) next g ss z w K F b =
       let F′ = subst (λ (n : Stage). Fits T top n g ss) (K .knows .behind) F in (
@@ -559,21 +560,21 @@ module _ (T : List ℕ) (top : ℕ) where
             row = K .row;
             known = K .found;
             descends = K .descends;
-            follow = subst (λ (l : List ℕ). Follow T l (known o ps ∷ ss)) (sym (chain-node T (K .row))) (K .knows .owner, K .knows .owned, F′ .1);
+            follow = subst (λ (l : List ℕ). Follow T (v11 g) l (known o ps ∷ ss)) (sym (chain-node T (K .row))) (K .knows .owner, K .knows .owned, F′ .1);
           },
         ),
         knows-bytes (K .row) (K .format) g s o ps z w next ss (K .knows) (F′ .0) (F′ .1) b,
       )
   fits-ahead (seek s) (passed d nm x) next g ss z w K F b =
       let F′ = subst (λ (n : Stage). Fits T top n g ss) (K .behind) F in (
-        (subst (Agrees s) (F′ .0) (K .agrees), (subst (λ (f : Format). Passed T f nm x) (F′ .0) (K .unknown), F′ .1)),
-        ap₂ _++_ (K .spelt ∙ ap₂ (λ (f : Format) (l : Bool). sliceFront f s l (passed d nm x) ++ dataBytes (passed d nm x)) (F′ .0) (sym (slices-some g ss (F′ .1))))
-            (b ∙ ap (λ (st : Stage). slicesBytes g (standOf st) ss) (K .behind) ∙ ap (λ (f : Format). slicesBytes g (later f) ss) (F′ .0)),
+        (subst (Agrees s) (F′ .0) (K .agrees), (subst (λ (f : Format). Passed T (v11 f) d nm x) (F′ .0) (K .unknown), F′ .1)),
+        ap₂ _++_ (K .spelt ∙ ap₂ (λ (f : Format) (l : Bool). sliceFront f s l (passed d nm x) ++ dataBytes (passed d nm x)) (F′ .0) (sym (slices-some (v11 g) ss (F′ .1))))
+            (b ∙ ap (λ (st : Stage). slicesBytes (v11 g) (standOf st) ss) (K .behind) ∙ ap (λ (f : Format). slicesBytes (v11 g) (later f) ss) (F′ .0)),
       )
   fits-ahead (follow h zero) sl next g ss z w K F b = absurd K
   fits-ahead (follow h (suc t)) (known o ps) next g ss z w K F b =
       let F′ = subst (λ (n : Stage). Fits T top n g ss) (K .behind) F in (
-        (F′ .0, subst (λ (l : List ℕ). Follow T l (known o ps ∷ ss)) (sym (chain-node T t)) (K .owner, K .owned, F′ .1)),
+        (F′ .0, subst (λ (l : List ℕ). Follow T (v11 g) l (known o ps ∷ ss)) (sym (chain-node T t)) (K .owner, K .owned, F′ .1)),
         knows-bytes t h g (later h) o ps z w next ss K (F′ .0) (F′ .1) b,
       )
   fits-ahead (follow h (suc t)) (passed d nm x) next g ss z w K F b = absurd K
@@ -585,7 +586,7 @@ module _ (T : List ℕ) (top : ℕ) where
   fits-done (follow h (suc t)) g e = absurd (some≢none e refl)
 
   walked : faults T ≡ fine → {f : ℕ} {st : Stage} {xs : List ℕ} {c : Chain} {n : ℕ} → Walk T top f st xs c n → Ready T st → Bytes xs → Short (length xs)
-      → Fits T top st (c .format) (c .list) × (take n xs ≡ slicesBytes (c .format) (standOf st) (c .list))
+      → Fits T top st (c .format) (c .list) × (take n xs ≡ slicesBytes (v11 (c .format)) (standOf st) (c .list))
   unfolding slicesBytes ahead
   walked right (WalkLaws.done {st = st} {g = g} e) R y sh = (fits-done st g e, refl)
   walked right (WalkLaws.next {st = st} {xs = xs} {sl = sl} {st′ = st′} {k = k} {c = c} {m = m} d e w) R y sh =
@@ -595,10 +596,10 @@ module _ (T : List ℕ) (top : ℕ) where
       (A .0, take-add k m xs ∙ A .1)
 
   pub walk-canonical : faults T ≡ fine → (f : ℕ) (st : Stage) → Ready T st → (xs : List ℕ) → Bytes xs → Short (length xs) → {c : Chain} {n : ℕ} → walk T top f st xs ≡ ok c n
-      → Fits T top st (c .format) (c .list) × (take n xs ≡ slicesBytes (c .format) (standOf st) (c .list))
+      → Fits T top st (c .format) (c .list) × (take n xs ≡ slicesBytes (v11 (c .format)) (standOf st) (c .list))
   walk-canonical right f st R xs y sh h = walked right (walk-of T top f st xs h) R y sh
 
-  pub slices-canonical : faults T ≡ fine → (xs : List ℕ) → Bytes xs → Short (length xs) → {c : Chain} {n : ℕ} → slices T top xs ≡ ok c n → Slices T top (c .format) (c .list) × (take n xs ≡ slicesBytes (c .format) first (c .list))
+  pub slices-canonical : faults T ≡ fine → (xs : List ℕ) → Bytes xs → Short (length xs) → {c : Chain} {n : ℕ} → slices T top xs ≡ ok c n → Slices T top (v11 (c .format)) (c .list) × (take n xs ≡ slicesBytes (v11 (c .format)) first (c .list))
   unfolding slices standOf
   slices-canonical right xs y sh h = let W = walk-canonical right (length xs) (seek first) tt xs y sh h in (W .0 .1, W .1)
 
@@ -606,7 +607,7 @@ module _ (T : List ℕ) (top : ℕ) where
   unfolding finished upward
   fits-end (seek s) g F = absurd (F .1)
   fits-end (follow h zero) g F = ap some (F .0)
-  fits-end (follow h (suc t)) g F = absurd (subst (λ (l : List ℕ). Follow T l []) (chain-node T t) (F .1))
+  fits-end (follow h (suc t)) g F = absurd (subst (λ (l : List ℕ). Follow T (v11 g) l []) (chain-node T t) (F .1))
 
   -- the next slice, and those after it
   record Next (st : Stage) (g : Format) (sl : Slice) (ss : List Slice) : Type 0 where
@@ -616,14 +617,14 @@ module _ (T : List ℕ) (top : ℕ) where
     rest : Fits T top next g ss
     stands : standOf next ≡ later g
 
-  follow-next : (t : ℕ) (g : Format) (s : Stand) (o : List ℕ) (ps : List Piece) (ss : List Slice) → Follow T (chain T t) (known o ps ∷ ss)
-      → Knows T t g s o ps (sliceFront g s (isLast ss) (known o ps) ++ dataBytes (known o ps)) (follow g (base T t)) × Follow T (upward (chain T) (base T t)) ss
+  follow-next : (t : ℕ) (g : Format) (s : Stand) (o : List ℕ) (ps : List Piece) (ss : List Slice) → Follow T (v11 g) (chain T t) (known o ps ∷ ss)
+      → Knows T t g s o ps (sliceFront g s (isLast ss) (known o ps) ++ dataBytes (known o ps)) (follow g (base T t)) × Follow T (v11 g) (upward (chain T) (base T t)) ss
   follow-next t g s o ps ss L =
-      let L′ = subst (λ (l : List ℕ). Follow T l (known o ps ∷ ss)) (chain-node T t) L in (
+      let L′ = subst (λ (l : List ℕ). Follow T (v11 g) l (known o ps ∷ ss)) (chain-node T t) L in (
         record {
           owner = L′ .0;
           owned = L′ .1;
-          spelt = ap (λ (l : Bool). sliceFront g s l (known o ps) ++ dataBytes (known o ps)) (follow-last (base T t) ss (L′ .2));
+          spelt = ap (λ (l : Bool). sliceFront g s l (known o ps) ++ dataBytes (known o ps)) (follow-last (v11 g) (base T t) ss (L′ .2));
           behind = refl;
         },
         L′ .2,
@@ -647,8 +648,8 @@ module _ (T : List ℕ) (top : ℕ) where
         turn = refl;
         taken = record {
           agrees = subst (Agrees s) f (F .0);
-          unknown = subst (λ (f : Format). Passed T f nm d) f (F .1 .0);
-          spelt = ap₂ (λ (f : Format) (l : Bool). sliceFront f s l (passed b nm d) ++ dataBytes (passed b nm d)) f (slices-some g ss (F .1 .1));
+          unknown = subst (λ (f : Format). Passed T (v11 f) b nm d) f (F .1 .0);
+          spelt = ap₂ (λ (f : Format) (l : Bool). sliceFront f s l (passed b nm d) ++ dataBytes (passed b nm d)) f (slices-some (v11 g) ss (F .1 .1));
           behind = refl;
         };
         rest = (sym f, F .1 .1);
@@ -664,31 +665,31 @@ module _ (T : List ℕ) (top : ℕ) where
         rest = (refl, K .1);
         stands = refl;
       }
-  fits-next (follow h (suc t)) g (passed b nm d) ss F = absurd (subst (λ (l : List ℕ). Follow T l (passed b nm d ∷ ss)) (chain-node T t) (F .1))
+  fits-next (follow h (suc t)) g (passed b nm d) ss F = absurd (subst (λ (l : List ℕ). Follow T (v11 g) l (passed b nm d ∷ ss)) (chain-node T t) (F .1))
 
-  pub walk-written : faults T ≡ fine → (ss : List Slice) (f : ℕ) (st : Stage) (g : Format) (r : List ℕ) → Ready T st → Fits T top st g ss → length ss ≤ f → Short (length (slicesBytes g (standOf st) ss))
-      → walk T top f st (slicesBytes g (standOf st) ss ++ r) ≡ ok (record { format = g; list = ss }) (length (slicesBytes g (standOf st) ss))
+  pub walk-written : faults T ≡ fine → (ss : List Slice) (f : ℕ) (st : Stage) (g : Format) (r : List ℕ) → Ready T st → Fits T top st g ss → length ss ≤ f → Short (length (slicesBytes (v11 g) (standOf st) ss))
+      → walk T top f st (slicesBytes (v11 g) (standOf st) ss ++ r) ≡ ok (record { format = g; list = ss }) (length (slicesBytes (v11 g) (standOf st) ss))
   unfolding slicesBytes ahead pure
   walk-written right [] f st g r R F l sh = ap (λ (p : Parser Chain). p r) (walk-ended T top f st (fits-end st g F))
   walk-written right (sl ∷ ss) zero st g r R F l sh = absurd (omega arith)
-  walk-written right (sl ∷ ss) (suc f) st g r R F l sh = go (fits-next st g sl ss F) (λ (next : Stage) (R : Ready T next) (F : Fits T top next g ss) (sh : Short (length (slicesBytes g (standOf next) ss))). walk-written right ss f next g r R F (omega arith) sh)
+  walk-written right (sl ∷ ss) (suc f) st g r R F l sh = go (fits-next st g sl ss F) (λ (next : Stage) (R : Ready T next) (F : Fits T top next g ss) (sh : Short (length (slicesBytes (v11 g) (standOf next) ss))). walk-written right ss f next g r R F (omega arith) sh)
     where
       z : List ℕ
       z = sliceFront g (standOf st) (isLast ss) sl ++ dataBytes sl
 
       w : List ℕ
-      w = slicesBytes g (later g) ss
+      w = slicesBytes (v11 g) (later g) ss
 
       go : Next st g sl ss
-          → ((next : Stage) → Ready T next → Fits T top next g ss → Short (length (slicesBytes g (standOf next) ss))
-          → walk T top f next (slicesBytes g (standOf next) ss ++ r) ≡ ok (record { format = g; list = ss }) (length (slicesBytes g (standOf next) ss)))
+          → ((next : Stage) → Ready T next → Fits T top next g ss → Short (length (slicesBytes (v11 g) (standOf next) ss))
+          → walk T top f next (slicesBytes (v11 g) (standOf next) ss ++ r) ≡ ok (record { format = g; list = ss }) (length (slicesBytes (v11 g) (standOf next) ss)))
           → walk T top (suc f) st (z ++ w ++ r) ≡ ok (record { format = g; list = sl ∷ ss }) (length (z ++ w))
       go N ih =
           let next : Stage = N .next in
           let s₁ : Short (length w) = omega (arith, length-append z w) in
           let s₂ : Short (length z) = omega (arith, length-append z w) in
           let I : walk T top f next (w ++ r) ≡ ok (record { format = g; list = ss }) (length w) =
-          subst (λ (s : Stand). Short (length (slicesBytes g s ss)) → walk T top f next (slicesBytes g s ss ++ r) ≡ ok (record { format = g; list = ss }) (length (slicesBytes g s ss))) (N .stands)
+          subst (λ (s : Stand). Short (length (slicesBytes (v11 g) s ss)) → walk T top f next (slicesBytes (v11 g) s ss ++ r) ≡ ok (record { format = g; list = ss }) (length (slicesBytes (v11 g) s ss))) (N .stands)
           (ih next (taken-ready T right top z st sl next R (N .taken)) (N .rest)) s₁ in
           ap (λ (p : Parser Chain). p (z ++ w ++ r)) (walk-on T top f st (N .turn))
           ∙ bind-written (slice T top st) (λ (r : Slice × Stage). mapc (λ c _. ahead (r .0) c) (walk T top f (r .1))) z w r
@@ -696,17 +697,17 @@ module _ (T : List ℕ) (top : ℕ) where
           (mapc-step (walk T top f next) (w ++ r) (λ c _. ahead sl c) I)
 
   -- each slice has its flags
-  slices-count : (g : Format) (s : Stand) (ss : List Slice) → length ss ≤ length (slicesBytes g s ss)
+  slices-count : (g : Format) (s : Stand) (ss : List Slice) → length ss ≤ length (slicesBytes (v11 g) s ss)
   unfolding slicesBytes sliceFront
   slices-count g s [] = omega arith
   slices-count g s (sl ∷ ss) =
       let u : List ℕ = sliceFront g s (isLast ss) sl ++ dataBytes sl in
       let one : 1 ≤ length u = omega arith in
-      omega (arith, slices-count g (later g) ss, length-append u (slicesBytes g (later g) ss))
+      omega (arith, slices-count g (later g) ss, length-append u (slicesBytes (v11 g) (later g) ss))
 
-  pub slices-written : faults T ≡ fine → (g : Format) (ss : List Slice) (r : List ℕ) → Slices T top g ss → Short (length (slicesBytes g first ss))
-      → slices T top (slicesBytes g first ss ++ r) ≡ ok (record { format = g; list = ss }) (length (slicesBytes g first ss))
+  pub slices-written : faults T ≡ fine → (g : Format) (ss : List Slice) (r : List ℕ) → Slices T top (v11 g) ss → Short (length (slicesBytes (v11 g) first ss))
+      → slices T top (slicesBytes (v11 g) first ss ++ r) ≡ ok (record { format = g; list = ss }) (length (slicesBytes (v11 g) first ss))
   unfolding slices standOf
   slices-written right g ss r S sh =
-      let w : List ℕ = slicesBytes g first ss in
+      let w : List ℕ = slicesBytes (v11 g) first ss in
       walk-written right ss (length (w ++ r)) (seek first) g r tt (tt, S) (omega (arith, slices-count g first ss, length-append w r)) sh

@@ -13,7 +13,8 @@ use Rattle.encoding.specs.ResultLaws.{some≢none}
 use Rattle.encoding.specs.Number.{Short}
 use Rattle.encoding.specs.Table.{types, kind, isRecord, nameOf, named, base, upward, chain}
 use Rattle.encoding.specs.RuleLaws.{base-right, named-short, named-text, named-ok, named-at, chain-node}
-use Rattle.encoding.specs.Slice.{Format, sliced, Slice, known, passed, Stand, later, idOf, dataBytes, sliceFront, isLast, slicesBytes}
+use Rattle.encoding.specs.Slice.{Format, sliced, Slice, known, passed, Stand, later, idOf, dataBytes, sliceFront, isLast}
+use Rattle.encoding.specs.Message.{v11, slicesBytes}
 use Rattle.encoding.specs.Conform.{Follow, Slices}
 use Rattle.encoding.specs.Extends.{Extends}
 use Rattle.laws.specs.Demands.{firstId}
@@ -23,55 +24,55 @@ use Rattle.laws.specs.RecordNewer.{Pair, Bases, neither, both, bases-of,
 
 module _ (old new : List ℕ) (X : Extends old new) where
   -- the slices of matching chains
-  pub follow-newer : (ss : List Slice) {b c : ℕ} → Bases old new b c → Follow new (upward (chain new) c) ss → Follow old (upward (chain old) b) (map (loseSlice old) ss)
+  pub follow-newer : (g : Format) (ss : List Slice) {b c : ℕ} → Bases old new b c → Follow new (v11 g) (upward (chain new) c) ss → Follow old (v11 g) (upward (chain old) b) (map (loseSlice old) ss)
   unfolding upward loseSlice loseKnown
-  follow-newer [] neither F = tt
-  follow-newer [] (both {u = u} P) F = absurd (subst (λ (l : List ℕ). Follow new l []) (chain-node new u) F)
-  follow-newer (passed b nm d ∷ ss) neither F = absurd F
-  follow-newer (passed b nm d ∷ ss) (both {u = u} P) F = absurd (subst (λ (l : List ℕ). Follow new l (passed b nm d ∷ ss)) (chain-node new u) F)
-  follow-newer (known o ps ∷ ss) neither F = absurd F
-  follow-newer (known o ps ∷ ss) (both {t = t} {u = u} P) F =
-      let G = subst (λ (l : List ℕ). Follow new l (known o ps ∷ ss)) (chain-node new u) F in
+  follow-newer g [] neither F = tt
+  follow-newer g [] (both {u = u} P) F = absurd (subst (λ (l : List ℕ). Follow new (v11 g) l []) (chain-node new u) F)
+  follow-newer g (passed b nm d ∷ ss) neither F = absurd F
+  follow-newer g (passed b nm d ∷ ss) (both {u = u} P) F = absurd (subst (λ (l : List ℕ). Follow new (v11 g) l (passed b nm d ∷ ss)) (chain-node new u) F)
+  follow-newer g (known o ps ∷ ss) neither F = absurd F
+  follow-newer g (known o ps ∷ ss) (both {t = t} {u = u} P) F =
+      let G = subst (λ (l : List ℕ). Follow new (v11 g) l (known o ps ∷ ss)) (chain-node new u) F in
       let e : named old o ≡ some t = ap (named old) (G .0) ∙ pair-named old new X t u P in
-      subst₂ (λ (l : List ℕ) (sl : Slice). Follow old l (sl ∷ map (loseSlice old) ss)) (sym (chain-node old t)) (sym (ap (loseKnown old o ps) e))
-      (G .0 ∙ sym (P .same .names), owned-newer old new (X .new-right) t u (P .owners) ps (G .1), follow-newer ss (bases-of old new X t u P) (G .2))
+      subst₂ (λ (l : List ℕ) (sl : Slice). Follow old (v11 g) l (sl ∷ map (loseSlice old) ss)) (sym (chain-node old t)) (sym (ap (loseKnown old o ps) e))
+      (G .0 ∙ sym (P .same .names), owned-newer old new (X .new-right) t u (P .owners) ps (G .1), follow-newer g ss (bases-of old new X t u P) (G .2))
 
   module _ (top top′ : ℕ) (tops : Pair old new top top′) where
-    rest-short : (g : Format) (s : Stand) (sl : Slice) (ss : List Slice) → Short (length (slicesBytes g s (sl ∷ ss))) → Short (length (dataBytes sl)) × Short (length (slicesBytes g (later g) ss))
+    rest-short : (g : Format) (s : Stand) (sl : Slice) (ss : List Slice) → Short (length (slicesBytes (v11 g) s (sl ∷ ss))) → Short (length (dataBytes sl)) × Short (length (slicesBytes (v11 g) (later g) ss))
     unfolding slicesBytes
     rest-short g s sl ss h =
-        let a = length-append (sliceFront g s (isLast ss) sl ++ dataBytes sl) (slicesBytes g (later g) ss) in
+        let a = length-append (sliceFront g s (isLast ss) sl ++ dataBytes sl) (slicesBytes (v11 g) (later g) ss) in
         let b = length-append (sliceFront g s (isLast ss) sl) (dataBytes sl) in
         (omega (arith, a, b, h), omega (arith, a, b, h))
 
     -- slices of a new chain that holds the top, where the old table has known none yet
-    behind-newer : (ss : List Slice) (g : Format) (s : Stand) (u : ℕ) → u < types new → isRecord (kind new u) ≡ true → Descends new top′ u → Follow new (chain new u) ss
-        → Short (length (slicesBytes g s ss)) → (named old (firstId ss) ≡ none → g ≡ sliced) → Slices old top g (map (loseSlice old) ss)
+    behind-newer : (ss : List Slice) (g : Format) (s : Stand) (u : ℕ) → u < types new → isRecord (kind new u) ≡ true → Descends new top′ u → Follow new (v11 g) (chain new u) ss
+        → Short (length (slicesBytes (v11 g) s ss)) → (named old (firstId ss) ≡ none → g ≡ sliced) → Slices old top (v11 g) (map (loseSlice old) ss)
     unfolding upward loseSlice loseKnown firstId idOf dataBytes
-    behind-newer [] g s u l r d F h fit = absurd (subst (λ (l : List ℕ). Follow new l []) (chain-node new u) F)
-    behind-newer (passed b nm z ∷ ss) g s u l r d F h fit = absurd (subst (λ (l : List ℕ). Follow new l (passed b nm z ∷ ss)) (chain-node new u) F)
+    behind-newer [] g s u l r d F h fit = absurd (subst (λ (l : List ℕ). Follow new (v11 g) l []) (chain-node new u) F)
+    behind-newer (passed b nm z ∷ ss) g s u l r d F h fit = absurd (subst (λ (l : List ℕ). Follow new (v11 g) l (passed b nm z ∷ ss)) (chain-node new u) F)
     behind-newer (known o ps ∷ ss) g s u l r d F h fit =
-        go (subst (λ (l : List ℕ). Follow new l (known o ps ∷ ss)) (chain-node new u) F) (named old o) refl
+        go (subst (λ (l : List ℕ). Follow new (v11 g) l (known o ps ∷ ss)) (chain-node new u) F) (named old o) refl
         (λ v m q e H k f. behind-newer ss g (later g) v m q e H k f)
       where
-        short : Short (length (dataBytes (known o ps))) × Short (length (slicesBytes g (later g) ss))
+        short : Short (length (dataBytes (known o ps))) × Short (length (slicesBytes (v11 g) (later g) ss))
         short = rest-short g s (known o ps) ss h
 
-        go : Follow new (u ∷ upward (chain new) (base new u)) (known o ps ∷ ss) → (n : Option ℕ) → named old o ≡ n
-            → ((v : ℕ) → v < types new → isRecord (kind new v) ≡ true → Descends new top′ v → Follow new (chain new v) ss
-            → Short (length (slicesBytes g (later g) ss)) → (named old (firstId ss) ≡ none → g ≡ sliced) → Slices old top g (map (loseSlice old) ss))
-            → Slices old top g (loseKnown old o ps n ∷ map (loseSlice old) ss)
+        go : Follow new (v11 g) (u ∷ upward (chain new) (base new u)) (known o ps ∷ ss) → (n : Option ℕ) → named old o ≡ n
+            → ((v : ℕ) → v < types new → isRecord (kind new v) ≡ true → Descends new top′ v → Follow new (v11 g) (chain new v) ss
+            → Short (length (slicesBytes (v11 g) (later g) ss)) → (named old (firstId ss) ≡ none → g ≡ sliced) → Slices old top (v11 g) (map (loseSlice old) ss))
+            → Slices old top (v11 g) (loseKnown old o ps n ∷ map (loseSlice old) ss)
         go G (some t) e ih =
             let P = named-both old new X o t u e (ap (named new) (G .0) ∙ named-at new (X .new-right) u l r) in
             record {
               row = t;
               known = e;
               descends = descends-newer old new X top top′ tops (suc t) t u (omega arith) P d;
-              follow = subst (λ (n : Option ℕ). Follow old (chain old t) (loseKnown old o ps n ∷ map (loseSlice old) ss)) e (follow-newer (known o ps ∷ ss) (both P) F);
+              follow = subst (λ (n : Option ℕ). Follow old (v11 g) (chain old t) (loseKnown old o ps n ∷ map (loseSlice old) ss)) e (follow-newer g (known o ps ∷ ss) (both P) F);
             }
         go G none e ih = go₂ (descends-ok new top′ u d)
           where
-            go₂ : Line new top′ u → Slices old top g (loseKnown old o ps none ∷ map (loseSlice old) ss)
+            go₂ : Line new top′ u → Slices old top (v11 g) (loseKnown old o ps none ∷ map (loseSlice old) ss)
             go₂ (here q) = absurd (some≢none (ap (named old) (G .0) ∙ ap (λ (v : ℕ). named old (nameOf new v)) q ∙ pair-named old new X top top′ tops) e)
             go₂ (above v q w) =
                 let W = base-right new (X .new-right) u l r v q in
@@ -82,11 +83,11 @@ module _ (old new : List ℕ) (X : Extends old new) where
                     id = record { length-short = omega (arith, named-short new (X .new-right) o u i); is-text = named-text new (X .new-right) o u i };
                     data-short = short .0;
                   },
-                  ih v (omega (arith, W .0)) (ap (λ (k : ℕ). isRecord k) (W .1) ∙ r) w (subst (λ (c : ℕ). Follow new (upward (chain new) c) ss) q (G .2)) (short .1) (λ z. fit e),
+                  ih v (omega (arith, W .0)) (ap (λ (k : ℕ). isRecord k) (W .1) ∙ r) w (subst (λ (c : ℕ). Follow new (v11 g) (upward (chain new) c) ss) q (G .2)) (short .1) (λ z. fit e),
                 )
 
-    pub slices-newer : (ss : List Slice) (g : Format) (s : Stand) → Slices new top′ g ss → Short (length (slicesBytes g s ss)) → (named old (firstId ss) ≡ none → g ≡ sliced)
-        → Slices old top g (map (loseSlice old) ss)
+    pub slices-newer : (ss : List Slice) (g : Format) (s : Stand) → Slices new top′ (v11 g) ss → Short (length (slicesBytes (v11 g) s ss)) → (named old (firstId ss) ≡ none → g ≡ sliced)
+        → Slices old top (v11 g) (map (loseSlice old) ss)
     unfolding loseSlice
     slices-newer [] g s C h fit = absurd C
     slices-newer (passed b nm d ∷ ss) g s C h fit = (

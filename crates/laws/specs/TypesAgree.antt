@@ -12,7 +12,7 @@ use native.Mathlib.Omega.{arith}
 use lib.ListN.{getD}
 use lib.Dec.{leb}
 use borrow.Author.Tests.{leb-true, leb-false}
-use Rattle.encoding.specs.Types.{Num, short, int, long, float, double, Ty, Tys, nil, cons, broken, bool, byte, string, proxy, num, enum, struct, seq, dict}
+use Rattle.encoding.specs.Types.{Num, short, int, long, float, double, Ty, Tys, nil, cons, broken, bool, byte, string, proxy, oldProxy, num, enum, oldEnum, struct, seq, dict}
 use Rattle.encoding.specs.Grammar.{Among}
 use Rattle.encoding.specs.Table.{types, typeRows, kind, field, memberType, range, memberTys, ownRows, tys, tyOf, allowed}
 use Rattle.encoding.specs.TableLaws.{below-ty, member-in, row-struct, row-seq, row-dict, row-proxy, row-bool, row-byte, row-short, row-int, row-long, row-float, row-double, row-string}
@@ -41,8 +41,10 @@ kindOf bool = 0
 kindOf byte = 1
 kindOf string = 7
 kindOf proxy = 12
+kindOf oldProxy = 13
 kindOf (num w) = numKind w
 kindOf (enum a) = 8
+kindOf (oldEnum a) = 13
 kindOf (struct ts) = 9
 kindOf (seq t) = 10
 kindOf (dict k v) = 11

@@ -4,7 +4,7 @@
 --   length-rowList         as many rows are named as counted
 --   writer-refuses         of the writer
 --   writing-numbers-told   the numbers of its public calls
-use mathlib.Core.Path.{_≡_, refl, sym, ap, _∙_, subst}
+use mathlib.Core.Path.{_≡_, sym, ap, _∙_, subst}
 use mathlib.Core.Logic.{⊎-elim}
 use mathlib.Core.List.{List, [], _∷_}
 use Prim.Native.Nat.{ℕ, _≤_}
@@ -13,7 +13,7 @@ use lib.ListN.{length, length-map}
 use Rattle.encoding.specs.Table.{range}
 use Rattle.encoding.specs.RuleLaws.{length-range}
 use Rattle.encoding.specs.Write.{Out, out, stop, rowAt, writing, output, writingOf, writingNumbers}
-use Rattle.laws.specs.Demands.{rowList, Early, table-refused, type-refused, format-refused, buffer-refused, at-row, at-count, Twenty, too-few, none-right, WriterRefusal, wrong-table, no-type, great-buffer, wrong-row, wrong-bytes, no-room, wrong-format, WriterRefuses, WritingNumbersTold}
+use Rattle.laws.specs.Demands.{rowList, Early, table-refused, type-refused, format-refused, optionals-refused, buffer-refused, at-row, at-count, Twenty, too-few, none-right, WriterRefusal, wrong-table, no-type, great-buffer, wrong-row, wrong-bytes, no-room, wrong-format, optionals-there, WriterRefuses, WritingNumbersTold}
 use Rattle.laws.specs.TableFault.{broken-class}
 use Rattle.laws.specs.WriterAnswers.{early-refused, right-lists, too-long-written}
 use Rattle.laws.specs.WriterAnswers
@@ -29,9 +29,10 @@ module _ (T : List ℕ) (type format count : ℕ) (rs buffer : List ℕ) (room :
   early-placed (table-refused B) = wrong-table B
   early-placed (type-refused e t) = no-type
   early-placed (format-refused e t f) = wrong-format f
-  early-placed (buffer-refused e t f l) = great-buffer l
+  early-placed (optionals-refused e t f o w) = optionals-there o w
+  early-placed (buffer-refused e t f w l) = great-buffer l
 
-  twenty-placed : (i : ℕ) → Twenty T type count rs buffer i → i ≤ count
+  twenty-placed : (i : ℕ) → Twenty T type format count rs buffer i → i ≤ count
   twenty-placed i (too-few l e) = omega arith
   twenty-placed i (none-right l (at-row h b n a)) = omega (arith, length-rowList count rs)
   twenty-placed i (none-right l (at-count h b n a)) = omega (arith, length-rowList count rs)
@@ -62,6 +63,7 @@ some-number (wrong-row l) = omega arith
 some-number (wrong-bytes l) = omega arith
 some-number (no-room W) = omega arith
 some-number (wrong-format W) = omega arith
+some-number (optionals-there o w) = omega arith
 
 pub writing-numbers-told : WritingNumbersTold
 unfolding writingNumbers writingOf

@@ -128,7 +128,7 @@ pub used-wide : (f : Form) (s : List ℕ) (p : Sized) → p ≡ bytesOf (part f 
 used-wide f s p ep n e h T shapes ef t w ew l q =
     let D = delivered f s p ep n e h in
     used-all f s p ep n e h (tyOf T t) (Took w)
-    (row-wide T shapes ef t (take (e - (e - n)) (drop (e - n) s)) w ew l (omega (arith, ap length (D .there), D .size))) w refl q
+    (row-wide false T shapes ef t (take (e - (e - n)) (drop (e - n) s)) w ew l (omega (arith, ap length (D .there), D .size))) w refl q
 
 -- ---- a string with its own size: the declared bytes are the string, whatever strings may hold
 

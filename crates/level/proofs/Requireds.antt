@@ -8,6 +8,7 @@
 --   due-says, due-gives      at the end
 --   due-room, due-place      what is added fits
 use mathlib.Core.Path.{_≡_, refl, sym, ap, ap₂, _∙_, subst}
+use mathlib.Core.Bool.{Bool}
 use mathlib.Core.List.{List, [], _∷_}
 use Prim.Native.Nat.{ℕ, suc, _+_, _-_, _*_, _^_, _≤_, _<_, min}
 use native.Mathlib.Nat.{add-zero, zero-add, add-assoc}
@@ -19,10 +20,11 @@ use lib.ListN.{length, take, drop, length-drop}
 use lib.Seq.{drop-drop, length-take-le}
 use lib.Dec.{eqb}
 use borrow.Author.Tests.{eq-eqb, ne-eqb}
-use Rattle.encoding.specs.Result.{Res, ok, bad, pick, shift, _>>=_, pure, made, mapc, bytes}
+use Rattle.encoding.specs.Result.{Parser, Res, ok, bad, pick, shift, _>>=_, pure, made, mapc, bytes}
 use Rattle.encoding.specs.ResultLaws.{ok≢bad, Bound, bind-ok, bind-next, bind-bad, bytes-step, mapc-ok, held-took, held-refused}
 use Rattle.encoding.specs.Value.{value}
 use Rattle.encoding.specs.ValueLaws.{held-value}
+use Rattle.encoding.specs.Old.{typeAs, membersAs}
 use Rattle.encoding.specs.Table.{field, mark, range, tyOf, memberTy, ownRows, trees, Member, requiredsIn}
 use Rattle.encoding.specs.Table
 use Rattle.encoding.specs.Optional.{Piece, required, requireds}
@@ -40,7 +42,7 @@ use Rattle.level.specs.declared.Members.the-variants.{Read, Refused}
 use Rattle.level.specs.Fill.{fill}
 use Rattle.optional.specs.Answers.{typeRow}
 use Rattle.level.specs.Answers.{membersOf}
-use Rattle.level.specs.RequiredLaws.{memberAt, Ahead, ahead-begin, ahead-past, ahead-next, required-past, required-next, piece-row}
+use Rattle.level.specs.RequiredLaws.{memberAt, Ahead, ahead-begin, ahead-past, ahead-next, required-past, required-next, none-as, requireds-as, piece-row}
 use Rattle.optional.proofs.Lookups.{row-type}
 
 -- the pieces still to come, where all are accepted, and what they make of the list as it is
@@ -50,7 +52,7 @@ record Later (T : List ℕ) (t at : ℕ) (s : List ℕ) (ms : List Member) (pos 
   read : requireds ms (drop pos s) ≡ ok pieces taken
   made : last ≡ fill k (pieceRows T t (at + pos) pieces) out
 
-pub record Due (T : List ℕ) (t at count : ℕ) (s out₀ : List ℕ) (m left pos k next : ℕ) (out : List ℕ) : Type 0 where
+pub record Due (old : Bool) (T : List ℕ) (t at count : ℕ) (s out₀ : List ℕ) (m left pos k next : ℕ) (out : List ℕ) : Type 0 where
   pub seen : ℕ
   pub inside : pos ≤ length s
   pub few : m + left < 131072
@@ -60,9 +62,9 @@ pub record Due (T : List ℕ) (t at count : ℕ) (s out₀ : List ℕ) (m left p
   pub low : k + left < count + 65536
   pub same : length out ≡ length out₀
   pub ahead : Ahead T t seen (range m left)
-  pub says : membersOf count (optionalStart T t) (requireds (Table.requiredMembers T t) s) ≡ membersOf k (optionalStart T t) (shift pos (requireds (requiredsIn T (trees T) seen (range m left)) (drop pos s)))
-  gives : (ps : List Piece) (n : ℕ) → requireds (Table.requiredMembers T t) s ≡ ok ps n
-      → Later T t at s (requiredsIn T (trees T) seen (range m left)) pos k (fill count (pieceRows T t at ps) out₀) out
+  pub says : membersOf count (optionalStart T t) (requireds (membersAs old (Table.requiredMembers T t)) s) ≡ membersOf k (optionalStart T t) (shift pos (requireds (membersAs old (requiredsIn T (trees T) seen (range m left))) (drop pos s)))
+  gives : (ps : List Piece) (n : ℕ) → requireds (membersAs old (Table.requiredMembers T t)) s ≡ ok ps n
+      → Later T t at s (membersAs old (requiredsIn T (trees T) seen (range m left))) pos k (fill count (pieceRows T t at ps) out₀) out
 
 shift-none : {A : Type 0} (r : Res A) → r ≡ shift 0 r
 unfolding shift
@@ -92,10 +94,10 @@ unfolding membersOf shift made
 one-more k i pos n p (ok ps l) = ap₂ (λ (x y : ℕ). Read x y i) (sym (add-assoc pos n l)) (omega arith)
 one-more k i pos n p (bad c q) = ap (Refused c) (sym (add-assoc pos n q))
 
-pub due-begin : (T : List ℕ) (t at count : ℕ) (s out : List ℕ) (m left : ℕ) → m ≡ field T t 0 → left ≡ field T t 1 → m < 65536 → left < 65536
-    → Due T t at count s out m left 0 count (m + left) out
+pub due-begin : (old : Bool) (T : List ℕ) (t at count : ℕ) (s out : List ℕ) (m left : ℕ) → m ≡ field T t 0 → left ≡ field T t 1 → m < 65536 → left < 65536
+    → Due old T t at count s out m left 0 count (m + left) out
 unfolding ownRows Table.requiredMembers optionalStart
-due-begin T t at count s out m left em el hm hl =
+due-begin old T t at count s out m left em el hm hl =
     let e : range m left ≡ ownRows T t = rw (em, el) in
     record {
       seen = 0;
@@ -107,7 +109,7 @@ due-begin T t at count s out m left em el hm hl =
       low = omega arith;
       same = refl;
       ahead = rw e (ahead-begin T t);
-      says = rw e (ap (membersOf count (optionalStart T t)) (shift-none (requireds (Table.requiredMembers T t) s)));
+      says = rw e (ap (membersOf count (optionalStart T t)) (shift-none (requireds (membersAs old (Table.requiredMembers T t)) s)));
       gives = λ ps n h. record {
         pieces = ps;
         taken = n;
@@ -116,22 +118,22 @@ due-begin T t at count s out m left em el hm hl =
       };
     }
 
-module _ (T : List ℕ) (t at count : ℕ) (s out₀ : List ℕ) (m left pos k next : ℕ) (out : List ℕ) (D : Due T t at count s out₀ m left pos k next out) where
+module _ (old : Bool) (T : List ℕ) (t at count : ℕ) (s out₀ : List ℕ) (m left pos k next : ℕ) (out : List ℕ) (D : Due old T t at count s out₀ m left pos k next out) where
   -- ---- the end
-  pub due-says : left ≤ 0 → Read pos k next ≡ membersOf count (optionalStart T t) (requireds (Table.requiredMembers T t) s)
-  unfolding requiredsIn requireds pure shift membersOf firstOptional
+  pub due-says : left ≤ 0 → Read pos k next ≡ membersOf count (optionalStart T t) (requireds (membersAs old (Table.requiredMembers T t)) s)
+  unfolding requiredsIn pure shift membersOf firstOptional
   due-says h =
       let z : left ≡ 0 = omega arith in
       let i : optionalStart T t ≡ next = D .start ∙ rw z (omega (arith, D .ends, D .most)) in
-      sym (D .says ∙ rw (range-empty m left h, add-zero pos, add-zero k, i))
+      sym (D .says ∙ rw (range-empty m left h, none-as old, add-zero pos, add-zero k, i))
 
-  pub due-gives : left ≤ 0 → (ps : List Piece) (n : ℕ) → requireds (Table.requiredMembers T t) s ≡ ok ps n → out ≡ fill count (pieceRows T t at ps) out₀
-  unfolding requiredsIn requireds pure pieceRows fill
+  pub due-gives : left ≤ 0 → (ps : List Piece) (n : ℕ) → requireds (membersAs old (Table.requiredMembers T t)) s ≡ ok ps n → out ≡ fill count (pieceRows T t at ps) out₀
+  unfolding requiredsIn pure pieceRows fill
   due-gives h ps n e = go (D .gives ps n e)
     where
-      go : Later T t at s (requiredsIn T (trees T) (D .seen) (range m left)) pos k (fill count (pieceRows T t at ps) out₀) out → out ≡ fill count (pieceRows T t at ps) out₀
+      go : Later T t at s (membersAs old (requiredsIn T (trees T) (D .seen) (range m left))) pos k (fill count (pieceRows T t at ps) out₀) out → out ≡ fill count (pieceRows T t at ps) out₀
       go L =
-          let r : ok [] 0 ≡ ok (L .pieces) (L .taken) = rw (range-empty m left h) at (L .read) in
+          let r : ok [] 0 ≡ ok (L .pieces) (L .taken) = rw (range-empty m left h, none-as old) at (L .read) in
           let z : L .pieces ≡ [] = cc in
           sym (L .made ∙ ap (λ (l : List Piece). fill k (pieceRows T t (at + pos) l) out) z)
 
@@ -149,11 +151,11 @@ module _ (T : List ℕ) (t at count : ℕ) (s out₀ : List ℕ) (m left pos k n
     start-split = let e : left ≡ suc (left - 1) = omega arith in ap (firstOptional T (field T t 0 + field T t 1) m) e ∙ rw (add-one m)
 
     pub due-past : (g : ℕ) → g ≡ mark T m → (g ≡ 0 → ⊥) → (i : ℕ) → i ≡ min next m
-        → {pos′ k′ next′ : ℕ} {out′ : List ℕ} → out′ ≡ out → pos′ ≡ pos → k′ ≡ k → next′ ≡ i → Due T t at count s out₀ (m + 1) (left - 1) pos′ k′ next′ out′
+        → {pos′ k′ next′ : ℕ} {out′ : List ℕ} → out′ ≡ out → pos′ ≡ pos → k′ ≡ k → next′ ≡ i → Due old T t at count s out₀ (m + 1) (left - 1) pos′ k′ next′ out′
     due-past g eg z i ei eo ep ek en = rw (eo, ep, ek, en)
         (let y : mark T m ≡ 0 → ⊥ = λ q. z (eg ∙ q) in
-        let e : requiredsIn T (trees T) (D .seen) (range m left) ≡ requiredsIn T (trees T) (D .seen) (range (m + 1) (left - 1)) =
-        ap (requiredsIn T (trees T) (D .seen)) split ∙ required-past T (D .seen) m (range (m + 1) (left - 1)) y in
+        let e : membersAs old (requiredsIn T (trees T) (D .seen) (range m left)) ≡ membersAs old (requiredsIn T (trees T) (D .seen) (range (m + 1) (left - 1))) =
+        ap (λ (l : List ℕ). membersAs old (requiredsIn T (trees T) (D .seen) l)) split ∙ ap (membersAs old) (required-past T (D .seen) m (range (m + 1) (left - 1)) y) in
         record {
           seen = D .seen;
           inside = D .inside;
@@ -171,40 +173,41 @@ module _ (T : List ℕ) (t at count : ℕ) (s out₀ : List ℕ) (m left pos k n
 
     -- ---- a required member
     module _ (g : ℕ) (eg : g ≡ mark T m) (z : g ≡ 0) (ty : ℕ) (et : ty ≡ typeRow T m)
-        (r : Step) (er : r ≡ stepOf (value (tyOf T ty) (take (length s - pos) (drop pos s)))) where
+        (r : Step) (er : r ≡ stepOf (value (typeAs old (tyOf T ty)) (take (length s - pos) (drop pos s)))) where
       abbrev rest : List Member
-      rest = requiredsIn T (trees T) (suc (D .seen)) (range (m + 1) (left - 1))
+      rest = membersAs old (requiredsIn T (trees T) (suc (D .seen)) (range (m + 1) (left - 1)))
 
       abbrev cont : List ℕ → List ℕ → Res (List Piece)
       cont b = mapc (λ ps _. required (D .seen) b ∷ ps) (requireds rest)
 
-      ms-split : requiredsIn T (trees T) (D .seen) (range m left) ≡ memberAt T (D .seen) m ∷ rest
+      ms-split : requiredsIn T (trees T) (D .seen) (range m left) ≡ memberAt T (D .seen) m ∷ requiredsIn T (trees T) (suc (D .seen)) (range (m + 1) (left - 1))
       ms-split = ap (requiredsIn T (trees T) (D .seen)) split ∙ required-next T (D .seen) m (range (m + 1) (left - 1)) (sym eg ∙ z)
 
-      requireds-split : requireds (requiredsIn T (trees T) (D .seen) (range m left)) (drop pos s) ≡ (bytes (value (memberTy T (trees T) m)) >>= cont) (drop pos s)
-      unfolding requireds
-      requireds-split = ap (λ (l : List Member). requireds l (drop pos s)) ms-split
+      requireds-split : requireds (membersAs old (requiredsIn T (trees T) (D .seen) (range m left))) (drop pos s) ≡ (bytes (value (typeAs old (memberTy T (trees T) m))) >>= cont) (drop pos s)
+      requireds-split =
+          ap (λ (l : List Member). requireds (membersAs old l) (drop pos s)) ms-split
+          ∙ ap (λ (p : Parser (List Piece)). p (drop pos s)) (requireds-as old (memberAt T (D .seen) m) (requiredsIn T (trees T) (suc (D .seen)) (range (m + 1) (left - 1))))
 
-      answer : r ≡ stepOf (value (memberTy T (trees T) m) (drop pos s))
+      answer : r ≡ stepOf (value (typeAs old (memberTy T (trees T) m)) (drop pos s))
       answer = rw (row-type T m ty et, rest-is s pos) at er
 
       value-held : (n : ℕ) → r ≡ Took n → n ≤ length s - pos
       value-held n q =
-          omega (arith, held-took (value (memberTy T (trees T) m)) (held-value (memberTy T (trees T) m)) (drop pos s) (step-took (value (memberTy T (trees T) m) (drop pos s)) n (sym q ∙ answer) .1), length-drop pos s)
+          omega (arith, held-took (value (typeAs old (memberTy T (trees T) m))) (held-value (typeAs old (memberTy T (trees T) m))) (drop pos s) (step-took (value (typeAs old (memberTy T (trees T) m)) (drop pos s)) n (sym q ∙ answer) .1), length-drop pos s)
 
-      value-is : (n : ℕ) → r ≡ Took n → bytes (value (memberTy T (trees T) m)) (drop pos s) ≡ ok (take n (drop pos s)) n
-      value-is n q = bytes-step (value (memberTy T (trees T) m)) (drop pos s) (step-took (value (memberTy T (trees T) m) (drop pos s)) n (sym q ∙ answer) .1)
+      value-is : (n : ℕ) → r ≡ Took n → bytes (value (typeAs old (memberTy T (trees T) m))) (drop pos s) ≡ ok (take n (drop pos s)) n
+      value-is n q = bytes-step (value (typeAs old (memberTy T (trees T) m))) (drop pos s) (step-took (value (typeAs old (memberTy T (trees T) m)) (drop pos s)) n (sym q ∙ answer) .1)
 
-      value-bad : (c p : ℕ) → r ≡ Fault c p → bytes (value (memberTy T (trees T) m)) (drop pos s) ≡ bad c p
+      value-bad : (c p : ℕ) → r ≡ Fault c p → bytes (value (typeAs old (memberTy T (trees T) m))) (drop pos s) ≡ bad c p
       unfolding bytes made
-      value-bad c p q = rw (step-fault (value (memberTy T (trees T) m) (drop pos s)) c p (sym q ∙ answer))
+      value-bad c p q = rw (step-fault (value (typeAs old (memberTy T (trees T) m)) (drop pos s)) c p (sym q ∙ answer))
 
       next-later : (n : ℕ) → r ≡ Took n → (o : List ℕ) → o ≡ put (12 * k) (rowBytes (record { member = m; place = at + pos; len = n })) out → (last : List ℕ)
-          → Later T t at s (requiredsIn T (trees T) (D .seen) (range m left)) pos k last out → Later T t at s rest (pos + n) (k + 1) last o
+          → Later T t at s (membersAs old (requiredsIn T (trees T) (D .seen) (range m left))) pos k last out → Later T t at s rest (pos + n) (k + 1) last o
       unfolding fill
-      next-later n q o eo last L = go (bind-ok (bytes (value (memberTy T (trees T) m))) cont (drop pos s) (sym requireds-split ∙ L .read))
+      next-later n q o eo last L = go (bind-ok (bytes (value (typeAs old (memberTy T (trees T) m)))) cont (drop pos s) (sym requireds-split ∙ L .read))
         where
-          go : Bound (bytes (value (memberTy T (trees T) m))) cont (drop pos s) (L .pieces) (L .taken) → Later T t at s rest (pos + n) (k + 1) last o
+          go : Bound (bytes (value (typeAs old (memberTy T (trees T) m)))) cont (drop pos s) (L .pieces) (L .taken) → Later T t at s rest (pos + n) (k + 1) last o
           go B =
               let M = mapc-ok (requireds rest) (drop (B .n) (drop pos s)) (λ ps _. required (D .seen) (B .fst) ∷ ps) (B .next) in
               let same-bytes : ok (B .fst) (B .n) ≡ ok (take n (drop pos s)) n = sym (B .first) ∙ value-is n q in
@@ -223,7 +226,7 @@ module _ (T : List ℕ) (t at count : ℕ) (s out₀ : List ℕ) (m left pos k n
               }
 
       due-step : (n : ℕ) → r ≡ Took n → (o : List ℕ) → o ≡ put (12 * k) (rowBytes (record { member = m; place = at + pos; len = n })) out
-          → Due T t at count s out₀ (m + 1) (left - 1) (pos + n) (k + 1) next o
+          → Due old T t at count s out₀ (m + 1) (left - 1) (pos + n) (k + 1) next o
       unfolding mapc
       due-step n q o eo = record {
         seen = suc (D .seen);
@@ -235,25 +238,25 @@ module _ (T : List ℕ) (t at count : ℕ) (s out₀ : List ℕ) (m left pos k n
         low = omega (arith, D .low);
         same = ap length eo ∙ put-length (12 * k) _ out ∙ D .same;
         ahead = ahead-next T t (D .seen) m (range (m + 1) (left - 1)) ahead-split (sym eg ∙ z);
-        says = D .says ∙ ap (λ (x : Res (List Piece)). membersOf k (optionalStart T t) (shift pos x)) (requireds-split ∙ bind-next (bytes (value (memberTy T (trees T) m))) cont (drop pos s) (value-is n q))
+        says = D .says ∙ ap (λ (x : Res (List Piece)). membersOf k (optionalStart T t) (shift pos x)) (requireds-split ∙ bind-next (bytes (value (typeAs old (memberTy T (trees T) m)))) cont (drop pos s) (value-is n q))
             ∙ one-more k (optionalStart T t) pos n (required (D .seen) (take n (drop pos s))) (requireds rest (drop n (drop pos s)))
             ∙ ap (λ (l : List ℕ). membersOf (k + 1) (optionalStart T t) (shift (pos + n) (requireds rest l))) (drop-drop n pos s);
         gives = λ ps i h. next-later n q o eo _ (D .gives ps i h);
       }
 
       pub due-next : (n : ℕ) → r ≡ Took n → (o : List ℕ) → ((n : ℕ) → r ≡ Took n → o ≡ put (12 * k) (rowBytes (record { member = m; place = at + pos; len = n })) out)
-          → {pos′ k′ next′ : ℕ} {out′ : List ℕ} → out′ ≡ o → pos′ ≡ pos + n → k′ ≡ k + 1 → next′ ≡ next → Due T t at count s out₀ (m + 1) (left - 1) pos′ k′ next′ out′
+          → {pos′ k′ next′ : ℕ} {out′ : List ℕ} → out′ ≡ o → pos′ ≡ pos + n → k′ ≡ k + 1 → next′ ≡ next → Due old T t at count s out₀ (m + 1) (left - 1) pos′ k′ next′ out′
       due-next n q o puts fo fp fk fn = rw (fo, fp, fk, fn) (due-step n q o (puts n q))
 
-      pub due-fault : (c p : ℕ) → r ≡ Fault c p → Refused c (pos + p) ≡ membersOf count (optionalStart T t) (requireds (Table.requiredMembers T t) s)
+      pub due-fault : (c p : ℕ) → r ≡ Fault c p → Refused c (pos + p) ≡ membersOf count (optionalStart T t) (requireds (membersAs old (Table.requiredMembers T t)) s)
       unfolding shift membersOf
       due-fault c p q =
-          sym (D .says ∙ ap (λ (x : Res (List Piece)). membersOf k (optionalStart T t) (shift pos x)) (requireds-split ∙ bind-bad (bytes (value (memberTy T (trees T) m))) cont (drop pos s) (value-bad c p q)))
+          sym (D .says ∙ ap (λ (x : Res (List Piece)). membersOf k (optionalStart T t) (shift pos x)) (requireds-split ∙ bind-bad (bytes (value (typeAs old (memberTy T (trees T) m)))) cont (drop pos s) (value-bad c p q)))
 
       -- then nothing is accepted
-      pub due-never : (c p : ℕ) → r ≡ Fault c p → (o : List ℕ) (ps : List Piece) (n : ℕ) → requireds (Table.requiredMembers T t) s ≡ ok ps n → o ≡ fill count (pieceRows T t at ps) out₀
+      pub due-never : (c p : ℕ) → r ≡ Fault c p → (o : List ℕ) (ps : List Piece) (n : ℕ) → requireds (membersAs old (Table.requiredMembers T t)) s ≡ ok ps n → o ≡ fill count (pieceRows T t at ps) out₀
       due-never c p q o ps n h =
-          absurd (ok≢bad (D .gives ps n h .read) (requireds-split ∙ bind-bad (bytes (value (memberTy T (trees T) m))) cont (drop pos s) (value-bad c p q)))
+          absurd (ok≢bad (D .gives ps n h .read) (requireds-split ∙ bind-bad (bytes (value (typeAs old (memberTy T (trees T) m)))) cont (drop pos s) (value-bad c p q)))
 
       -- ---- what is added fits
       pub due-room : (n : ℕ) → r ≡ Took n → at + length s < 2 ^ 63 → Fits w64 (pos + n)
@@ -261,4 +264,4 @@ module _ (T : List ℕ) (t at count : ℕ) (s out₀ : List ℕ) (m left pos k n
 
       pub due-place : (c p : ℕ) → r ≡ Fault c p → at + length s < 2 ^ 63 → Fits w64 (pos + p)
       due-place c p q l =
-          omega (arith, D .inside, held-refused (value (memberTy T (trees T) m)) (held-value (memberTy T (trees T) m)) (drop pos s) (step-fault (value (memberTy T (trees T) m) (drop pos s)) c p (sym q ∙ answer)), length-drop pos s)
+          omega (arith, D .inside, held-refused (value (typeAs old (memberTy T (trees T) m))) (held-value (typeAs old (memberTy T (trees T) m))) (drop pos s) (step-fault (value (typeAs old (memberTy T (trees T) m)) (drop pos s)) c p (sym q ∙ answer)), length-drop pos s)

@@ -8,6 +8,7 @@ ghost use lib.ListN.{length};
 ghost use Rattle.encoding.specs.Result.{ok};
 ghost use Rattle.encoding.specs.Table.{typesAt, tyOf, requiredMembers};
 ghost use Rattle.encoding.specs.Value.{value};
+ghost use Rattle.encoding.specs.Old.{typeAs, membersAs};
 ghost use Rattle.encoding.specs.Optional.{Piece, requireds};
 ghost use Rattle.encoding.specs.Message.{rowBytes, pieceRows};
 ghost use Rattle.wire.specs.Put.{put};
@@ -32,7 +33,7 @@ pub enum Optional {
     Wrong(usize, usize),
 }
 
-// Reads required member m, of type row t, and puts row k for it; its value is at place `at`. `begin` is where the type rows begin.
+// Reads required member m, of type row t, and puts row k for it; its value is at place `at`. `begin` is where the type rows begin. Here and below, `old` says whether the encoding is 1.0.
 fn put_member(
     table: &[u8],
     begin: usize,
@@ -43,14 +44,15 @@ fn put_member(
     k: usize,
     m: usize,
     out: &mut [u8],
+    old: bool,
 ) -> Step
     requires { ⌜ begin ≡ typesAt (now table) ⌝ }
     requires { ⌜ now shapes ≡ shapesOf (now table) ⌝ }
-    ensures { λ r. ⌜ r ≡ stepOf (value (tyOf (now (table .entry)) t) (now (s .entry))) ⌝ }
+    ensures { λ r. ⌜ r ≡ stepOf (value (typeAs old (tyOf (now (table .entry)) t)) (now (s .entry))) ⌝ }
     ensures { λ _. ⌜ length (now (out .exit)) ≡ length (now (out .entry)) ⌝ }
     ensures { λ r. ⌜ ((n : ℕ) → r ≡ Took n → now (out .exit) ≡ put (12 * k) (rowBytes (record { member = m; place = at; len = n })) (now (out .entry))) ⌝ }
 {
-    let step = value::read_member(table, begin, shapes, t, s);
+    let step = value::read_member(table, begin, shapes, t, s, old);
     match step {
         Step::Took(n) => {
             wire::rows::put_row(out, k, m, at, n);
@@ -70,13 +72,14 @@ pub fn required(
     at: usize,
     count: usize,
     out: &mut [u8],
+    old: bool,
 ) -> Members
     requires { ⌜ begin ≡ typesAt (now table) ⌝ }
     requires { ⌜ now shapes ≡ shapesOf (now table) ⌝ }
     requires { ⌜ (at + length (now s) < 2 ^ 63) × (count < 2 ^ 63) ⌝ }
-    ensures { λ r. ⌜ r ≡ membersOf count (optionalStart (now (table .entry)) t) (requireds (requiredMembers (now (table .entry)) t) (now (s .entry))) ⌝ }
+    ensures { λ r. ⌜ r ≡ membersOf count (optionalStart (now (table .entry)) t) (requireds (membersAs old (requiredMembers (now (table .entry)) t)) (now (s .entry))) ⌝ }
     ensures { λ _. ⌜ length (now (out .exit)) ≡ length (now (out .entry)) ⌝ }
-    ensures { λ _. ⌜ ((ps : List Piece) (n : ℕ) → requireds (requiredMembers (now (table .entry)) t) (now (s .entry)) ≡ ok ps n → now (out .exit) ≡ fill count (pieceRows (now (table .entry)) t at ps) (now (out .entry))) ⌝ }
+    ensures { λ _. ⌜ ((ps : List Piece) (n : ℕ) → requireds (membersAs old (requiredMembers (now (table .entry)) t)) (now (s .entry)) ≡ ok ps n → now (out .exit) ≡ fill count (pieceRows (now (table .entry)) t at ps) (now (out .entry))) ⌝ }
 {
     let all = table::members(table);
     let first = table::members_at(table, begin);
@@ -99,6 +102,7 @@ pub fn required(
                 k,
                 m,
                 out,
+                old,
             );
             match step {
                 Step::Took(n) => {

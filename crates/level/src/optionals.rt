@@ -37,7 +37,7 @@ fn used_up(table: &[u8], begin: usize, shapes: &[u8; 256], t: usize, s: &[u8], f
                 }
             }
             let a = e - n;
-            let step = value::read_value(table, begin, shapes, t, &s[a..e]);
+            let step = value::read_value(table, begin, shapes, t, &s[a..e], false);
             match step {
                 Step::Took(m) => {
                     if m == n {

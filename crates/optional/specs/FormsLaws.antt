@@ -4,7 +4,7 @@
 use mathlib.Core.Path.{_≡_, refl}
 use mathlib.Core.Bool.{Bool, true, false, _&&_}
 use Rattle.encoding.specs.Result.{pick}
-use Rattle.encoding.specs.Types.{short, int, long, float, double, Ty, broken, bool, byte, string, proxy, num, enum, struct, seq, dict, fixed, fixeds, single, own, counted, sized, formOf}
+use Rattle.encoding.specs.Types.{short, int, long, float, double, Ty, broken, bool, byte, string, proxy, oldProxy, num, enum, oldEnum, struct, seq, dict, fixed, fixeds, single, own, counted, sized, formOf}
 use Rattle.shapes.specs.Shapes.{formNumber}
 use Rattle.optional.specs.Forms.{formNamed}
 
@@ -20,12 +20,14 @@ named-form bool = refl
 named-form byte = refl
 named-form string = refl
 named-form proxy = refl
+named-form oldProxy = refl
 named-form (num short) = refl
 named-form (num int) = refl
 named-form (num long) = refl
 named-form (num float) = refl
 named-form (num double) = refl
 named-form (enum g) = refl
+named-form (oldEnum g) = refl
 named-form (struct ts) = counted-named (fixeds ts)
 named-form (seq t) = go (single t) (fixed t)
   where

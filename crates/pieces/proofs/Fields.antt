@@ -22,6 +22,7 @@ use Rattle.encoding.specs.Number.{leBytes, sizeBytes}
 use Rattle.encoding.specs.Types.{Ty, formOf}
 use Rattle.encoding.specs.Table.{field, tag, trees, tyOf, memberTy}
 use Rattle.encoding.specs.Optional.{required, optional, isOptional}
+use Rattle.encoding.specs.Old.{typeAs}
 use Rattle.encoding.specs.Message.{Row}
 use Rattle.encoding.specs.Write.{stop, Reached, reach, given, partOf, rowAt}
 use Rattle.shapes.specs.Shapes.{formNumber, shapesOf, formIn}
@@ -113,32 +114,32 @@ piece-is : (T rows buffer : List ℕ) (i : ℕ) (r : Row) → r ≡ rowAt rows i
 unfolding pieceAt takenOf hereOf stateOf
 piece-is T rows buffer i r er from z e o = rw (← er, e, eq-eqb (from .owner) (z .state .owner) (sym o))
 
-module _ (T rows buffer : List ℕ) (i : ℕ) (r : Row) (er : r ≡ rowAt rows i) (from : Cursor) (a : Reach) (h : ReachedIn T from (r .member) a) where
+module _ (T : List ℕ) (old : Bool) (rows buffer : List ℕ) (i : ℕ) (r : Row) (er : r ≡ rowAt rows i) (from : Cursor) (a : Reach) (h : ReachedIn T from (r .member) a) where
   pub row-stop : a ≡ Above → Gone T from (rowAt rows i .member)
   row-stop q = rw (← er) (rw q at h)
 
-  pub row-nothing : a ≡ Nothing → judgedRow T rows buffer (stateOf T from) i ≡ stop 20 i
-  row-nothing q = row-none T rows buffer i r er (stateOf T from) (rw q at h)
+  pub row-nothing : a ≡ Nothing → judgedRow T old rows buffer (stateOf T from) i ≡ stop 20 i
+  row-nothing q = row-none T old rows buffer i r er (stateOf T from) (rw q at h)
 
-  module _ (c : Cursor) (t : ℕ) (judged : Bool) (form : ℕ) (et : tyOf T t ≡ memberTy T (trees T) (r .member)) (ef : form ≡ pick judged 0 (partForm buffer r (tyOf T t))) where
+  module _ (c : Cursor) (t : ℕ) (judged : Bool) (form : ℕ) (et : tyOf T t ≡ memberTy T (trees T) (r .member)) (ef : form ≡ pick judged 0 (partForm buffer r (typeAs old (tyOf T t)))) where
     -- the judgement on its bytes
-    form-of : form ≡ pick judged 0 (partForm buffer r (memberTy T (trees T) (r .member)))
-    form-of = ef ∙ ap (λ (x : Ty). pick judged 0 (partForm buffer r x)) et
+    form-of : form ≡ pick judged 0 (partForm buffer r (typeAs old (memberTy T (trees T) (r .member))))
+    form-of = ef ∙ ap (λ (x : Ty). pick judged 0 (partForm buffer r (typeAs old x))) et
 
     module _ (q : a ≡ Due c) where
       due-of : ReachedIn T from (r .member) (Due c)
       due-of = rw q at h
 
-      pub due-wrong : (form ≡ 0 → ⊥) → judgedRow T rows buffer (stateOf T from) i ≡ stop form i
+      pub due-wrong : (form ≡ 0 → ⊥) → judgedRow T old rows buffer (stateOf T from) i ≡ stop form i
       unfolding dueReached
-      due-wrong n = row-refused T rows buffer i r er (stateOf T from) _ (due-of .0) judged form form-of n
+      due-wrong n = row-refused T old rows buffer i r er (stateOf T from) _ (due-of .0) judged form form-of n
 
-      pub due-right : form ≡ 0 → (at : ℕ) (out last : List ℕ) (end : ℕ) → end ≤ at + 66000 → Puts at (partOf buffer r) out last end → RowLaid T rows buffer judged from i at out last c end false
+      pub due-right : form ≡ 0 → (at : ℕ) (out last : List ℕ) (end : ℕ) → end ≤ at + 66000 → Puts at (partOf buffer r) out last end → RowLaid T old rows buffer judged from i at out last c end false
       unfolding dueReached given isOptional stateOf
       due-right n at out last end few p = record {
         piece = required (requiredIn T (field T (c .owner) 0) (c .passed - 1)) (partOf buffer r);
         is = piece-is T rows buffer i r er from _ (due-of .0) (due-of .1);
-        right = row-right T rows buffer i r er (stateOf T from) _ (due-of .0) judged form form-of n;
+        right = row-right T old rows buffer i r er (stateOf T from) _ (due-of .0) judged form form-of n;
         same = due-of .1;
         puts = puts-is at _ _ out last end (sym (required-bytes _ _)) p;
         flag = refl;
@@ -150,15 +151,15 @@ module _ (T rows buffer : List ℕ) (i : ℕ) (r : Row) (er : r ≡ rowAt rows i
       may-of : ReachedIn T from (r .member) (May c)
       may-of = rw q at h
 
-      pub may-wrong : (form ≡ 0 → ⊥) → judgedRow T rows buffer (stateOf T from) i ≡ stop form i
+      pub may-wrong : (form ≡ 0 → ⊥) → judgedRow T old rows buffer (stateOf T from) i ≡ stop form i
       unfolding mayReached mayMember
-      may-wrong n = row-refused T rows buffer i r er (stateOf T from) _ (may-of .0) judged form form-of n
+      may-wrong n = row-refused T old rows buffer i r er (stateOf T from) _ (may-of .0) judged form form-of n
 
       pub may-tagged : 1 ≤ c .least
       may-tagged = let e : c .least ≡ tag T (r .member) + 1 = may-of .3 in omega arith
 
       pub may-right : form ≡ 0 → (shapes : List ℕ) → shapes ≡ shapesOf T → (f : ℕ) → f ≡ formIn shapes t → (at : ℕ) (out last : List ℕ) (end : ℕ) → end ≤ at + 66000
-          → Puts at (optionalField (c .least - 1) f (partOf buffer r)) out last end → RowLaid T rows buffer judged from i at out last c end true
+          → Puts at (optionalField (c .least - 1) f (partOf buffer r)) out last end → RowLaid T old rows buffer judged from i at out last c end true
       unfolding mayReached mayMember given isOptional stateOf
       may-right n shapes eo f eq at out last end few p =
           let least : c .least ≡ tag T (r .member) + 1 = may-of .3 in
@@ -167,7 +168,7 @@ module _ (T rows buffer : List ℕ) (i : ℕ) (r : Row) (er : r ≡ rowAt rows i
           record {
             piece = optional (tag T (r .member)) (formOf (memberTy T (trees T) (r .member))) (partOf buffer r);
             is = piece-is T rows buffer i r er from _ (may-of .0) (may-of .1);
-            right = row-right T rows buffer i r er (stateOf T from) _ (may-of .0) judged form form-of n;
+            right = row-right T old rows buffer i r er (stateOf T from) _ (may-of .0) judged form form-of n;
             same = may-of .1;
             puts = puts-is at _ _ out last end (sym (optional-bytes _ _ _)) (rw (k, b) at p);
             flag = refl;

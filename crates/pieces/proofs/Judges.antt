@@ -15,6 +15,7 @@ use borrow.Author.Tests.{leb-true, eqb-true, ne-eqb}
 use Rattle.encoding.specs.Result.{pick}
 use Rattle.encoding.specs.Types.{Ty}
 use Rattle.encoding.specs.Value.{exact}
+use Rattle.encoding.specs.Old.{typeAs}
 use Rattle.encoding.specs.Message.{Row}
 use Rattle.encoding.specs.Write.{out, stop, Reached, State, reach, partOf, judge, rowAt}
 use Rattle.pieces.specs.Judged.{partForm, stateFrom, judgedRow, Accepted, Gives}
@@ -48,10 +49,10 @@ module _ (buffer : List ℕ) (r : Row) (w : Ty) (judged : Bool) (ej : judged ≡
 -- ---- a row
 
 -- a member with its bytes
-judged-part : (buffer : List ℕ) (i : ℕ) (r : Row) (z : Reached)
-    → judge buffer i r (some z) ≡ pick (eqb (partForm buffer r (z .member .ty)) 0) (out z) (stop (partForm buffer r (z .member .ty)) i)
+judged-part : (old : Bool) (buffer : List ℕ) (i : ℕ) (r : Row) (z : Reached)
+    → judge old buffer i r (some z) ≡ pick (eqb (partForm buffer r (typeAs old (z .member .ty))) 0) (out z) (stop (partForm buffer r (typeAs old (z .member .ty))) i)
 unfolding judge partForm
-judged-part buffer i r z = go (leb (r .place + r .len) (length buffer)) (exact (z .member .ty) (partOf buffer r))
+judged-part old buffer i r z = go (leb (r .place + r .len) (length buffer)) (exact (typeAs old (z .member .ty)) (partOf buffer r))
   where
     go : (a b : Bool) → pick a (pick b (out z) (stop 21 i)) (stop 20 i) ≡ pick (eqb (pick a (pick b 0 21) 20) 0) (out z) (stop (pick a (pick b 0 21) 20) i)
     go true true = refl
@@ -66,36 +67,36 @@ accepted-part z i k a = go (eqb k 0) refl a
     go true e h = eqb-true k 0 e
     go false e h = absurd h
 
-module _ (T rows buffer : List ℕ) (i : ℕ) (r : Row) (er : r ≡ rowAt rows i) (s : State) where
-  row-is : (w : Option Reached) → reach T (r .member) s ≡ w → judgedRow T rows buffer s i ≡ stateFrom (judge buffer i r w)
+module _ (T : List ℕ) (old : Bool) (rows buffer : List ℕ) (i : ℕ) (r : Row) (er : r ≡ rowAt rows i) (s : State) where
+  row-is : (w : Option Reached) → reach T (r .member) s ≡ w → judgedRow T old rows buffer s i ≡ stateFrom (judge old buffer i r w)
   unfolding judgedRow
   row-is w e = rw (← er, e)
 
-  pub row-none : reach T (r .member) s ≡ none → judgedRow T rows buffer s i ≡ stop 20 i
+  pub row-none : reach T (r .member) s ≡ none → judgedRow T old rows buffer s i ≡ stop 20 i
   unfolding stateFrom judge
   row-none e = row-is none e
 
   module _ (z : Reached) (e : reach T (r .member) s ≡ some z) where
-    part-is : judgedRow T rows buffer s i ≡ stateFrom (pick (eqb (partForm buffer r (z .member .ty)) 0) (out z) (stop (partForm buffer r (z .member .ty)) i))
-    part-is = row-is (some z) e ∙ ap stateFrom (judged-part buffer i r z)
+    part-is : judgedRow T old rows buffer s i ≡ stateFrom (pick (eqb (partForm buffer r (typeAs old (z .member .ty))) 0) (out z) (stop (partForm buffer r (typeAs old (z .member .ty))) i))
+    part-is = row-is (some z) e ∙ ap stateFrom (judged-part old buffer i r z)
 
-    module _ (judged : Bool) (form : ℕ) (ef : form ≡ pick judged 0 (partForm buffer r (z .member .ty))) where
-      pub row-refused : (form ≡ 0 → ⊥) → judgedRow T rows buffer s i ≡ stop form i
+    module _ (judged : Bool) (form : ℕ) (ef : form ≡ pick judged 0 (partForm buffer r (typeAs old (z .member .ty)))) where
+      pub row-refused : (form ≡ 0 → ⊥) → judgedRow T old rows buffer s i ≡ stop form i
       unfolding stateFrom
       row-refused n = go judged ef
         where
-          go : (j : Bool) → form ≡ pick j 0 (partForm buffer r (z .member .ty)) → judgedRow T rows buffer s i ≡ stop form i
+          go : (j : Bool) → form ≡ pick j 0 (partForm buffer r (typeAs old (z .member .ty))) → judgedRow T old rows buffer s i ≡ stop form i
           go true q = absurd (n q)
           go false q = part-is ∙ rw (← q, ne-eqb form 0 n)
 
       -- right now, or before
-      part-fine : form ≡ 0 → (judged ≡ true → Accepted (judgedRow T rows buffer s i)) → partForm buffer r (z .member .ty) ≡ 0
+      part-fine : form ≡ 0 → (judged ≡ true → Accepted (judgedRow T old rows buffer s i)) → partForm buffer r (typeAs old (z .member .ty)) ≡ 0
       part-fine n a = go judged ef a
         where
-          go : (j : Bool) → form ≡ pick j 0 (partForm buffer r (z .member .ty)) → (j ≡ true → Accepted (judgedRow T rows buffer s i)) → partForm buffer r (z .member .ty) ≡ 0
-          go true q a = accepted-part z i (partForm buffer r (z .member .ty)) (rw part-is at (a refl))
+          go : (j : Bool) → form ≡ pick j 0 (partForm buffer r (typeAs old (z .member .ty))) → (j ≡ true → Accepted (judgedRow T old rows buffer s i)) → partForm buffer r (typeAs old (z .member .ty)) ≡ 0
+          go true q a = accepted-part z i (partForm buffer r (typeAs old (z .member .ty))) (rw part-is at (a refl))
           go false q a = sym q ∙ n
 
-      pub row-right : form ≡ 0 → Gives judged (judgedRow T rows buffer s i) (out (z .state))
+      pub row-right : form ≡ 0 → Gives judged (judgedRow T old rows buffer s i) (out (z .state))
       unfolding stateFrom
       row-right n a = part-is ∙ rw (part-fine n a)

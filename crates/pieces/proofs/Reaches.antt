@@ -16,7 +16,8 @@ use lib.Dec.{eqb, leb, ltb}
 use borrow.Author.Tests.{le-leb, lt-leb, ltb-true, ltb-false, eq-eqb, ne-eqb}
 use Rattle.encoding.specs.Result.{pick}
 use Rattle.encoding.specs.Table.{field, mark, tag, trees, memberTy, optionalMembers}
-use Rattle.encoding.specs.Write.{optionalRow, reachDue, reach, anyOf}
+use Rattle.encoding.specs.Old.{anyOf}
+use Rattle.encoding.specs.Write.{optionalRow, reachDue, reach}
 use Rattle.pieces.specs.declared.Cursor.{Cursor}
 use Rattle.pieces.specs.Cursors.{requiredIn, dueIn, dueFrom, stateOf, mayMember, dueReached, mayReached, Settled, Gone}
 use Rattle.pieces.specs.CursorsLaws.{due-more, due-skip, due-none, may-outside, may-inside, reach-due, reach-may}

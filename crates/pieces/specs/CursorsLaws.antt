@@ -18,7 +18,8 @@ use Rattle.encoding.specs.Result.{pick}
 use Rattle.encoding.specs.Types.{Ty}
 use Rattle.encoding.specs.Table.{field, mark, tag, range, Member, ownRows, trees, memberTy, requiredsIn, requiredMembers, optionalsIn, optionalMembers, any, base, upward}
 use Rattle.encoding.specs.TableLaws.{chain-row}
-use Rattle.encoding.specs.Write.{optionalRow, orAbove, entered, reachDue, reachMay, reach, anyOf, stillDue}
+use Rattle.encoding.specs.Old.{anyOf}
+use Rattle.encoding.specs.Write.{optionalRow, orAbove, entered, reachDue, reachMay, reach, stillDue}
 use Rattle.pieces.specs.declared.Cursor.{Cursor}
 use Rattle.pieces.specs.Cursors.{requiredIn, dueIn, dueFrom, bases, start, stateOf, mayMember}
 

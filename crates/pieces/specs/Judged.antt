@@ -2,7 +2,7 @@
 --
 --   partForm       20 where a part lies outside the buffer, 21 where it isn't exactly a value of a type, else 0
 --   stateFrom      the state after a row that was checked
---   judgedRow      row i, judged in a state
+--   judgedRow      row i, judged in a state; here and below `old` says that the encoding is 1.0
 --   verdictOf      whether every row is right
 --   verdictFrom    the verdict on row i and those after it, of `count` rows
 --   verdictAbove   the same where the rows go on with the owners above: from a base row + 1 on, or there is none
@@ -29,20 +29,20 @@ unfoldable pub stateFrom : Out Reached → Out State
 stateFrom (out z) = out (z .state)
 stateFrom (stop n p) = stop n p
 
-unfoldable pub judgedRow : List ℕ → List ℕ → List ℕ → State → ℕ → Out State
-judgedRow T rows buffer s i = stateFrom (judge buffer i (rowAt rows i) (reach T (rowAt rows i .member) s))
+unfoldable pub judgedRow : List ℕ → Bool → List ℕ → List ℕ → State → ℕ → Out State
+judgedRow T old rows buffer s i = stateFrom (judge old buffer i (rowAt rows i) (reach T (rowAt rows i .member) s))
 
 unfoldable pub verdictOf : Out (List Given) → Out (Unit {0})
 verdictOf (out gs) = out tt
 verdictOf (stop n p) = stop n p
 
-unfoldable pub verdictFrom : List ℕ → List ℕ → List ℕ → ℕ → State → ℕ → Out (Unit {0})
-verdictFrom T rows buffer count s i = verdictOf (judgeAll T buffer s i (map (rowAt rows) (range i (count - i))))
+unfoldable pub verdictFrom : List ℕ → Bool → List ℕ → List ℕ → ℕ → State → ℕ → Out (Unit {0})
+verdictFrom T old rows buffer count s i = verdictOf (judgeAll T old buffer s i (map (rowAt rows) (range i (count - i))))
 
 -- a row after the last owner is 20
-unfoldable pub verdictAbove : List ℕ → List ℕ → List ℕ → ℕ → ℕ → ℕ → Out (Unit {0})
-verdictAbove T rows buffer count zero i = pick (ltb i count) (stop 20 i) (out tt)
-verdictAbove T rows buffer count (suc t) i = verdictFrom T rows buffer count (stateOf T (start t)) i
+unfoldable pub verdictAbove : List ℕ → Bool → List ℕ → List ℕ → ℕ → ℕ → ℕ → Out (Unit {0})
+verdictAbove T old rows buffer count zero i = pick (ltb i count) (stop 20 i) (out tt)
+verdictAbove T old rows buffer count (suc t) i = verdictFrom T old rows buffer count (stateOf T (start t)) i
 
 abbrev pub Accepted : {A : Type 0} → Out A → Type 0
 Accepted (out a) = Unit {0}

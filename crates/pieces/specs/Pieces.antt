@@ -60,17 +60,17 @@ unfoldable pub group : List ℕ → List ℕ → List ℕ → State → ℕ → 
 group T rows buffer s i zero = []
 group T rows buffer s i (suc k) = grown (pieceAt T rows buffer s i) (λ (z : State). group T rows buffer z (suc i) k)
 
-pub record RowLaid (T rows buffer : List ℕ) (judged : Bool) (from : Cursor) (i at : ℕ) (lent last : List ℕ) (c : Cursor) (end : ℕ) (optional : Bool) : Type 0 where
+pub record RowLaid (T : List ℕ) (old : Bool) (rows buffer : List ℕ) (judged : Bool) (from : Cursor) (i at : ℕ) (lent last : List ℕ) (c : Cursor) (end : ℕ) (optional : Bool) : Type 0 where
   pub piece : Piece
   pub is : pieceAt T rows buffer (stateOf T from) i ≡ some (record { piece = piece; state = stateOf T c })
-  pub right : Gives judged (judgedRow T rows buffer (stateOf T from) i) (out (stateOf T c))
+  pub right : Gives judged (judgedRow T old rows buffer (stateOf T from) i) (out (stateOf T c))
   pub same : c .owner ≡ from .owner
   pub puts : Puts at (pieceBytes piece) lent last end
   pub flag : optional ≡ isOptional piece
   pub near : c .passed ≤ 65536
   pub few : end ≤ at + 66000
 
-abbrev pub RowPut : List ℕ → List ℕ → List ℕ → Bool → Cursor → ℕ → ℕ → List ℕ → List ℕ → Placed → Type 0
-RowPut T rows buffer judged from i at lent last (PutRow c end optional) = RowLaid T rows buffer judged from i at lent last c end optional
-RowPut T rows buffer judged from i at lent last Stop = Gone T from (rowAt rows i .member) × (last ≡ lent)
-RowPut T rows buffer judged from i at lent last (Wrong n) = (judgedRow T rows buffer (stateOf T from) i ≡ stop n i) × (0 < n)
+abbrev pub RowPut : List ℕ → Bool → List ℕ → List ℕ → Bool → Cursor → ℕ → ℕ → List ℕ → List ℕ → Placed → Type 0
+RowPut T old rows buffer judged from i at lent last (PutRow c end optional) = RowLaid T old rows buffer judged from i at lent last c end optional
+RowPut T old rows buffer judged from i at lent last Stop = Gone T from (rowAt rows i .member) × (last ≡ lent)
+RowPut T old rows buffer judged from i at lent last (Wrong n) = (judgedRow T old rows buffer (stateOf T from) i ≡ stop n i) × (0 < n)

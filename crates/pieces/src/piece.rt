@@ -1,4 +1,4 @@
-// Checks one row and puts its member: its header, its length field, its bytes.
+// Checks one row and puts its member: its header, its length field, its bytes. `old` says that the encoding is 1.0, which has other enums and proxies.
 use crate::Cursor;
 use crate::Placed;
 use crate::Reach;
@@ -10,6 +10,7 @@ ghost use Prim.Native.Nat.{_+_, _≤_, _<_};
 ghost use lib.ListN.{length, take, drop};
 ghost use Rattle.encoding.specs.Result.{pick};
 ghost use Rattle.encoding.specs.Table.{typesAt, tyOf};
+ghost use Rattle.encoding.specs.Old.{typeAs};
 ghost use Rattle.encoding.specs.Write.{partOf};
 ghost use Rattle.shapes.specs.Shapes.{shapesOf};
 ghost use Rattle.wire.specs.Row.{asRow};
@@ -79,6 +80,7 @@ fn part_form(
     begin: usize,
     shapes: &[u8; 256],
     t: usize,
+    old: bool,
     judged: bool,
     row: RowNumbers,
     buffer: &[u8],
@@ -86,7 +88,7 @@ fn part_form(
     requires { ⌜ begin ≡ typesAt (now table) ⌝ }
     requires { ⌜ now shapes ≡ shapesOf (now table) ⌝ }
     requires { ⌜ length (now buffer) ≤ 65536 ⌝ }
-    ensures { λ r. ⌜ r ≡ pick judged 0 (partForm (now (buffer .entry)) (asRow row) (tyOf (now (table .entry)) t)) ⌝ }
+    ensures { λ r. ⌜ r ≡ pick judged 0 (partForm (now (buffer .entry)) (asRow row) (typeAs old (tyOf (now (table .entry)) t))) ⌝ }
 {
     if judged {
         return 0;
@@ -95,7 +97,7 @@ fn part_form(
     let len = row.len;
     if wire::fits(buffer.len(), place, len) {
         let e = place + len;
-        if value::exact_value(table, begin, shapes, t, &buffer[place..e]) {
+        if value::exact_value(table, begin, shapes, t, &buffer[place..e], old) {
             return 0;
         }
         return 21;
@@ -128,6 +130,7 @@ pub fn put_row(
     out: &mut [u8],
     at: usize,
     from: Cursor,
+    old: bool,
     judged: bool,
     rows: &[u8],
     i: usize,
@@ -136,14 +139,14 @@ pub fn put_row(
     requires { ⌜ begin ≡ typesAt (now table) ⌝ }
     requires { ⌜ now shapes ≡ shapesOf (now table) ⌝ }
     requires { ⌜ (at ≤ 1152921504606846976) × (i < 4294967296) × (from .passed ≤ 65536) × (length (now buffer) ≤ 65536) ⌝ }
-    ensures { λ r. ⌜ RowPut (now (table .entry)) (now (rows .entry)) (now (buffer .entry)) judged from i at (now (out .entry)) (now (out .exit)) r ⌝ }
+    ensures { λ r. ⌜ RowPut (now (table .entry)) old (now (rows .entry)) (now (buffer .entry)) judged from i at (now (out .entry)) (now (out .exit)) r ⌝ }
 {
     let row = wire::rows::row_at(rows, i);
     let r = state::reach_in(table, begin, from, row.member);
     match r {
         Reach::Due(c) => {
             let t = table::type_of_member(table, begin, row.member);
-            let fault = part_form(table, begin, shapes, t, judged, row, buffer);
+            let fault = part_form(table, begin, shapes, t, old, judged, row, buffer);
             if fault != 0 {
                 return Placed::Wrong(fault);
             }
@@ -152,7 +155,7 @@ pub fn put_row(
         }
         Reach::May(c) => {
             let t = table::type_of_member(table, begin, row.member);
-            let fault = part_form(table, begin, shapes, t, judged, row, buffer);
+            let fault = part_form(table, begin, shapes, t, old, judged, row, buffer);
             if fault != 0 {
                 return Placed::Wrong(fault);
             }

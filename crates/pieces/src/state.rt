@@ -4,7 +4,7 @@ use crate::Reach;
 ghost use mathlib.Core.Path.{_≡_};
 ghost use Prim.Native.Nat.{_≤_, _<_};
 ghost use Rattle.encoding.specs.Table.{typesAt};
-ghost use Rattle.encoding.specs.Write.{anyOf};
+ghost use Rattle.encoding.specs.Old.{anyOf};
 ghost use Rattle.pieces.specs.Cursors.{dueFrom, Settled, ReachedIn};
 
 // How many of the b member rows from a on come before the next required one; all of them if none is due.

@@ -1,21 +1,22 @@
 -- Laws of `Preparing`: what a refusal and what no refusal mean for the reader and for the writer. Assumes nothing.
 --
---   ready-table, ready-early          where ready, the table breaks no rule and none of 2, 23, 3 applies
+--   ready-table, ready-early          where ready, the table breaks no rule and none of 2, 23, 26, 3 applies
 --   ready-top, ready-short            where ready, the top is a row of the table and the length is at most 65,536
 --   reading-ready, reading-refused    the reader's rules where ready, and where refused
 use mathlib.Core.Path.{_≡_, refl, sym, ap, _∙_}
-use mathlib.Core.Bool.{Bool, true, false}
+use mathlib.Core.Bool.{Bool, true, false, _&&_}
 use mathlib.Core.List.{List, [], _∷_}
 use Prim.Native.Nat.{ℕ, zero, suc, _≤_, _<_}
 use native.Mathlib.Omega.{arith}
 use lib.ListN.{length}
-use lib.Dec.{ltb}
+use lib.Dec.{eqb, ltb}
 use borrow.Author.Tests.{ltb-false}
-use Rattle.encoding.specs.Result.{Res, bad, firstOf}
+use Rattle.encoding.specs.Result.{bad, firstOf}
 use Rattle.encoding.specs.ResultLaws.{firstOf-ok}
-use Rattle.encoding.specs.Table.{Fault, fine, fault, faults, ruleNumber}
+use Rattle.encoding.specs.Table.{kind, Fault, fine, fault, faults, ruleNumber}
 use Rattle.encoding.specs.RuleLaws.{types-most}
-use Rattle.encoding.specs.Message.{Read, body, noTop, limit, afterRules, refusedFirst, rules}
+use Rattle.encoding.specs.Old.{noOld}
+use Rattle.encoding.specs.Message.{body, noTop, limit, afterRules, refusedFirst, rules}
 use Rattle.encoding.specs.MessageLaws.{rules-body, top-there}
 use Rattle.encoding.specs.Write.{noFormat}
 use Rattle.prepare.specs.declared.Prepared.{Prepared}
@@ -45,15 +46,16 @@ module _ (T : List ℕ) (top format len : ℕ) (r : Prepared) (er : r ≡ checks
 
     has-top : noTop T top ≡ false
     unfolding before
-    has-top = firstOf-ok 1 (noTop T top) ((23, noFormat format) ∷ (3, ltb limit len) ∷ []) ready-early .0
+    has-top = firstOf-ok 1 (noTop T top) ((23, noFormat (kind T top) format) ∷ (26, eqb format 2 && noOld T top) ∷ (3, ltb limit len) ∷ []) ready-early .0
 
     pub ready-short : len ≤ 65536
     unfolding before
     ready-short =
-        let a = firstOf-ok 1 (noTop T top) ((23, noFormat format) ∷ (3, ltb limit len) ∷ []) ready-early in
-        let b = firstOf-ok 22 (noFormat format) ((3, ltb limit len) ∷ []) (a .1) in
-        let c = firstOf-ok 2 (ltb limit len) [] (b .1) in
-        ltb-false limit len (c .0)
+        let a = firstOf-ok 1 (noTop T top) ((23, noFormat (kind T top) format) ∷ (26, eqb format 2 && noOld T top) ∷ (3, ltb limit len) ∷ []) ready-early in
+        let b = firstOf-ok 22 (noFormat (kind T top) format) ((26, eqb format 2 && noOld T top) ∷ (3, ltb limit len) ∷ []) (a .1) in
+        let c = firstOf-ok 25 (eqb format 2 && noOld T top) ((3, ltb limit len) ∷ []) (b .1) in
+        let d = firstOf-ok 2 (ltb limit len) [] (c .1) in
+        ltb-false limit len (d .0)
 
     pub ready-top : top < 65536
     ready-top = omega (arith, top-there T top has-top .0, types-most T ready-table)
@@ -67,7 +69,7 @@ module _ (T : List ℕ) (top : ℕ) (m : List ℕ) (len : ℕ) (el : len ≡ len
   unfolding checks checked before rules afterRules refusedFirst firstOf noFormat
   reading-refused c p e = table (faults T) (sym er ∙ e)
     where
-      early : (b d : Bool) → checked fine (firstOf ((2, b) ∷ (23, noFormat 1) ∷ (3, d) ∷ [])) ≡ Refused c p
+      early : (b d : Bool) → checked fine (firstOf ((2, b) ∷ (23, noFormat (kind T top) 1) ∷ (26, eqb 1 2 && noOld T top) ∷ (3, d) ∷ [])) ≡ Refused c p
           → refusedFirst (firstOf ((2, b) ∷ (3, d) ∷ [])) (body T top m) ≡ bad c p
       early true d h = let ec : 2 ≡ c = cc in let ep : 0 ≡ p = cc in rw (ec, ep)
       early false true h = let ec : 3 ≡ c = cc in let ep : 0 ≡ p = cc in rw (ec, ep)

@@ -5,11 +5,12 @@
 --   endpoint-cut, -took, -bad               an endpoint
 --   addresses-text, -list                   an adapter; endpoints
 --   endpoints-took, -bad, -none             their number, then the endpoints
---   secured-.., mode-..                     secure, versions, and the endpoints; the mode before them
+--   addressed-.., secured-.., mode-..       versions and the endpoints; secure before them; the mode before that
 --   reference-took, -bad, -none             facets, then the mode and the rest
 --   proxy-nil, -took, -bad, -none           the identity, then the reference; identity-end the identity within the input
 --   held-facets .. held-mode                what these take, and where they refuse, lies within the input
 use mathlib.Core.Path.{_≡_, refl, sym, ap, _∙_}
+use mathlib.Core.Bool.{Bool, true, false}
 use mathlib.Core.List.{List, [], _∷_}
 use Prim.Native.Nat.{ℕ, zero, suc, _+_, _-_, _^_, _≤_, _<_}
 use native.Mathlib.Omega.{arith}
@@ -33,7 +34,7 @@ use Rattle.wire.specs.declared.Sized.{Sized}
 use Rattle.wire.specs.declared.Sized.the-variants.{Is, Isnt}
 use Rattle.wire.specs.Steps.{stepOf, sizedOf, bytesOf}
 use Rattle.wire.specs.StepLaws.{rest-is, sized-is, sized-isnt, bytes-is, bytes-isnt, sized-held, rest-took, rest-bad, then-none, then-took, then-bad, with-none, with-took, with-bad, with-ends}
-use Rattle.proxy.specs.Parts.{named, addresses, secured, mode}
+use Rattle.proxy.specs.Parts.{named, addresses, addressed, secured, mode}
 
 -- ---- an identity
 
@@ -225,113 +226,133 @@ each-cut zero s h = absurd (omega arith)
 each-cut (suc n) [] h = refl
 each-cut (suc n) (x ∷ s) h = rw (le-leb 1 (length (x ∷ s)) (omega arith), each-cut n s (omega arith)) (ap (bad 4) (omega arith))
 
-pub held-secured : Held secured
-unfolding secured versions
-held-secured = held-bind _ _ held-bool λ _. held-bind _ _ (held-times 4 (skip 1) (held-skip 1)) λ _. held-endpoints
+pub held-addressed : (old : Bool) → Held (addressed old)
+unfolding addressed versions
+held-addressed old = held-bind _ _ (held-times (pick old 0 4) (skip 1) (held-skip 1)) λ _. held-endpoints
 
-pub held-mode : Held mode
+pub held-secured : (old : Bool) → Held (secured old)
+unfolding secured
+held-secured old = held-bind _ _ held-bool λ _. held-addressed old
+
+pub held-mode : (old : Bool) → Held (mode old)
 unfolding mode
-held-mode = held-bind _ _ (held-must _ held-byte modeForm) λ _. held-secured
+held-mode old = held-bind _ _ (held-must _ held-byte modeForm) λ _. held-secured old
 
-module _ (s : List ℕ) where
-  pub secured-none : length s < 1 → Fault 4 0 ≡ stepOf (secured s)
+module _ (old : Bool) (s : List ℕ) where
+  pub addressed-old : old ≡ true → (r : Step) → r ≡ stepOf (endpoints s) → r ≡ stepOf (addressed old s)
+  unfolding addressed versions times pure _>>=_ after shift
+  addressed-old h r e = rw h (e ∙ ap stepOf (sym (shift-none (endpoints s))))
+    where
+      shift-none : (x : Res (Unit {0})) → shift 0 x ≡ x
+      shift-none (ok u n) = ap (ok u) (omega arith)
+      shift-none (bad c p) = ap (bad c) (omega arith)
+
+  module _ (o : old ≡ false) where
+    pub addressed-short : length s < 4 → Fault 4 (length s) ≡ stepOf (addressed old s)
+    unfolding addressed versions _>>=_ after stepOf
+    addressed-short h = rw (o, each-cut 4 s h)
+
+    module _ (h : 4 ≤ length s) where
+      addressed-is : addressed old s ≡ shift 4 (endpoints (drop 4 s))
+      unfolding addressed versions _>>=_ after
+      addressed-is = rw (o, each-whole 4 s h)
+
+      module _ (t : Step) (i : t ≡ stepOf (endpoints (take (length s - 4) (drop 4 s)))) where
+        pub addressed-took : (n : ℕ) → t ≡ Took n → Took (4 + n) ≡ stepOf (addressed old s)
+        addressed-took n q = rw addressed-is (rest-took endpoints s 4 t i n q)
+
+        pub addressed-bad : (c p : ℕ) → t ≡ Fault c p → Fault c (4 + p) ≡ stepOf (addressed old s)
+        addressed-bad c p q = rw addressed-is (rest-bad endpoints s 4 t i c p q)
+
+  pub secured-none : length s < 1 → Fault 4 0 ≡ stepOf (secured old s)
   unfolding secured bool mapc made must judged byte number chunk _>>=_ after stepOf
   secured-none h = rw (lt-leb 1 (length s) h)
 
   module _ (b : ℕ) (e : b ≡ at s 1 0) (h : 1 ≤ length s) where
-    pub secured-high : 2 ≤ b → Fault 8 0 ≡ stepOf (secured s)
+    pub secured-high : 2 ≤ b → Fault 8 0 ≡ stepOf (secured old s)
     unfolding secured bool mapc made must judged byte number chunk boolForm _>>=_ after stepOf at
     secured-high l = rw (le-leb 1 (length s) h, ← e, le-ltb b 2 l)
 
-    module _ (l : b < 2) where
-      bool-is : bool s ≡ ok tt 1
-      unfolding bool mapc made must judged byte number chunk boolForm at
-      bool-is = rw (le-leb 1 (length s) h, ← e, lt-ltb b 2 l)
+    secured-is : b < 2 → secured old s ≡ shift 1 (addressed old (drop 1 s))
+    unfolding secured bool mapc made must judged byte number chunk boolForm _>>=_ after at
+    secured-is l = rw (le-leb 1 (length s) h, ← e, lt-ltb b 2 l)
 
-      pub secured-short : length s < 5 → Fault 4 (length s) ≡ stepOf (secured s)
-      unfolding secured versions _>>=_ after shift stepOf
-      secured-short k = rw (bool-is, each-cut 4 (drop 1 s) (omega (arith, length-drop 1 s))) (ap (Fault 4) (omega (arith, length-drop 1 s)))
+    module _ (l : b < 2) (t : Step) (i : t ≡ stepOf (addressed old (take (length s - 1) (drop 1 s)))) where
+      pub secured-took : (n : ℕ) → t ≡ Took n → Took (1 + n) ≡ stepOf (secured old s)
+      secured-took n q = rw (secured-is l) (rest-took (addressed old) s 1 t i n q)
 
-      secured-is : 5 ≤ length s → secured s ≡ shift 5 (endpoints (drop 5 s))
-      unfolding secured versions _>>=_ after
-      secured-is k = rw (bool-is, each-whole 4 (drop 1 s) (omega (arith, length-drop 1 s)), drop-drop) (shift-shift 1 4 _)
+      pub secured-bad : (c p : ℕ) → t ≡ Fault c p → Fault c (1 + p) ≡ stepOf (secured old s)
+      secured-bad c p q = rw (secured-is l) (rest-bad (addressed old) s 1 t i c p q)
 
-      module _ (k : 5 ≤ length s) (t : Step) (i : t ≡ stepOf (endpoints (take (length s - 5) (drop 5 s)))) where
-        pub secured-took : (n : ℕ) → t ≡ Took n → Took (5 + n) ≡ stepOf (secured s)
-        secured-took n q = rw (secured-is k) (rest-took endpoints s 5 t i n q)
-
-        pub secured-bad : (c p : ℕ) → t ≡ Fault c p → Fault c (5 + p) ≡ stepOf (secured s)
-        secured-bad c p q = rw (secured-is k) (rest-bad endpoints s 5 t i c p q)
-
-  pub mode-none : length s < 1 → Fault 4 0 ≡ stepOf (mode s)
+  pub mode-none : length s < 1 → Fault 4 0 ≡ stepOf (mode old s)
   unfolding mode must judged byte number chunk _>>=_ after stepOf
   mode-none h = rw (lt-leb 1 (length s) h)
 
   module _ (b : ℕ) (e : b ≡ at s 1 0) (h : 1 ≤ length s) where
-    pub mode-high : 5 ≤ b → Fault 10 0 ≡ stepOf (mode s)
+    pub mode-high : 5 ≤ b → Fault 10 0 ≡ stepOf (mode old s)
     unfolding mode must judged byte number chunk modeForm _>>=_ after stepOf at
     mode-high l = rw (le-leb 1 (length s) h, ← e, le-ltb b 5 l)
 
-    mode-is : b < 5 → mode s ≡ shift 1 (secured (drop 1 s))
+    mode-is : b < 5 → mode old s ≡ shift 1 (secured old (drop 1 s))
     unfolding mode must judged byte number chunk modeForm _>>=_ after at
     mode-is l = rw (le-leb 1 (length s) h, ← e, lt-ltb b 5 l)
 
-    module _ (l : b < 5) (t : Step) (i : t ≡ stepOf (secured (take (length s - 1) (drop 1 s)))) where
-      pub mode-took : (n : ℕ) → t ≡ Took n → Took (1 + n) ≡ stepOf (mode s)
-      mode-took n q = rw (mode-is l) (rest-took secured s 1 t i n q)
+    module _ (l : b < 5) (t : Step) (i : t ≡ stepOf (secured old (take (length s - 1) (drop 1 s)))) where
+      pub mode-took : (n : ℕ) → t ≡ Took n → Took (1 + n) ≡ stepOf (mode old s)
+      mode-took n q = rw (mode-is l) (rest-took (secured old) s 1 t i n q)
 
-      pub mode-bad : (c p : ℕ) → t ≡ Fault c p → Fault c (1 + p) ≡ stepOf (mode s)
-      mode-bad c p q = rw (mode-is l) (rest-bad secured s 1 t i c p q)
+      pub mode-bad : (c p : ℕ) → t ≡ Fault c p → Fault c (1 + p) ≡ stepOf (mode old s)
+      mode-bad c p q = rw (mode-is l) (rest-bad (secured old) s 1 t i c p q)
 
 -- ---- facets, then the mode and the rest
 
-module _ (s : List ℕ) (r : Step) (e : r ≡ stepOf (facets s)) where
-  pub reference-none : (f p : ℕ) → r ≡ Fault f p → Fault f p ≡ stepOf (reference s)
-  unfolding reference mode secured
-  reference-none f p q = then-none facets mode s r e f p q
+module _ (old : Bool) (s : List ℕ) (r : Step) (e : r ≡ stepOf (facets s)) where
+  pub reference-none : (f p : ℕ) → r ≡ Fault f p → Fault f p ≡ stepOf (reference old s)
+  unfolding reference mode secured addressed
+  reference-none f p q = then-none facets (mode old) s r e f p q
 
-  module _ (n : ℕ) (q : r ≡ Took n) (t : Step) (d : t ≡ stepOf (mode (take (length s - n) (drop n s)))) where
-    pub reference-took : (m : ℕ) → t ≡ Took m → Took (n + m) ≡ stepOf (reference s)
-    unfolding reference mode secured
-    reference-took m g = then-took facets mode s r e n q t d m g
+  module _ (n : ℕ) (q : r ≡ Took n) (t : Step) (d : t ≡ stepOf (mode old (take (length s - n) (drop n s)))) where
+    pub reference-took : (m : ℕ) → t ≡ Took m → Took (n + m) ≡ stepOf (reference old s)
+    unfolding reference mode secured addressed
+    reference-took m g = then-took facets (mode old) s r e n q t d m g
 
-    pub reference-bad : (f p : ℕ) → t ≡ Fault f p → Fault f (n + p) ≡ stepOf (reference s)
-    unfolding reference mode secured
-    reference-bad f p g = then-bad facets mode s r e n q t d f p g
+    pub reference-bad : (f p : ℕ) → t ≡ Fault f p → Fault f (n + p) ≡ stepOf (reference old s)
+    unfolding reference mode secured addressed
+    reference-bad f p g = then-bad facets (mode old) s r e n q t d f p g
 
 -- ---- the identity, then the reference
 
 -- what follows an identity, by the length of its name
-unfoldable follows : ℕ → Parser (Unit {0})
-follows n = pick (eqb n 0) (pure tt) reference
+unfoldable follows : Bool → ℕ → Parser (Unit {0})
+follows old n = pick (eqb n 0) (pure tt) (reference old)
 
-proxy-is : (s : List ℕ) → proxy s ≡ (named >>= follows) s
+proxy-is : (old : Bool) (s : List ℕ) → proxy old s ≡ (named >>= follows old) s
 unfolding proxy named mapc made _>>=_ after follows
-proxy-is s = go (identity s)
+proxy-is old s = go (identity s)
   where
-    go : (r : Res (ℕ × ℕ)) → after r (λ (l : ℕ × ℕ). follows (l .0)) s ≡ after (made (λ (l : ℕ × ℕ) _. l .0) r) follows s
+    go : (r : Res (ℕ × ℕ)) → after r (λ (l : ℕ × ℕ). follows old (l .0)) s ≡ after (made (λ (l : ℕ × ℕ) _. l .0) r) (follows old) s
     go (ok l n) = refl
     go (bad c p) = refl
 
-follows-is : (n : ℕ) → (n ≡ 0 → ⊥) → follows n ≡ reference
+follows-is : (old : Bool) (n : ℕ) → (n ≡ 0 → ⊥) → follows old n ≡ reference old
 unfolding follows
-follows-is n z = rw (ne-eqb n 0 z)
+follows-is old n z = rw (ne-eqb n 0 z)
 
-module _ (s : List ℕ) (r : Sized) (e : r ≡ sizedOf (named s)) where
-  pub identity-end : (n k : ℕ) → r ≡ Is n k → k ≤ length s
-  identity-end n k q = sized-held named held-named s r e n k q
+pub identity-end : (s : List ℕ) (r : Sized) → r ≡ sizedOf (named s) → (n k : ℕ) → r ≡ Is n k → k ≤ length s
+identity-end s r e n k q = sized-held named held-named s r e n k q
 
-  pub proxy-none : (f p : ℕ) → r ≡ Isnt f p → Fault f p ≡ stepOf (proxy s)
-  proxy-none f p q = rw proxy-is (with-none named follows s r e f p q)
+module _ (old : Bool) (s : List ℕ) (r : Sized) (e : r ≡ sizedOf (named s)) where
+  pub proxy-none : (f p : ℕ) → r ≡ Isnt f p → Fault f p ≡ stepOf (proxy old s)
+  proxy-none f p q = rw proxy-is (with-none named (follows old) s r e f p q)
 
   module _ (n k : ℕ) (q : r ≡ Is n k) where
-    pub proxy-nil : n ≡ 0 → Took k ≡ stepOf (proxy s)
+    pub proxy-nil : n ≡ 0 → Took k ≡ stepOf (proxy old s)
     unfolding follows pure
-    proxy-nil z = rw proxy-is (with-ends named follows s r e n k q tt (rw z))
+    proxy-nil z = rw proxy-is (with-ends named (follows old) s r e n k q tt (rw z))
 
-    module _ (z : n ≡ 0 → ⊥) (t : Step) (d : t ≡ stepOf (reference (take (length s - k) (drop k s)))) where
-      pub proxy-took : (m : ℕ) → t ≡ Took m → Took (k + m) ≡ stepOf (proxy s)
-      proxy-took m g = rw proxy-is (with-took named follows s r e n k q t (rw (follows-is n z) d) m g)
+    module _ (z : n ≡ 0 → ⊥) (t : Step) (d : t ≡ stepOf (reference old (take (length s - k) (drop k s)))) where
+      pub proxy-took : (m : ℕ) → t ≡ Took m → Took (k + m) ≡ stepOf (proxy old s)
+      proxy-took m g = rw proxy-is (with-took named (follows old) s r e n k q t (rw (follows-is old n z) d) m g)
 
-      pub proxy-bad : (f p : ℕ) → t ≡ Fault f p → Fault f (k + p) ≡ stepOf (proxy s)
-      proxy-bad f p g = rw proxy-is (with-bad named follows s r e n k q t (rw (follows-is n z) d) f p g)
+      pub proxy-bad : (f p : ℕ) → t ≡ Fault f p → Fault f (k + p) ≡ stepOf (proxy old s)
+      proxy-bad f p g = rw proxy-is (with-bad named (follows old) s r e n k q t (rw (follows-is old n z) d) f p g)

@@ -3,7 +3,7 @@ ghost use mathlib.Core.Path.{_≡_};
 ghost use Rattle.encoding.specs.Result.{times};
 ghost use Rattle.encoding.specs.Proxy.{facets, endpoint, endpoints, reference, proxy};
 ghost use Rattle.wire.specs.Steps.{stepOf, sizedOf};
-ghost use Rattle.proxy.specs.Parts.{named, addresses, secured, mode};
+ghost use Rattle.proxy.specs.Parts.{named, addresses, addressed, secured, mode};
 use wire::Sized;
 use wire::Step;
 
@@ -117,9 +117,26 @@ fn endpoints(s: &[u8]) -> Step
     }
 }
 
-// Secure, protocol and encoding, then the endpoints.
-fn secured(s: &[u8]) -> Step
-    ensures { λ r. ⌜ r ≡ stepOf (secured (now (s .entry))) ⌝ }
+// Protocol and encoding, then the endpoints; encoding 1.0, here and below where `old` says so, has the endpoints alone.
+fn addressed(old: bool, s: &[u8]) -> Step
+    ensures { λ r. ⌜ r ≡ stepOf (addressed old (now (s .entry))) ⌝ }
+{
+    if old {
+        return endpoints(s);
+    }
+    if s.len() < 4 {
+        return Step::Fault(4, s.len());
+    }
+    let step = endpoints(&s[4..]);
+    match step {
+        Step::Took(m) => Step::Took(4 + m),
+        Step::Fault(f, p) => Step::Fault(f, 4 + p),
+    }
+}
+
+// Secure, then those.
+fn secured(old: bool, s: &[u8]) -> Step
+    ensures { λ r. ⌜ r ≡ stepOf (secured old (now (s .entry))) ⌝ }
 {
     if s.len() < 1 {
         return Step::Fault(4, 0);
@@ -127,19 +144,16 @@ fn secured(s: &[u8]) -> Step
     if 2 <= wire::byte_at(s, 0) {
         return Step::Fault(8, 0);
     }
-    if s.len() < 5 {
-        return Step::Fault(4, s.len());
-    }
-    let step = endpoints(&s[5..]);
+    let step = addressed(old, &s[1..]);
     match step {
-        Step::Took(m) => Step::Took(5 + m),
-        Step::Fault(f, p) => Step::Fault(f, 5 + p),
+        Step::Took(m) => Step::Took(1 + m),
+        Step::Fault(f, p) => Step::Fault(f, 1 + p),
     }
 }
 
 // The mode, then all that follows it.
-fn mode(s: &[u8]) -> Step
-    ensures { λ r. ⌜ r ≡ stepOf (mode (now (s .entry))) ⌝ }
+fn mode(old: bool, s: &[u8]) -> Step
+    ensures { λ r. ⌜ r ≡ stepOf (mode old (now (s .entry))) ⌝ }
 {
     if s.len() < 1 {
         return Step::Fault(4, 0);
@@ -147,7 +161,7 @@ fn mode(s: &[u8]) -> Step
     if 5 <= wire::byte_at(s, 0) {
         return Step::Fault(10, 0);
     }
-    let step = secured(&s[1..]);
+    let step = secured(old, &s[1..]);
     match step {
         Step::Took(m) => Step::Took(1 + m),
         Step::Fault(f, p) => Step::Fault(f, 1 + p),
@@ -155,13 +169,13 @@ fn mode(s: &[u8]) -> Step
 }
 
 // All that follows an identity that is not nil: the facets, then the mode and the rest.
-fn reference(s: &[u8]) -> Step
-    ensures { λ r. ⌜ r ≡ stepOf (reference (now (s .entry))) ⌝ }
+fn reference(old: bool, s: &[u8]) -> Step
+    ensures { λ r. ⌜ r ≡ stepOf (reference old (now (s .entry))) ⌝ }
 {
     let first = facets(s);
     match first {
         Step::Took(n) => {
-            let step = mode(&s[n..]);
+            let step = mode(old, &s[n..]);
             match step {
                 Step::Took(m) => Step::Took(n + m),
                 Step::Fault(f, p) => Step::Fault(f, n + p),
@@ -172,8 +186,8 @@ fn reference(s: &[u8]) -> Step
 }
 
 // A proxy: an identity, then a reference; an empty identity is the nil proxy and ends it.
-pub fn proxy(s: &[u8]) -> Step
-    ensures { λ r. ⌜ r ≡ stepOf (proxy (now (s .entry))) ⌝ }
+pub fn proxy(old: bool, s: &[u8]) -> Step
+    ensures { λ r. ⌜ r ≡ stepOf (proxy old (now (s .entry))) ⌝ }
 {
     let z = identity(s);
     match z {
@@ -181,7 +195,7 @@ pub fn proxy(s: &[u8]) -> Step
             if n == 0 {
                 return Step::Took(k);
             }
-            let step = reference(&s[k..]);
+            let step = reference(old, &s[k..]);
             match step {
                 Step::Took(m) => Step::Took(k + m),
                 Step::Fault(f, p) => Step::Fault(f, k + p),

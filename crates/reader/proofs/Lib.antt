@@ -1,3 +1,4 @@
 -- Laws that several proofs cite.
 pub mod Listing
 pub mod Bodies
+pub mod OldListing

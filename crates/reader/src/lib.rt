@@ -1,39 +1,55 @@
 // The walk over a message under a prepared table.
-// lists.rt has a parameter list; `slices` has the slices of a record.
+// lists.rt has a parameter list; `slices` has the slices of a record, `pairs` the pairs of an exception in encoding 1.0.
 pub mod lists;
 
 ghost use mathlib.Core.Path.{_≡_};
-ghost use Prim.Native.Nat.{ℕ};
-ghost use lib.ListN.{length};
+ghost use Prim.Native.Nat.{ℕ, _≤_};
+ghost use lib.ListN.{length, drop};
 ghost use Rattle.encoding.specs.Result.{ok, must};
 ghost use Rattle.encoding.specs.Number.{byte};
-ghost use Rattle.encoding.specs.Table.{typesAt};
-ghost use Rattle.encoding.specs.Message.{Read, markerForm, body, rows};
-ghost use Rattle.wire.specs.Steps.{stepOf};
+ghost use Rattle.encoding.specs.Table.{typesAt, kind as kind-of};
+ghost use Rattle.encoding.specs.Old.{leadForm};
+ghost use Rattle.encoding.specs.Message.{Read, markerForm, outer, contents, oldContents, body, rows};
+ghost use Rattle.wire.specs.Steps.{stepOf, sizedOf};
 ghost use Rattle.shapes.specs.Shapes.{shapesOf};
 ghost use Rattle.level.specs.Fill.{fill};
-ghost use Rattle.slices.specs.Walks.{capsule, markerOf, endedWalk, bodyWalk};
+ghost use Rattle.slices.specs.Walks.{markerOf, endedWalk, readWalk, bodyWalk};
 use slices::Walk;
+use wire::Sized;
 use wire::Step;
 
-// The encapsulation's size and version.
-fn capsule(m: &[u8]) -> Step
-    ensures { λ r. ⌜ r ≡ stepOf (capsule (now (m .entry))) ⌝ }
+// The encapsulation's size and version, 1.0 or 1.1; 26, at the first byte, where 1.0 cannot be used. Gives the version, as a number of two bytes.
+// Here and below, `begin` is where the type rows begin, and `kind` the top's kind.
+// Wrong and ruled out: 1.0 accepted for a class; 26 at the version.
+fn capsule(table: &[u8], begin: usize, top: usize, kind: usize, m: &[u8]) -> Sized
+    requires { ⌜ begin ≡ typesAt (now table) ⌝ }
+    requires { ⌜ kind ≡ kind-of (now table) top ⌝ }
+    ensures { λ r. ⌜ r ≡ sizedOf (outer (now (table .entry)) top (length (now (m .entry))) (now (m .entry))) ⌝ }
 {
     if m.len() < 4 {
-        return Step::Fault(4, 0);
+        return Sized::Isnt(4, 0);
     }
     let n = wire::int_at(m, 0);
     if n < 6 {
-        return Step::Fault(5, 0);
+        return Sized::Isnt(5, 0);
     }
     if n != m.len() {
-        return Step::Fault(5, 0);
+        return Sized::Isnt(5, 0);
     }
-    if wire::short_at(m, 4) != 257 {
-        return Step::Fault(6, 4);
+    let version = wire::short_at(m, 4);
+    if version == 257 {
+        return Sized::Is(257, 6);
     }
-    Step::Took(6)
+    if version != 1 {
+        return Sized::Isnt(6, 4);
+    }
+    if kind == 14 {
+        return Sized::Isnt(6, 4);
+    }
+    if old::no_old(table, begin, top) {
+        return Sized::Isnt(26, 0);
+    }
+    Sized::Is(1, 6)
 }
 
 // A class instance's marker byte.
@@ -75,7 +91,76 @@ fn ended(w: Walk, len: usize) -> Walk
     }
 }
 
-// Reads a message under a prepared table and a top, and puts a row for each known member. `begin` is where the type rows begin.
+// The header byte of a 1.0 exception.
+fn lead(s: &[u8]) -> Step
+    ensures { λ r. ⌜ r ≡ stepOf (must leadForm byte (now (s .entry))) ⌝ }
+{
+    if s.len() < 1 {
+        return Step::Fault(4, 0);
+    }
+    if wire::byte_at(s, 0) != 0 {
+        return Step::Fault(25, 0);
+    }
+    Step::Took(1)
+}
+
+// What an encapsulation of 1.1 holds, with a row for each known member.
+fn contents(
+    table: &[u8],
+    begin: usize,
+    shapes: &[u8; 256],
+    top: usize,
+    kind: usize,
+    m: &[u8],
+    out: &mut [u8],
+) -> Walk
+    requires { ⌜ begin ≡ typesAt (now table) ⌝ }
+    requires { ⌜ now shapes ≡ shapesOf (now table) ⌝ }
+    requires { ⌜ kind ≡ kind-of (now table) top ⌝ }
+    requires { ⌜ 6 ≤ length (now m) ⌝ }
+    ensures { λ r. ⌜ r ≡ readWalk (now (table .entry)) top 6 (contents (now (table .entry)) top (drop 6 (now (m .entry)))) ⌝ }
+    ensures { λ _. ⌜ length (now (out .exit)) ≡ length (now (out .entry)) ⌝ }
+    ensures { λ _. ⌜ ((r : Read) (n : ℕ) → contents (now (table .entry)) top (drop 6 (now (m .entry))) ≡ ok r n → now (out .exit) ≡ fill 0 (rows (now (table .entry)) top (r .format) (r .pieces)) (now (out .entry))) ⌝ }
+{
+    if kind == 15 {
+        return lists::list(table, begin, shapes, top, m, 6, out);
+    }
+    let mark = marker_of(kind, &m[6..]);
+    match mark {
+        Step::Took(l) => slices::walks::slices(table, begin, shapes, top, m, 6 + l, out),
+        Step::Fault(c, p) => Walk::Stop(c, 6 + p),
+    }
+}
+
+// What an encapsulation of 1.0 holds.
+fn old_contents(
+    table: &[u8],
+    begin: usize,
+    shapes: &[u8; 256],
+    top: usize,
+    kind: usize,
+    m: &[u8],
+    out: &mut [u8],
+) -> Walk
+    requires { ⌜ begin ≡ typesAt (now table) ⌝ }
+    requires { ⌜ now shapes ≡ shapesOf (now table) ⌝ }
+    requires { ⌜ kind ≡ kind-of (now table) top ⌝ }
+    requires { ⌜ 6 ≤ length (now m) ⌝ }
+    ensures { λ r. ⌜ r ≡ readWalk (now (table .entry)) top 6 (oldContents (now (table .entry)) top (drop 6 (now (m .entry)))) ⌝ }
+    ensures { λ _. ⌜ length (now (out .exit)) ≡ length (now (out .entry)) ⌝ }
+    ensures { λ _. ⌜ ((r : Read) (n : ℕ) → oldContents (now (table .entry)) top (drop 6 (now (m .entry))) ≡ ok r n → now (out .exit) ≡ fill 0 (rows (now (table .entry)) top (r .format) (r .pieces)) (now (out .entry))) ⌝ }
+{
+    if kind == 15 {
+        return lists::old_list(table, begin, shapes, top, m, 6, out);
+    }
+    let first = lead(&m[6..]);
+    match first {
+        Step::Took(l) => pairs::walks::pairs(table, begin, shapes, top, m, 7, out),
+        Step::Fault(c, p) => Walk::Stop(c, 6 + p),
+    }
+}
+
+// Reads a message under a prepared table and a top, and puts a row for each known member. The version alone decides what follows it.
 pub fn body(
     table: &[u8],
     begin: usize,
@@ -90,22 +175,18 @@ pub fn body(
     ensures { λ _. ⌜ length (now (out .exit)) ≡ length (now (out .entry)) ⌝ }
     ensures { λ _. ⌜ ((r : Read) (n : ℕ) → body (now (table .entry)) top (now (m .entry)) ≡ ok r n → now (out .exit) ≡ fill 0 (rows (now (table .entry)) top (r .format) (r .pieces)) (now (out .entry))) ⌝ }
 {
-    let step = capsule(m);
-    match step {
-        Step::Took(n) => {
-            let k = table::kind(table, begin, top);
-            if k == 15 {
-                return ended(lists::list(table, begin, shapes, top, m, 6, out), m.len());
-            }
-            let mark = marker_of(k, &m[6..]);
-            match mark {
-                Step::Took(l) => ended(
-                    slices::walks::slices(table, begin, shapes, top, m, 6 + l, out),
+    let kind = table::kind(table, begin, top);
+    let version = capsule(table, begin, top, kind, m);
+    match version {
+        Sized::Is(v, n) => {
+            if v == 1 {
+                return ended(
+                    old_contents(table, begin, shapes, top, kind, m, out),
                     m.len(),
-                ),
-                Step::Fault(c, p) => Walk::Stop(c, 6 + p),
+                );
             }
+            ended(contents(table, begin, shapes, top, kind, m, out), m.len())
         }
-        Step::Fault(c, p) => Walk::Stop(c, p),
+        Sized::Isnt(c, p) => Walk::Stop(c, p),
     }
 }

@@ -1,15 +1,17 @@
-// The walk over a parameter list.
+// The walk over a parameter list, in either encoding.
 ghost use mathlib.Core.Path.{_≡_};
+ghost use mathlib.Core.Bool.{true};
 ghost use mathlib.Core.List.{List};
 ghost use Prim.Native.Nat.{ℕ, _≤_};
 ghost use lib.ListN.{length, drop};
 ghost use Rattle.encoding.specs.Result.{ok};
-ghost use Rattle.encoding.specs.Table.{typesAt};
-ghost use Rattle.encoding.specs.Optional.{Piece};
+ghost use Rattle.encoding.specs.Table.{typesAt, requiredMembers};
+ghost use Rattle.encoding.specs.Optional.{Piece, requireds};
+ghost use Rattle.encoding.specs.Old.{membersAs};
 ghost use Rattle.encoding.specs.Message.{parameters, pieceRows};
 ghost use Rattle.shapes.specs.Shapes.{shapesOf};
 ghost use Rattle.level.specs.Fill.{fill};
-ghost use Rattle.slices.specs.Walks.{listWalk};
+ghost use Rattle.slices.specs.Walks.{listWalk, oldWalk};
 use level::Members;
 use level::Optional;
 use slices::Walk;
@@ -31,7 +33,7 @@ pub fn list(
     ensures { λ _. ⌜ length (now (out .exit)) ≡ length (now (out .entry)) ⌝ }
     ensures { λ _. ⌜ ((ps : List Piece) (n : ℕ) → parameters (now (table .entry)) top (drop start (now (m .entry))) ≡ ok ps n → now (out .exit) ≡ fill 0 (pieceRows (now (table .entry)) top start ps) (now (out .entry))) ⌝ }
 {
-    let members = level::required(table, begin, shapes, top, &m[start..], start, 0, out);
+    let members = level::required(table, begin, shapes, top, &m[start..], start, 0, out, false);
     match members {
         Members::Read(n, k, opt) => {
             let stop = table::chain::member_end(table, begin, top);
@@ -72,6 +74,30 @@ pub fn list(
             }
             Walk::Done(top, 1, count, optionals, 0, at)
         }
+        Members::Refused(c, p) => Walk::Stop(c, start + p),
+    }
+}
+
+// A parameter list of encoding 1.0 from a place on: required members as declared, with a row for each.
+pub fn old_list(
+    table: &[u8],
+    begin: usize,
+    shapes: &[u8; 256],
+    top: usize,
+    m: &[u8],
+    start: usize,
+    out: &mut [u8],
+) -> Walk
+    requires { ⌜ begin ≡ typesAt (now table) ⌝ }
+    requires { ⌜ start ≤ length (now m) ⌝ }
+    requires { ⌜ now shapes ≡ shapesOf (now table) ⌝ }
+    ensures { λ r. ⌜ r ≡ oldWalk (now (table .entry)) top start (requireds (membersAs true (requiredMembers (now (table .entry)) top)) (drop start (now (m .entry)))) ⌝ }
+    ensures { λ _. ⌜ length (now (out .exit)) ≡ length (now (out .entry)) ⌝ }
+    ensures { λ _. ⌜ ((ps : List Piece) (n : ℕ) → requireds (membersAs true (requiredMembers (now (table .entry)) top)) (drop start (now (m .entry))) ≡ ok ps n → now (out .exit) ≡ fill 0 (pieceRows (now (table .entry)) top start ps) (now (out .entry))) ⌝ }
+{
+    let members = level::required(table, begin, shapes, top, &m[start..], start, 0, out, true);
+    match members {
+        Members::Read(n, k, next) => Walk::Done(top, 2, k, 0, 0, start + n),
         Members::Refused(c, p) => Walk::Stop(c, start + p),
     }
 }

@@ -22,8 +22,8 @@ use borrow.Author.Tests.{le-leb, lt-leb, ne-eqb}
 use Rattle.encoding.specs.Result.{Res, ok, bad, pick, concat}
 use Rattle.encoding.specs.ResultLaws.{ok≢bad}
 use Rattle.encoding.specs.Number.{Bytes}
-use Rattle.encoding.specs.Slice.{Format, sliced, compact, formatNumber}
-use Rattle.encoding.specs.Message.{Read, body, limit, rules, Row, rows, rowBytes, firstKnown, optionalsSkipped, slicesSkipped, Answer, refused, accepted, answer, room, within, reading, listed, readingOf}
+use Rattle.encoding.specs.Slice.{sliced, compact}
+use Rattle.encoding.specs.Message.{Encoding, v10, v11, encodingNumber, Read, body, limit, rules, Row, rows, rowBytes, firstKnown, optionalsSkipped, slicesSkipped, Answer, refused, accepted, answer, room, within, reading, listed, readingOf}
 use Rattle.encoding.specs.MessageLaws.{length-rows}
 use Rattle.encoding.specs.declared.Reading.{Reading}
 use Rattle.encoding.specs.declared.Reading.the-variants.{Accepted, Refused}
@@ -72,9 +72,10 @@ module _ (w : Walk) (c p : ℕ) (q : w ≡ Stop c p) where
 low-small : (x : ℕ) → x ≤ limit → low x ≡ x
 low-small x h = omega arith
 
-format-small : (f : Format) → formatNumber f ≤ limit
-format-small sliced = omega arith
-format-small compact = omega arith
+format-small : (f : Encoding) → encodingNumber f ≤ limit
+format-small v10 = omega arith
+format-small (v11 sliced) = omega arith
+format-small (v11 compact) = omega arith
 
 -- ---- the answer
 
@@ -87,7 +88,7 @@ told-accepted T top rd n k S = go (leb (length (rows T top (rd .format) (rd .pie
     t = firstKnown T top (rd .pieces)
 
     g : ℕ
-    g = formatNumber (rd .format)
+    g = encodingNumber (rd .format)
 
     c : ℕ
     c = length (rows T top (rd .format) (rd .pieces))

@@ -6,7 +6,7 @@
 --   widthsFrom n ts      the widths of a struct's members, added to n; 0 where one of them has none
 --   structShape w b      the shape of a struct of width w: 18 + w; without a width that of a container, by whether it is fixed-size
 --   shapeOf ty           the shape of a type: 0 bool, 4 enum, 7 sequence of bool or byte, 8 string, 9 other containers and structs of fixed-size parts,
---                        10 those of other parts, proxy and broken; 10 + w a byte or number of w bytes, 18 + w a struct of width w
+--                        10 those of other parts, proxy, broken and the enum of 1.0; 10 + w a byte or number of w bytes, 18 + w a struct of width w
 --   plainShape k         the shape of a row without parts, by its kind
 --   shapeAt t, shapesOf  the shape of row t; those of the rows 0 to 255
 --   Shaped l t           the array l has the shapes of the rows below t
@@ -22,7 +22,7 @@ use mathlib.Core.List.{List, [], _∷_, map}
 use lib.ListN.{getD}
 use lib.Dec.{eqb, leb, ltb}
 use Rattle.encoding.specs.Result.{pick}
-use Rattle.encoding.specs.Types.{width, Ty, Tys, nil, cons, broken, bool, byte, string, proxy, num, enum, struct, seq, dict, fixed, fixeds, single, Form, bare, own, counted, sized, bits}
+use Rattle.encoding.specs.Types.{width, Ty, Tys, nil, cons, broken, bool, byte, string, proxy, oldProxy, num, enum, oldEnum, struct, seq, dict, fixed, fixeds, single, Form, bare, own, counted, sized, bits}
 use Rattle.encoding.specs.Table.{range, tyOf}
 
 unfoldable pub formNumber : Form → ℕ
@@ -43,8 +43,10 @@ unfoldable mutual
   widthOf byte = 1
   widthOf string = 0
   widthOf proxy = 0
+  widthOf oldProxy = 0
   widthOf (num w) = width w
   widthOf (enum g) = 0
+  widthOf (oldEnum g) = 0
   widthOf (struct ts) = narrow (widthsFrom 0 ts)
   widthOf (seq t) = 0
   widthOf (dict k v) = 0
@@ -62,8 +64,10 @@ shapeOf bool = 0
 shapeOf byte = 11
 shapeOf string = 8
 shapeOf proxy = 10
+shapeOf oldProxy = 10
 shapeOf (num w) = 10 + width w
 shapeOf (enum g) = 4
+shapeOf (oldEnum g) = 10
 shapeOf (struct ts) = structShape (widthOf (struct ts)) (fixeds ts)
 shapeOf (seq t) = pick (single t) 7 (pick (fixed t) 9 10)
 shapeOf (dict k v) = pick (fixed k && fixed v) 9 10

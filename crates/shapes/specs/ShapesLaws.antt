@@ -2,6 +2,7 @@
 --
 --   width-fixed     a type with a width is fixed-size
 --   width-takes     so many bytes of any content are one value
+--   width-as        the width is the same in encoding 1.0
 --   shape-form      a shape's form is that of the type; shape-width its width
 --   shape-text, shape-bool, shape-enum   only a string has shape 8, only a bool 0, of all rows only an enum 4
 --   range-at        an element of a list made over a range
@@ -17,8 +18,9 @@ use lib.Dec.{eqb, leb, ltb}
 use borrow.Author.Tests.{ne-eqb, eqb-true, eqb-false, ltb-true, ltb-false, le-ltb}
 use Rattle.encoding.specs.Result.{ok, pick, skip, pure}
 use Rattle.encoding.specs.ResultLaws.{bind-step, chunk-step}
-use Rattle.encoding.specs.Types.{short, int, long, float, double, Ty, Tys, nil, cons, broken, bool, byte, string, proxy, num, enum, struct, seq, dict, fixed, fixeds, single, Form, counted, sized, formOf}
+use Rattle.encoding.specs.Types.{short, int, long, float, double, Ty, Tys, nil, cons, broken, bool, byte, string, proxy, oldProxy, num, enum, oldEnum, struct, seq, dict, fixed, fixeds, single, Form, counted, sized, formOf}
 use Rattle.encoding.specs.Value.{value, values}
+use Rattle.encoding.specs.Old.{asOld, asOlds, typeAs}
 use Rattle.encoding.specs.Table.{kind, field, allowed, range, memberTys, ownRows, rowTy, tys, typeRows, tyOf}
 use Rattle.encoding.specs.TableLaws.{rows-below, ty-row, ty-past}
 use Rattle.shapes.specs.Shapes.{formNumber, narrow, widthOf, widthsFrom, shapeOf, shapeAt, shapesOf, formCode, widthCode, shapeIn, formIn, widthIn, isTextIn, isBoolIn, isEnumIn}
@@ -41,8 +43,10 @@ mutual
   width-fixed byte h = refl
   width-fixed string h = absurd (omega arith)
   width-fixed proxy h = absurd (omega arith)
+  width-fixed oldProxy h = absurd (omega arith)
   width-fixed (num w) h = refl
   width-fixed (enum g) h = absurd (omega arith)
+  width-fixed (oldEnum g) h = absurd (omega arith)
   width-fixed (struct ts) h = widths-fixed 0 ts (rw (narrow-most (widthsFrom 0 ts) h) at h)
   width-fixed (seq t) h = absurd (omega arith)
   width-fixed (dict k v) h = absurd (omega arith)
@@ -65,8 +69,10 @@ mutual
   width-takes byte h xs l = chunk-step 1 (λ _. tt) xs l
   width-takes string h xs l = absurd (omega arith)
   width-takes proxy h xs l = absurd (omega arith)
+  width-takes oldProxy h xs l = absurd (omega arith)
   width-takes (num w) h xs l = chunk-step (widthOf (num w)) (λ _. tt) xs l
   width-takes (enum g) h xs l = absurd (omega arith)
+  width-takes (oldEnum g) h xs l = absurd (omega arith)
   width-takes (struct ts) h xs l =
       let e = narrow-most (widthsFrom 0 ts) h in
       let W = widths-take 0 ts (rw e at h) in
@@ -95,6 +101,32 @@ mutual
                 ∙ ap (ok tt) (omega arith),
           )
 
+-- bytes and numbers are the same in encoding 1.0
+mutual
+  unfolding widthOf widthsFrom asOld asOlds
+
+  width-old : (t : Ty) → widthOf (asOld t) ≡ widthOf t
+  width-old broken = refl
+  width-old bool = refl
+  width-old byte = refl
+  width-old string = refl
+  width-old proxy = refl
+  width-old oldProxy = refl
+  width-old (num w) = refl
+  width-old (enum g) = refl
+  width-old (oldEnum g) = refl
+  width-old (struct ts) = ap narrow (widths-old 0 ts)
+  width-old (seq t) = refl
+  width-old (dict k v) = refl
+
+  widths-old : (n : ℕ) (ts : Tys) → widthsFrom n (asOlds ts) ≡ widthsFrom n ts
+  widths-old n nil = refl
+  widths-old n (cons t ts) = rw (width-old t, widths-old (n + widthOf t) ts)
+
+pub width-as : (old : Bool) (t : Ty) → widthOf (typeAs old t) ≡ widthOf t
+width-as true t = width-old t
+width-as false t = refl
+
 -- ---- a shape
 
 code-struct : (w : ℕ) → 0 < w → formCode (18 + w) ≡ 9
@@ -108,12 +140,14 @@ shape-form bool = refl
 shape-form byte = refl
 shape-form string = refl
 shape-form proxy = refl
+shape-form oldProxy = refl
 shape-form (num short) = refl
 shape-form (num int) = refl
 shape-form (num long) = refl
 shape-form (num float) = refl
 shape-form (num double) = refl
 shape-form (enum g) = refl
+shape-form (oldEnum g) = refl
 shape-form (struct ts) = go (eqb (widthOf (struct ts)) 0) refl (fixeds ts) refl
   where
     go : (a : Bool) → eqb (widthOf (struct ts)) 0 ≡ a → (b : Bool) → fixeds ts ≡ b → formCode (pick a (pick b 9 10) (18 + widthOf (struct ts))) ≡ formNumber (pick b counted sized)
@@ -140,12 +174,14 @@ shape-width bool = refl
 shape-width byte = refl
 shape-width string = refl
 shape-width proxy = refl
+shape-width oldProxy = refl
 shape-width (num short) = refl
 shape-width (num int) = refl
 shape-width (num long) = refl
 shape-width (num float) = refl
 shape-width (num double) = refl
 shape-width (enum g) = refl
+shape-width (oldEnum g) = refl
 shape-width (struct ts) = go (narrow (widthsFrom 0 ts)) (eqb (narrow (widthsFrom 0 ts)) 0) refl (fixeds ts)
   where
     go : (w : ℕ) (a : Bool) → eqb w 0 ≡ a → (b : Bool) → widthCode (pick a (pick b 9 10) (18 + w)) ≡ w
@@ -198,8 +234,10 @@ shape-text bool h = absurd (omega arith)
 shape-text byte h = absurd (omega arith)
 shape-text string h = refl
 shape-text proxy h = absurd (omega arith)
+shape-text oldProxy h = absurd (omega arith)
 shape-text (num w) h = absurd (omega arith)
 shape-text (enum g) h = absurd (omega arith)
+shape-text (oldEnum g) h = absurd (omega arith)
 shape-text (struct ts) h = absurd (omega (arith, struct-shape ts))
 shape-text (seq t) h = absurd (seq-shape t .1 h)
 shape-text (dict k v) h = absurd (omega (arith, dict-shape k v))
@@ -211,8 +249,10 @@ shape-bool bool h = refl
 shape-bool byte h = absurd (omega arith)
 shape-bool string h = absurd (omega arith)
 shape-bool proxy h = absurd (omega arith)
+shape-bool oldProxy h = absurd (omega arith)
 shape-bool (num w) h = absurd (omega arith)
 shape-bool (enum g) h = absurd (omega arith)
+shape-bool (oldEnum g) h = absurd (omega arith)
 shape-bool (struct ts) h = absurd (omega (arith, struct-shape ts))
 shape-bool (seq t) h = absurd (omega (arith, seq-shape t .0))
 shape-bool (dict k v) h = absurd (omega (arith, dict-shape k v))

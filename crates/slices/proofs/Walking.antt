@@ -255,7 +255,7 @@ module _ {T : List ℕ} {top : ℕ} {m : List ℕ} {whole : WalkEnd} {stage : St
               begun = omega arith;
               inside = at-within;
               within = known-within;
-              few = omega (arith, inv .few, owner-counts, R .2, required-few T t part (R .0) n (R .1), field-below T (inv .small) t 1);
+              few = omega (arith, inv .few, owner-counts, R .2, required-few false T t part (R .0) n (R .1), field-below T (inv .small) t 1);
               fewer = omega (arith, inv .fewer);
               fewest = inv .fewest;
               sized = λ y. omega (arith, opened-sized T top (stageOf stage) (drop pos m) t opt z a b opened y);

@@ -21,7 +21,7 @@ use Rattle.encoding.specs.Result.{Res, ok, bad, Parser, pick, many, atMark, atE
 use Rattle.encoding.specs.Table.{Member, optionalMembers, base, chain, upward}
 use Rattle.encoding.specs.Optional.{Piece, nextOptional}
 use Rattle.encoding.specs.Slice.{compact, sliced, formatNumber, Slice, Stage, seek, follow, standOf, Chain, walk}
-use Rattle.encoding.specs.Message.{Row, pieceRows, sliceRows, firstIn, skippedPieces, skippedIn, passedIn}
+use Rattle.encoding.specs.Message.{v11, Row, pieceRows, sliceRows, firstIn, skippedPieces, skippedIn, passedIn}
 use Rattle.level.specs.Fill.{fill}
 use Rattle.slices.specs.declared.Walk.{Walk}
 use Rattle.slices.specs.declared.Walk.the-variants.{Done, Stop}
@@ -53,7 +53,7 @@ onward T top st xs = walk T top (length xs) st xs
 
 -- the rows of the slices ahead
 unfoldable pub rowsFrom : List ℕ → Stage → ℕ → Chain → List Row
-rowsFrom T st at c = sliceRows T (c .format) (standOf st) at (owners T st (c .list)) (c .list)
+rowsFrom T st at c = sliceRows T (v11 (c .format)) (standOf st) at (owners T st (c .list)) (c .list)
 
 -- k rows, o optionals and s slices skipped so far, and the first known type, if there is one yet
 unfoldable pub left : List ℕ → Stage → (at k o s first : ℕ) → List ℕ → Res Chain → WalkEnd

@@ -28,7 +28,7 @@ use Rattle.encoding.specs.WeightLaws.{requireds-weight}
 use Rattle.encoding.specs.Slice.{Format, sliced, compact, isSliced, formatNumber, Slice, known, passed, Stand, first, later, Stage, seek, follow, standOf, finished, Chain, ahead, someForm, fields, slice, walk, sliceFront, dataBytes, isLast}
 use Rattle.encoding.specs.SliceLaws.{walk-ended, walk-on, walk-enough}
 use Rattle.encoding.specs.WalkLaws.{walk-of}
-use Rattle.encoding.specs.Message.{Row, rowBytes, parameters, pieceRows, sliceRows, firstIn, skippedPieces, skippedIn, passedIn}
+use Rattle.encoding.specs.Message.{v11, Row, rowBytes, parameters, pieceRows, sliceRows, firstIn, skippedPieces, skippedIn, passedIn}
 use Rattle.wire.specs.Put.{put}
 use Rattle.level.specs.Fill.{fill}
 use Rattle.level.specs.FillLaws.{fill-append}
@@ -131,9 +131,9 @@ module _ (T : List ℕ) (stand : Stand) (b : Bool) (nm d : List ℕ) (at n : ℕ
       → rowsFrom T (seek stand) at (ahead skippedSlice c) ≡ rowsFrom T (seek (later sliced)) (at + n) c
   unfolding rowsFrom owners firstIn ahead standOf sliceRows
   skipped-rows-from w c f =
-      ap (λ (g : Format). sliceRows T g (later g) (at + length (sliceFront g stand (isLast (c .list)) skippedSlice) + length d) (chain T (firstIn T (c .list))) (c .list)) f
-      ∙ ap (λ (i : ℕ). sliceRows T sliced (later sliced) i (chain T (firstIn T (c .list))) (c .list)) (omega (arith, w (isLast (c .list))))
-      ∙ sym (ap (λ (g : Format). sliceRows T g (later sliced) (at + n) (chain T (firstIn T (c .list))) (c .list)) f)
+      ap (λ (g : Format). sliceRows T (v11 g) (later g) (at + length (sliceFront g stand (isLast (c .list)) skippedSlice) + length d) (chain T (firstIn T (c .list))) (c .list)) f
+      ∙ ap (λ (i : ℕ). sliceRows T (v11 sliced) (later sliced) i (chain T (firstIn T (c .list))) (c .list)) (omega (arith, w (isLast (c .list))))
+      ∙ sym (ap (λ (g : Format). sliceRows T (v11 g) (later sliced) (at + n) (chain T (firstIn T (c .list))) (c .list)) f)
 
   skipped-step : ((last : Bool) → length (sliceFront sliced stand last skippedSlice) + length d ≡ n) → (k o s fst : ℕ) (out : List ℕ) (r : Res Chain)
       → ((c : Chain) (m : ℕ) → r ≡ ok c m → c .format ≡ sliced)
@@ -171,11 +171,11 @@ module _ (T : List ℕ) (st : Stage) (g : Format) (t b : ℕ) (nm : List ℕ) (p
   known-rows-from : (c : Chain) → c .format ≡ g → rowsFrom T st at (ahead (known nm ps) c) ≡ pieceRows T t (at + a) ps ++ rowsFrom T (follow g b) (at + a + n) c
   unfolding rowsFrom owners ahead standOf sliceRows
   known-rows-from c f =
-      ap (λ (ts : List ℕ). sliceRows T (c .format) (standOf st) at ts (known nm ps ∷ c .list)) (own (c .list))
+      ap (λ (ts : List ℕ). sliceRows T (v11 (c .format)) (standOf st) at ts (known nm ps ∷ c .list)) (own (c .list))
       ∙ ap (λ (h : Format). pieceRows T t (at + length (sliceFront h (standOf st) (isLast (c .list)) (known nm ps))) ps
-      ++ sliceRows T h (later h) (at + length (sliceFront h (standOf st) (isLast (c .list)) (known nm ps)) + length (dataBytes (known nm ps))) (upward (chain T) b) (c .list)) f
-      ∙ ap₂ (λ (i j : ℕ). pieceRows T t (at + i) ps ++ sliceRows T g (later g) (at + i + j) (upward (chain T) b) (c .list)) (place (isLast (c .list))) (sym weight)
-      ∙ sym (ap (λ (h : Format). pieceRows T t (at + a) ps ++ sliceRows T h (later g) (at + a + n) (upward (chain T) b) (c .list)) f)
+      ++ sliceRows T (v11 h) (later h) (at + length (sliceFront h (standOf st) (isLast (c .list)) (known nm ps)) + length (dataBytes (known nm ps))) (upward (chain T) b) (c .list)) f
+      ∙ ap₂ (λ (i j : ℕ). pieceRows T t (at + i) ps ++ sliceRows T (v11 g) (later g) (at + i + j) (upward (chain T) b) (c .list)) (place (isLast (c .list))) (sym weight)
+      ∙ sym (ap (λ (h : Format). pieceRows T t (at + a) ps ++ sliceRows T (v11 h) (later g) (at + a + n) (upward (chain T) b) (c .list)) f)
 
   known-step : (k o s fst fst′ : ℕ) (out : List ℕ) → ((ss : List Slice) → firstFrom T st fst (known nm ps ∷ ss) ≡ fst′) → (r : Res Chain) → ((c : Chain) (m : ℕ) → r ≡ ok c m → c .format ≡ g)
       → left T st at k o s fst out (shift (a + n) (made (λ c _. ahead (known nm ps) c) r))
@@ -288,7 +288,7 @@ module _ (T : List ℕ) (t : ℕ) (go : (at k o : ℕ) → List ℕ → WalkEnd)
     unfolding finish shift made
     finish-append (ok qs m) =
         let w : length (concat pieceBytes ps) ≡ n = sym (requireds-weight (Table.requiredMembers T t) xs e) in
-        let l : length (pieceRows T t at ps) ≡ length ps = required-count T t xs ps n at e in
+        let l : length (pieceRows T t at ps) ≡ length ps = required-count false T t xs ps n at e in
         let R : pieceRows T t at (ps ++ qs) ≡ pieceRows T t at ps ++ pieceRows T t (at + n) qs =
         rows-append T t ps qs at ∙ ap (λ (i : ℕ). pieceRows T t at ps ++ pieceRows T t (at + i) qs) w in
         let i : at + (n + m) ≡ at + n + m = omega arith in
@@ -312,7 +312,7 @@ module _ (T : List ℕ) (t : ℕ) (go : (at k o : ℕ) → List ℕ → WalkEnd)
     finish-none : finish T t go refuse false at k o out (ok ps n) ≡ go (at + n) (k + length ps) o (fill k (pieceRows T t at ps) out)
     unfolding finish
     finish-none =
-        let l : k + length (pieceRows T t at ps) ≡ k + length ps = ap (λ (i : ℕ). k + i) (required-count T t xs ps n at e) in
+        let l : k + length (pieceRows T t at ps) ≡ k + length ps = ap (λ (i : ℕ). k + i) (required-count false T t xs ps n at e) in
         let h : o + skippedPieces ps ≡ o = omega (arith, required-plain (Table.requiredMembers T t) xs ps n e .none-skipped) in
         ap₂ (λ (i j : ℕ). go (at + n) i j (fill k (pieceRows T t at ps) out)) l h
 

@@ -27,6 +27,7 @@ use Rattle.encoding.specs.Table
 use Rattle.encoding.specs.Optional.{Piece, required, optional, skipped, Header, header, extent, part, content, nextOptional, optionals, requireds, frontBytes, contentBytes, pieceBytes, isOptional, isSkipped}
 use Rattle.encoding.specs.OptionalLaws.{eats-header}
 use Rattle.encoding.specs.WeightLaws.{requireds-weight, run-weight}
+use Rattle.encoding.specs.Old.{membersAs}
 use Rattle.encoding.specs.Slice.{known, someForm, fields, anyOptional, dataBytes}
 use Rattle.encoding.specs.Message.{Row, listRow, pieceMember, pieceRows, skippedPieces}
 
@@ -98,9 +99,16 @@ required-of T l i (suc k) j = go (eqb (mark T i) 0) (required-of T l (suc i) k (
     go true p q = omega arith
     go false p q = omega arith
 
-pub required-few : (T : List ℕ) (t : ℕ) (xs : List ℕ) (ps : List Piece) (n : ℕ) → requireds (Table.requiredMembers T t) xs ≡ ok ps n → length ps ≤ field T t 1
+-- in either encoding
+length-as : (old : Bool) (ms : List Member) → length (membersAs old ms) ≡ length ms
+length-as false ms = refl
+length-as true [] = refl
+length-as true (m ∷ ms) = ap suc (length-as true ms)
+
+pub required-few : (old : Bool) (T : List ℕ) (t : ℕ) (xs : List ℕ) (ps : List Piece) (n : ℕ) → requireds (membersAs old (Table.requiredMembers T t)) xs ≡ ok ps n → length ps ≤ field T t 1
 unfolding Table.requiredMembers ownRows
-required-few T t xs ps n h = omega (arith, required-all (Table.requiredMembers T t) xs ps n h, required-of T (trees T) (field T t 0) (field T t 1) 0)
+required-few old T t xs ps n h =
+    omega (arith, required-all (membersAs old (Table.requiredMembers T t)) xs ps n h, length-as old (Table.requiredMembers T t), required-of T (trees T) (field T t 0) (field T t 1) 0)
 
 any-append : (a b : List Piece) → anyOptional a ≡ false → anyOptional (a ++ b) ≡ anyOptional b
 unfolding anyOptional

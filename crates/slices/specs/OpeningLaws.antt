@@ -60,7 +60,7 @@ module _ (T : List ℕ) (top : ℕ) (st : Slice.Stage) (xs : List ℕ) where
       go₂ : (h : Head) (n : ℕ) → headed T top st xs ≡ ok h n → (m : Meaning) → meaning T top st h ≡ m → Meant m → meaningForm m ≡ 0 → Headed (meaningAnswer h n m)
       go₂ h n e skip f q z = skips h n (must-ok (head (standOf st) (idForm T st)) xs (λ h. meaningForm (meaning T top st h)) e .0) f e
       go₂ h n e (row t) f q z = knows h n t (must-ok (head (standOf st) (idForm T st)) xs (λ h. meaningForm (meaning T top st h)) e .0) f e
-      go₂ h n e (wrong c) f q z = absurd (true≢false (sym q ∙ ap (λ (k : ℕ). ofContents k) z))
+      go₂ h n e (wrong c) f q z = absurd (true≢false (sym q ∙ ap (λ (k : ℕ). ofContents false k) z))
 
       go : (r : Res Head) → headed T top st xs ≡ r → Headed (headAnswer T top st r)
       go (ok h n) e = go₂ h n e (meaning T top st h) refl (meant-head T top st h) (must-ok (head (standOf st) (idForm T st)) xs (λ h. meaningForm (meaning T top st h)) e .1)
@@ -149,7 +149,7 @@ ended-compact n e (ok ps k) = refl
 ended-compact n e (bad c p) = refl
 
 -- in a declared part
-ended-sliced : (n k l : ℕ) (r : Res (List Piece)) → k ≡ 4 + l → shift n (leave l k r) ≡ ended true (n + 4) (n + k) r
+pub ended-sliced : (n k l : ℕ) (r : Res (List Piece)) → k ≡ 4 + l → shift n (leave l k r) ≡ ended true (n + 4) (n + k) r
 unfolding shift leave ended
 ended-sliced n k l (ok ps m) h = go (eqb m l) refl
   where

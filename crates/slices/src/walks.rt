@@ -166,6 +166,7 @@ pub fn slices(
                     from,
                     count,
                     out,
+                    false,
                 );
                 match members {
                     Members::Read(n, k, opt) => {

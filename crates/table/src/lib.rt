@@ -9,7 +9,7 @@ pub mod naming;
 ghost use mathlib.Core.Path.{_≡_};
 ghost use Prim.Native.Nat.{_+_, _*_, _≤_, _<_};
 ghost use lib.ListN.{length, drop};
-ghost use Rattle.encoding.specs.Types.{allows};
+ghost use Rattle.encoding.specs.Types.{allows, most};
 ghost use Rattle.encoding.specs.Table.{withLists, types, members, names, entries, typesAt, rowAt, membersAt, memberAt, namesAt, entriesAt, fieldAt, isRecord, owns, kind, field, memberType, mark, tag, allowed, typeRows, trees, tyOf, memberTy};
 ghost use Rattle.table.specs.Rows.{IsTypeRow, IsMemberRow, greatestOf};
 
@@ -421,6 +421,21 @@ pub fn allows(table: &[u8], t: usize, n: usize) -> bool
         }
     }
     n <= g
+}
+
+// The greatest enumerator that enum row t allows: of a list with holes its last entry.
+pub fn most(table: &[u8], begin: usize, t: usize) -> usize
+    requires { ⌜ begin ≡ typesAt (now table) ⌝ }
+    ensures { λ r. ⌜ r ≡ most (allowed (now (table .entry)) t) ⌝ }
+{
+    let row = type_row(table, begin, t);
+    let g = greatest(row);
+    if with_lists(table, begin) {
+        if row.d != g + 1 {
+            return allowed::last_entry(table, entries_at(table, begin), row.c, row.d);
+        }
+    }
+    g
 }
 
 // Kind k is an exception or a class.

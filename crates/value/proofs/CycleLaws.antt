@@ -1,5 +1,6 @@
 -- What the readers of values, structs, sequences and dictionaries make of the answers of those that they call. Assumes nothing.
 --
+--   plain-as .. dict-as                                      a type in either encoding
 --   row-not, as-bool .. as-other                             a value by its row's kind
 --   row-wide, exact-wide, part-wide                          a value by its row's width
 --   text-there, -not                                         what the shapes say of a part, by whether it lies below
@@ -28,22 +29,23 @@ use Rattle.encoding.specs.ResultLaws.{bind-step, Held, held-bind, held-times}
 use Rattle.encoding.specs.Number.{size}
 use Rattle.encoding.specs.Number
 use Rattle.encoding.specs.Proxy
-use Rattle.encoding.specs.Types.{upto, short, int, long, float, double, Ty, broken, bool, byte, string, proxy, num, enum, struct, seq, dict}
+use Rattle.encoding.specs.Types.{upto, short, int, long, float, double, Ty, Tys, nil, cons, broken, bool, byte, string, proxy, num, enum, struct, seq, dict}
 use Rattle.encoding.specs.Table.{withLists, kind, field, members, memberType, range, greatest, allowed, memberTy, memberTys, ownRows, rowTy, tys, partTy, typeRows, trees, tyOf}
 use Rattle.encoding.specs.TableLaws.{tys-at, ty-row, ty-past, below-none, row-broken, member-in, member-past, members-more, members-none}
 use Rattle.encoding.specs.Value.{value, values, whole, exact}
 use Rattle.encoding.specs.ValueLaws.{held-value}
+use Rattle.encoding.specs.Old.{asOld, asOlds, typeAs}
 use Rattle.table.specs.Rows.{IsTypeRow, greatestOf}
 use Rattle.table.specs.declared.TypeRow.{TypeRow}
 use Rattle.shapes.specs.Shapes.{widthOf, shapesOf, widthIn, widthBelow, isTextIn, isBoolIn, isEnumIn}
-use Rattle.shapes.specs.ShapesLaws.{width-takes, width-row, text-row, bool-row, enum-row}
+use Rattle.shapes.specs.ShapesLaws.{width-takes, width-as, width-row, text-row, bool-row, enum-row}
 use Rattle.wire.specs.declared.Step.{Step}
 use Rattle.wire.specs.declared.Step.the-variants.{Took, Fault}
 use Rattle.wire.specs.declared.Sized.{Sized}
 use Rattle.wire.specs.declared.Sized.the-variants.{Is, Isnt}
 use Rattle.wire.specs.Steps.{stepOf, sizedOf}
 use Rattle.wire.specs.StepLaws.{rest-is, step-fault, took-held, then-none, then-took, then-bad, with-none, with-took, with-bad, Left, left-begin, left-next, left-fault, left-done, turns-begin, turns-next, turns-fault, turns-done}
-use Rattle.value.specs.Parts.{isTextBelow, entry}
+use Rattle.value.specs.Parts.{isTextBelow, typesAs, entry}
 use Rattle.wire.proofs.Sums.{TookFits, took-fits, BadFits, bad-fits}
 
 -- ---- a value by its row's kind
@@ -52,75 +54,111 @@ use Rattle.wire.proofs.Sums.{TookFits, took-fits, BadFits, bad-fits}
 past : {k i : ℕ} → i ≤ k → (k ≡ i → ⊥) → suc i ≤ k
 past h n = omega (arith, n)
 
-module _ (T : List ℕ) (t e : ℕ) (s : List ℕ) where
-  pub row-not : t ≤ e → Fault 4 0 ≡ stepOf (value (partTy T t e) s)
-  unfolding partTy value fail stepOf
-  row-not h = rw (below-none T t e h)
+-- what encoding 1.0 has as 1.1
+plain-as : (old : Bool) (X : Ty) → asOld X ≡ X → typeAs old X ≡ X
+plain-as true X e = e
+plain-as false X e = refl
+
+-- a proxy, and types with parts, in either encoding
+proxy-as : (old : Bool) → value (typeAs old proxy) ≡ Proxy.proxy old
+unfolding value asOld
+proxy-as true = refl
+proxy-as false = refl
+
+struct-as : (old : Bool) (ts : Tys) → value (typeAs old (struct ts)) ≡ values (typesAs old ts)
+unfolding value asOld
+struct-as true ts = refl
+struct-as false ts = refl
+
+cons-as : (old : Bool) (t : Ty) (ts : Tys) → values (typesAs old (cons t ts)) ≡ (value (typeAs old t) >>= λ _. values (typesAs old ts))
+unfolding values asOlds
+cons-as true t ts = refl
+cons-as false t ts = refl
+
+nil-as : (old : Bool) → values (typesAs old nil) ≡ pure tt
+unfolding values asOlds
+nil-as true = refl
+nil-as false = refl
+
+seq-as : (old : Bool) (X : Ty) → value (typeAs old (seq X)) ≡ (size >>= λ n. times n (value (typeAs old X)))
+unfolding value asOld
+seq-as true X = refl
+seq-as false X = refl
+
+dict-as : (old : Bool) (K W : Ty) → value (typeAs old (dict K W)) ≡ (size >>= λ n. times n (entry (typeAs old K) (typeAs old W)))
+unfolding value asOld entry
+dict-as true K W = refl
+dict-as false K W = refl
+
+module _ (old : Bool) (T : List ℕ) (t e : ℕ) (s : List ℕ) where
+  pub row-not : t ≤ e → Fault 4 0 ≡ stepOf (value (typeAs old (partTy T t e)) s)
+  unfolding partTy value fail stepOf asOld
+  row-not h = rw (below-none T t e h, plain-as old broken refl)
 
   module _ (l : e < t) (k : ℕ) (q : k ≡ kind T e) (r : Step) where
     -- by the tree that the kind makes of the rows below
-    by-row : (X : Ty) → rowTy T (tys T e) e ≡ X → r ≡ stepOf (value X s) → r ≡ stepOf (value (partTy T t e) s)
+    by-row : (X : Ty) → rowTy T (tys T e) e ≡ X → r ≡ stepOf (value (typeAs old X) s) → r ≡ stepOf (value (typeAs old (partTy T t e)) s)
     unfolding partTy
-    by-row X h g = g ∙ ap (λ (y : Ty). stepOf (value y s)) (sym (tys-at T t e l ∙ h))
+    by-row X h g = g ∙ ap (λ (y : Ty). stepOf (value (typeAs old y) s)) (sym (tys-at T t e l ∙ h))
 
-    pub as-bool : k ≡ 0 → r ≡ stepOf (Number.bool s) → r ≡ stepOf (value (partTy T t e) s)
-    unfolding rowTy value
-    as-bool z g = by-row bool (rw (sym q ∙ z)) g
+    pub as-bool : k ≡ 0 → r ≡ stepOf (Number.bool s) → r ≡ stepOf (value (typeAs old (partTy T t e)) s)
+    unfolding rowTy value asOld
+    as-bool z g = by-row bool (rw (sym q ∙ z)) (rw (plain-as old bool refl) g)
 
-    pub as-byte : k ≡ 1 → r ≡ stepOf (skip 1 s) → r ≡ stepOf (value (partTy T t e) s)
-    unfolding rowTy value
-    as-byte z g = by-row byte (rw (sym q ∙ z)) g
+    pub as-byte : k ≡ 1 → r ≡ stepOf (skip 1 s) → r ≡ stepOf (value (typeAs old (partTy T t e)) s)
+    unfolding rowTy value asOld
+    as-byte z g = by-row byte (rw (sym q ∙ z)) (rw (plain-as old byte refl) g)
 
-    pub as-short : k ≡ 2 → r ≡ stepOf (skip 2 s) → r ≡ stepOf (value (partTy T t e) s)
-    unfolding rowTy value
-    as-short z g = by-row (num short) (rw (sym q ∙ z)) g
+    pub as-short : k ≡ 2 → r ≡ stepOf (skip 2 s) → r ≡ stepOf (value (typeAs old (partTy T t e)) s)
+    unfolding rowTy value asOld
+    as-short z g = by-row (num short) (rw (sym q ∙ z)) (rw (plain-as old (num short) refl) g)
 
-    pub as-int : k ≡ 3 → r ≡ stepOf (skip 4 s) → r ≡ stepOf (value (partTy T t e) s)
-    unfolding rowTy value
-    as-int z g = by-row (num int) (rw (sym q ∙ z)) g
+    pub as-int : k ≡ 3 → r ≡ stepOf (skip 4 s) → r ≡ stepOf (value (typeAs old (partTy T t e)) s)
+    unfolding rowTy value asOld
+    as-int z g = by-row (num int) (rw (sym q ∙ z)) (rw (plain-as old (num int) refl) g)
 
-    pub as-long : k ≡ 4 → r ≡ stepOf (skip 8 s) → r ≡ stepOf (value (partTy T t e) s)
-    unfolding rowTy value
-    as-long z g = by-row (num long) (rw (sym q ∙ z)) g
+    pub as-long : k ≡ 4 → r ≡ stepOf (skip 8 s) → r ≡ stepOf (value (typeAs old (partTy T t e)) s)
+    unfolding rowTy value asOld
+    as-long z g = by-row (num long) (rw (sym q ∙ z)) (rw (plain-as old (num long) refl) g)
 
-    pub as-float : k ≡ 5 → r ≡ stepOf (skip 4 s) → r ≡ stepOf (value (partTy T t e) s)
-    unfolding rowTy value
-    as-float z g = by-row (num float) (rw (sym q ∙ z)) g
+    pub as-float : k ≡ 5 → r ≡ stepOf (skip 4 s) → r ≡ stepOf (value (typeAs old (partTy T t e)) s)
+    unfolding rowTy value asOld
+    as-float z g = by-row (num float) (rw (sym q ∙ z)) (rw (plain-as old (num float) refl) g)
 
-    pub as-double : k ≡ 6 → r ≡ stepOf (skip 8 s) → r ≡ stepOf (value (partTy T t e) s)
-    unfolding rowTy value
-    as-double z g = by-row (num double) (rw (sym q ∙ z)) g
+    pub as-double : k ≡ 6 → r ≡ stepOf (skip 8 s) → r ≡ stepOf (value (typeAs old (partTy T t e)) s)
+    unfolding rowTy value asOld
+    as-double z g = by-row (num double) (rw (sym q ∙ z)) (rw (plain-as old (num double) refl) g)
 
-    pub as-string : k ≡ 7 → r ≡ stepOf (Proxy.text s) → r ≡ stepOf (value (partTy T t e) s)
-    unfolding rowTy value
-    as-string z g = by-row string (rw (sym q ∙ z)) g
+    pub as-string : k ≡ 7 → r ≡ stepOf (Proxy.text s) → r ≡ stepOf (value (typeAs old (partTy T t e)) s)
+    unfolding rowTy value asOld
+    as-string z g = by-row string (rw (sym q ∙ z)) (rw (plain-as old string refl) g)
 
-    pub as-enum : k ≡ 8 → r ≡ stepOf (value (enum (allowed T e)) s) → r ≡ stepOf (value (partTy T t e) s)
+    pub as-enum : k ≡ 8 → r ≡ stepOf (value (typeAs old (enum (allowed T e))) s) → r ≡ stepOf (value (typeAs old (partTy T t e)) s)
     unfolding rowTy
     as-enum z g = by-row (enum (allowed T e)) (rw (sym q ∙ z)) g
 
-    pub as-struct : k ≡ 9 → r ≡ stepOf (value (struct (memberTys T (tys T e) (ownRows T e))) s) → r ≡ stepOf (value (partTy T t e) s)
+    pub as-struct : k ≡ 9 → r ≡ stepOf (value (typeAs old (struct (memberTys T (tys T e) (ownRows T e)))) s) → r ≡ stepOf (value (typeAs old (partTy T t e)) s)
     unfolding rowTy
     as-struct z g = by-row (struct (memberTys T (tys T e) (ownRows T e))) (rw (sym q ∙ z)) g
 
-    pub as-seq : k ≡ 10 → r ≡ stepOf (value (seq (partTy T e (field T e 0))) s) → r ≡ stepOf (value (partTy T t e) s)
+    pub as-seq : k ≡ 10 → r ≡ stepOf (value (typeAs old (seq (partTy T e (field T e 0)))) s) → r ≡ stepOf (value (typeAs old (partTy T t e)) s)
     unfolding rowTy partTy
     as-seq z g = by-row (seq (partTy T e (field T e 0))) (rw (sym q ∙ z)) g
 
-    pub as-dict : k ≡ 11 → r ≡ stepOf (value (dict (partTy T e (field T e 0)) (partTy T e (field T e 1))) s) → r ≡ stepOf (value (partTy T t e) s)
+    pub as-dict : k ≡ 11 → r ≡ stepOf (value (typeAs old (dict (partTy T e (field T e 0)) (partTy T e (field T e 1)))) s) → r ≡ stepOf (value (typeAs old (partTy T t e)) s)
     unfolding rowTy partTy
     as-dict z g = by-row (dict (partTy T e (field T e 0)) (partTy T e (field T e 1))) (rw (sym q ∙ z)) g
 
-    pub as-proxy : k ≡ 12 → r ≡ stepOf (Proxy.proxy s) → r ≡ stepOf (value (partTy T t e) s)
-    unfolding rowTy value
-    as-proxy z g = by-row proxy (rw (sym q ∙ z)) g
+    pub as-proxy : k ≡ 12 → r ≡ stepOf (Proxy.proxy old s) → r ≡ stepOf (value (typeAs old (partTy T t e)) s)
+    unfolding rowTy
+    as-proxy z g = by-row proxy (rw (sym q ∙ z)) (rw (proxy-as old) g)
 
     -- a kind past the last that a value may have
     pub as-other : (k ≡ 0 → ⊥) → (k ≡ 1 → ⊥) → (k ≡ 2 → ⊥) → (k ≡ 3 → ⊥) → (k ≡ 4 → ⊥) → (k ≡ 5 → ⊥) → (k ≡ 6 → ⊥) → (k ≡ 7 → ⊥) → (k ≡ 8 → ⊥)
-        → (k ≡ 9 → ⊥) → (k ≡ 10 → ⊥) → (k ≡ 11 → ⊥) → (k ≡ 12 → ⊥) → r ≡ Fault 4 0 → r ≡ stepOf (value (partTy T t e) s)
-    unfolding value fail stepOf
+        → (k ≡ 9 → ⊥) → (k ≡ 10 → ⊥) → (k ≡ 11 → ⊥) → (k ≡ 12 → ⊥) → r ≡ Fault 4 0 → r ≡ stepOf (value (typeAs old (partTy T t e)) s)
+    unfolding value fail stepOf asOld
     as-other n₀ n₁ n₂ n₃ n₄ n₅ n₆ n₇ n₈ n₉ n₁₀ n₁₁ n₁₂ g =
-        by-row broken (row-broken T (tys T e) e (rw q at (past (past (past (past (past (past (past (past (past (past (past (past (past zero-le n₀) n₁) n₂) n₃) n₄) n₅) n₆) n₇) n₈) n₉) n₁₀) n₁₁) n₁₂))) g
+        by-row broken (row-broken T (tys T e) e (rw q at (past (past (past (past (past (past (past (past (past (past (past (past (past zero-le n₀) n₁) n₂) n₃) n₄) n₅) n₆) n₇) n₈) n₉) n₁₀) n₁₁) n₁₂))) (rw (plain-as old broken refl) g)
 
 -- ---- a value by its row's shape
 
@@ -139,49 +177,52 @@ part-there : (T : List ℕ) (t e : ℕ) → e < t → e < typeRows T → partTy 
 unfolding partTy
 part-there T t e l h = tys-at T t e l ∙ sym (ty-row T e h)
 
-module _ (T shapes : List ℕ) (f : shapes ≡ shapesOf T) where
+module _ (old : Bool) (T shapes : List ℕ) (f : shapes ≡ shapesOf T) where
   module _ (t : ℕ) (s : List ℕ) (w : ℕ) (g : w ≡ widthIn shapes t) (h : 0 < w) where
     wide : w ≡ widthOf (tyOf T t)
     wide = g ∙ width-row T t shapes f
 
-    row-takes : w ≤ length s → value (tyOf T t) s ≡ ok tt w
-    row-takes k = width-takes (tyOf T t) (rw wide at h) s (rw wide at k) ∙ ap (ok tt) (sym wide)
+    wide-as : w ≡ widthOf (typeAs old (tyOf T t))
+    wide-as = wide ∙ sym (width-as old (tyOf T t))
 
-    pub row-wide : w ≤ length s → Took w ≡ stepOf (value (tyOf T t) s)
+    row-takes : w ≤ length s → value (typeAs old (tyOf T t)) s ≡ ok tt w
+    row-takes k = width-takes (typeAs old (tyOf T t)) (rw wide-as at h) s (rw wide-as at k) ∙ ap (ok tt) (sym wide-as)
+
+    pub row-wide : w ≤ length s → Took w ≡ stepOf (value (typeAs old (tyOf T t)) s)
     unfolding stepOf
     row-wide k = rw (row-takes k)
 
-    pub exact-wide : w ≤ length s → eqb w (length s) ≡ exact (tyOf T t) s
+    pub exact-wide : w ≤ length s → eqb w (length s) ≡ exact (typeAs old (tyOf T t)) s
     unfolding exact whole
     exact-wide k = rw (row-takes k)
 
   module _ (t : ℕ) (s : List ℕ) (r : Step) (b : Bool) where
-    pub row-text : b ≡ isTextIn shapes t → b ≡ true → r ≡ stepOf (Proxy.text s) → r ≡ stepOf (value (tyOf T t) s)
-    unfolding value
-    row-text g h q = rw (text-row T t shapes f (sym g ∙ h)) q
+    pub row-text : b ≡ isTextIn shapes t → b ≡ true → r ≡ stepOf (Proxy.text s) → r ≡ stepOf (value (typeAs old (tyOf T t)) s)
+    unfolding value asOld
+    row-text g h q = rw (text-row T t shapes f (sym g ∙ h), plain-as old string refl) q
 
-    pub row-bool : b ≡ isBoolIn shapes t → b ≡ true → r ≡ stepOf (Number.bool s) → r ≡ stepOf (value (tyOf T t) s)
-    unfolding value
-    row-bool g h q = rw (bool-row T t shapes f (sym g ∙ h)) q
+    pub row-bool : b ≡ isBoolIn shapes t → b ≡ true → r ≡ stepOf (Number.bool s) → r ≡ stepOf (value (typeAs old (tyOf T t)) s)
+    unfolding value asOld
+    row-bool g h q = rw (bool-row T t shapes f (sym g ∙ h), plain-as old bool refl) q
 
-    -- without lists, up to the greatest
-    pub row-enum : b ≡ isEnumIn shapes t → b ≡ true → (w : Bool) → w ≡ withLists T → not w ≡ true → (row : TypeRow) → IsTypeRow T t row
-        → (n : ℕ) → n ≡ greatestOf row → r ≡ stepOf (value (enum (upto n)) s) → r ≡ stepOf (value (tyOf T t) s)
+    -- in 1.1, without lists, up to the greatest
+    pub row-enum : b ≡ isEnumIn shapes t → b ≡ true → (w : Bool) → w ≡ withLists T → not w ≡ true → not old ≡ true → (row : TypeRow) → IsTypeRow T t row
+        → (n : ℕ) → n ≡ greatestOf row → r ≡ stepOf (value (enum (upto n)) s) → r ≡ stepOf (value (typeAs old (tyOf T t)) s)
     unfolding allowed greatest
-    row-enum g h w ew none row i n en q =
+    row-enum g h w ew none new row i n en q =
         let z : n ≡ field T t 0 + 65536 * field T t 1 = omega (arith, i .a-is, i .b-is) in
-        rw (enum-row T t shapes f (sym g ∙ h), ← ew, not-true w none, ← z) q
+        rw (not-true old new, enum-row T t shapes f (sym g ∙ h), ← ew, not-true w none, ← z) q
 
   module _ (t e : ℕ) (l : e < t) where
-    part-takes : (s : List ℕ) (w : ℕ) → w ≡ widthIn shapes e → 0 < w → w ≤ length s → value (partTy T t e) s ≡ ok tt w
+    part-takes : (s : List ℕ) (w : ℕ) → w ≡ widthIn shapes e → 0 < w → w ≤ length s → value (typeAs old (partTy T t e)) s ≡ ok tt w
     unfolding widthOf
     part-takes s w g h k = go (ltb e (typeRows T)) refl
       where
-        go : (b : Bool) → ltb e (typeRows T) ≡ b → value (partTy T t e) s ≡ ok tt w
+        go : (b : Bool) → ltb e (typeRows T) ≡ b → value (typeAs old (partTy T t e)) s ≡ ok tt w
         go true q = rw (part-there T t e l (ltb-true _ _ q)) (row-takes e s w g h k)
         go false q = absurd (let z : widthOf (tyOf T e) ≡ 0 = rw (ty-past T e (ltb-false _ _ q)) in omega (arith, wide e s w g h))
 
-    pub part-wide : (s : List ℕ) (w : ℕ) → w ≡ widthIn shapes e → 0 < w → w ≤ length s → Took w ≡ stepOf (value (partTy T t e) s)
+    pub part-wide : (s : List ℕ) (w : ℕ) → w ≡ widthIn shapes e → 0 < w → w ≤ length s → Took w ≡ stepOf (value (typeAs old (partTy T t e)) s)
     unfolding stepOf
     part-wide s w g h k = rw (part-takes s w g h k)
 
@@ -199,31 +240,31 @@ module _ (T shapes : List ℕ) (f : shapes ≡ shapesOf T) where
     part-bool h = part-as bool (bool-row T e shapes f h) λ z. let y : _≡_ {A = ℕ} 0 1 = cc in omega arith
 
     pub text-values : (b : Bool) → b ≡ isTextIn shapes e → b ≡ true → (s : List ℕ) (r : Step) (n : ℕ)
-        → r ≡ stepOf (times n Proxy.text s) → r ≡ stepOf (times n (value (partTy T t e)) s)
-    unfolding value
-    text-values b g h s r n q = rw (part-text (sym g ∙ h)) q
+        → r ≡ stepOf (times n Proxy.text s) → r ≡ stepOf (times n (value (typeAs old (partTy T t e))) s)
+    unfolding value asOld
+    text-values b g h s r n q = rw (part-text (sym g ∙ h), plain-as old string refl) q
 
     pub bool-values : (b : Bool) → b ≡ isBoolIn shapes e → b ≡ true → (s : List ℕ) (r : Step) (n : ℕ)
-        → r ≡ stepOf (times n Number.bool s) → r ≡ stepOf (times n (value (partTy T t e)) s)
-    unfolding value
-    bool-values b g h s r n q = rw (part-bool (sym g ∙ h)) q
+        → r ≡ stepOf (times n Number.bool s) → r ≡ stepOf (times n (value (typeAs old (partTy T t e))) s)
+    unfolding value asOld
+    bool-values b g h s r n q = rw (part-bool (sym g ∙ h), plain-as old bool refl) q
 
   -- by what the shapes say of a part
   module _ (t e : ℕ) where
-    below-takes : (w : ℕ) → w ≡ widthBelow shapes t e → 0 < w → (s : List ℕ) → w ≤ length s → value (partTy T t e) s ≡ ok tt w
+    below-takes : (w : ℕ) → w ≡ widthBelow shapes t e → 0 < w → (s : List ℕ) → w ≤ length s → value (typeAs old (partTy T t e)) s ≡ ok tt w
     below-takes w g h s k = go (leb t e) refl g
       where
-        go : (b : Bool) → leb t e ≡ b → w ≡ pick b 0 (widthIn shapes e) → value (partTy T t e) s ≡ ok tt w
+        go : (b : Bool) → leb t e ≡ b → w ≡ pick b 0 (widthIn shapes e) → value (typeAs old (partTy T t e)) s ≡ ok tt w
         go true q g = absurd (omega arith)
         go false q g = part-takes t e (leb-false _ _ q) s w g h k
 
-    pub text-value : (b : Bool) → b ≡ isTextBelow shapes t e → b ≡ true → (s : List ℕ) (r : Step) → r ≡ stepOf (Proxy.text s) → r ≡ stepOf (value (partTy T t e) s)
-    unfolding isTextBelow value
+    pub text-value : (b : Bool) → b ≡ isTextBelow shapes t e → b ≡ true → (s : List ℕ) (r : Step) → r ≡ stepOf (Proxy.text s) → r ≡ stepOf (value (typeAs old (partTy T t e)) s)
+    unfolding isTextBelow value asOld
     text-value b g h s r d = go (leb t e) refl (sym g ∙ h)
       where
-        go : (b : Bool) → leb t e ≡ b → pick b false (isTextIn shapes e) ≡ true → r ≡ stepOf (value (partTy T t e) s)
+        go : (b : Bool) → leb t e ≡ b → pick b false (isTextIn shapes e) ≡ true → r ≡ stepOf (value (typeAs old (partTy T t e)) s)
         go true q z = absurd (false≢true z)
-        go false q z = rw (part-text t e (leb-false _ _ q) z) d
+        go false q z = rw (part-text t e (leb-false _ _ q) z, plain-as old string refl) d
 
 -- an answer that is rebuilt
 module _ (X : Ty) (s : List ℕ) (r : Step) (e : r ≡ stepOf (value X s)) where
@@ -235,42 +276,40 @@ module _ (X : Ty) (s : List ℕ) (r : Step) (e : r ≡ stepOf (value X s)) where
 
 -- ---- members
 
-module _ (T : List ℕ) (t : ℕ) (s : List ℕ) where
+module _ (old : Bool) (T : List ℕ) (t : ℕ) (s : List ℕ) where
   pub struct-begin : (a b : ℕ) → a ≡ field T t 0 → b ≡ field T t 1
-      → Left s (stepOf (value (struct (memberTys T (tys T t) (ownRows T t))) s)) (values (memberTys T (tys T t) (range a b))) 0
-  unfolding value ownRows
-  struct-begin a b f g = rw (f, g) (left-begin s (values (memberTys T (tys T t) (range (field T t 0) (field T t 1)))))
+      → Left s (stepOf (value (typeAs old (struct (memberTys T (tys T t) (ownRows T t)))) s)) (values (typesAs old (memberTys T (tys T t) (range a b)))) 0
+  unfolding ownRows
+  struct-begin a b f g = rw (f, g, struct-as old) (left-begin s (values (typesAs old (memberTys T (tys T t) (range (field T t 0) (field T t 1))))))
 
-  module _ (all : Step) (m left at : ℕ) (inv : Left s all (values (memberTys T (tys T t) (range m left))) at) where
+  module _ (all : Step) (m left at : ℕ) (inv : Left s all (values (typesAs old (memberTys T (tys T t) (range m left)))) at) where
     pub member-done : left ≤ 0 → Took at ≡ all
-    unfolding values
-    member-done h = left-done s all tt at (rw (members-none T (tys T t) m left h) at inv)
+    member-done h = left-done s all tt at (rw (members-none T (tys T t) m left h, nil-as old) at inv)
 
     module _ (h : 0 < left) where
       -- a member, then those after it
-      more : Left s all (value (memberTy T (tys T t) m) >>= λ _. values (memberTys T (tys T t) (range (m + 1) (left - 1)))) at
-      unfolding values
-      more = rw (members-more T (tys T t) m left h) at inv
+      more : Left s all (value (typeAs old (memberTy T (tys T t) m)) >>= λ _. values (typesAs old (memberTys T (tys T t) (range (m + 1) (left - 1))))) at
+      more = rw (members-more T (tys T t) m left h, cons-as old) at inv
 
       pub member-gone : (n : ℕ) → n ≡ members T → n ≤ m → Fault 4 at ≡ all
-      unfolding value fail stepOf
+      unfolding value fail stepOf asOld
       member-gone n f l =
           ap (Fault 4) (sym (add-zero at))
-          ∙ left-fault s all (value (memberTy T (tys T t) m)) (values (memberTys T (tys T t) (range (m + 1) (left - 1)))) at more (Fault 4 0)
-          (rw (member-past T m (tys T t) (omega arith))) 4 0 refl
+          ∙ left-fault s all (value (typeAs old (memberTy T (tys T t) m))) (values (typesAs old (memberTys T (tys T t) (range (m + 1) (left - 1))))) at more (Fault 4 0)
+          (rw (member-past T m (tys T t) (omega arith), plain-as old broken refl)) 4 0 refl
 
-      module _ (r : Step) (d : r ≡ stepOf (value (memberTy T (tys T t) m) (take (length s - at) (drop at s)))) where
-        pub member-next : (i : ℕ) → r ≡ Took i → Left s all (values (memberTys T (tys T t) (range (m + 1) (left - 1)))) (at + i)
-        member-next i q = left-next s all (value (memberTy T (tys T t) m)) _ at more r d (held-value _) i q
+      module _ (r : Step) (d : r ≡ stepOf (value (typeAs old (memberTy T (tys T t) m)) (take (length s - at) (drop at s)))) where
+        pub member-next : (i : ℕ) → r ≡ Took i → Left s all (values (typesAs old (memberTys T (tys T t) (range (m + 1) (left - 1))))) (at + i)
+        member-next i q = left-next s all (value (typeAs old (memberTy T (tys T t) m))) _ at more r d (held-value _) i q
 
         pub member-fault : (c p : ℕ) → r ≡ Fault c p → Fault c (at + p) ≡ all
-        member-fault c p q = left-fault s all (value (memberTy T (tys T t) m)) _ at more r d c p q
+        member-fault c p q = left-fault s all (value (typeAs old (memberTy T (tys T t) m))) _ at more r d c p q
 
 -- a member that is there
-pub member-read : (T : List ℕ) (t m n e : ℕ) (s : List ℕ) (r : Step) → n ≡ members T → m < n → e ≡ memberType T m
-    → r ≡ stepOf (value (partTy T t e) s) → r ≡ stepOf (value (memberTy T (tys T t) m) s)
+pub member-read : (old : Bool) (T : List ℕ) (t m n e : ℕ) (s : List ℕ) (r : Step) → n ≡ members T → m < n → e ≡ memberType T m
+    → r ≡ stepOf (value (typeAs old (partTy T t e)) s) → r ≡ stepOf (value (typeAs old (memberTy T (tys T t) m)) s)
 unfolding partTy
-member-read T t m n e s r f l g d = rw (member-in T m (tys T t) (omega arith), ← g) d
+member-read old T t m n e s r f l g d = rw (member-in T m (tys T t) (omega arith), ← g) d
 
 -- ---- sequences
 
@@ -287,40 +326,34 @@ times-takes p w takes (suc n) xs h =
 after-those : (s : List ℕ) (n w : ℕ) → w ≤ length s - n → w ≤ length (take (length s - n) (drop n s))
 after-those s n w h = rw rest-is (omega (arith, length-drop n s))
 
-module _ (s : List ℕ) (r : Sized) (e : r ≡ sizedOf (size s)) where
-  pub seq-none : (X : Ty) (f p : ℕ) → r ≡ Isnt f p → Fault f p ≡ stepOf (value (seq X) s)
-  unfolding value
-  seq-none X f p q = with-none size (λ n. times n (value X)) s r e f p q
+module _ (old : Bool) (s : List ℕ) (r : Sized) (e : r ≡ sizedOf (size s)) where
+  pub seq-none : (X : Ty) (f p : ℕ) → r ≡ Isnt f p → Fault f p ≡ stepOf (value (typeAs old (seq X)) s)
+  seq-none X f p q = rw (seq-as old X) (with-none size (λ n. times n (value (typeAs old X))) s r e f p q)
 
-  pub dict-none : (K W : Ty) (f p : ℕ) → r ≡ Isnt f p → Fault f p ≡ stepOf (value (dict K W) s)
-  unfolding value entry
-  dict-none K W f p q = with-none size (λ n. times n (entry K W)) s r e f p q
+  pub dict-none : (K W : Ty) (f p : ℕ) → r ≡ Isnt f p → Fault f p ≡ stepOf (value (typeAs old (dict K W)) s)
+  dict-none K W f p q = rw (dict-as old K W) (with-none size (λ n. times n (entry (typeAs old K) (typeAs old W))) s r e f p q)
 
   pub seq-wide : (n k : ℕ) → r ≡ Is n k → (T shapes : List ℕ) → shapes ≡ shapesOf T → (t i : ℕ) → i ≡ field T t 0 → (w : ℕ) → w ≡ widthBelow shapes t i → 0 < w
-      → n * w ≤ length s - k → Took (k + n * w) ≡ stepOf (value (seq (partTy T t (field T t 0))) s)
-  unfolding value stepOf
+      → n * w ≤ length s - k → Took (k + n * w) ≡ stepOf (value (typeAs old (seq (partTy T t (field T t 0)))) s)
+  unfolding stepOf
   seq-wide n k q T shapes f t i g w d h l =
-      rw (← g) (with-took size (λ n. times n (value (partTy T t i))) s r e n k q (Took (n * w))
-      (rw (times-takes (value (partTy T t i)) w (below-takes T shapes f t i w d h) n (take (length s - k) (drop k s)) (after-those s k (n * w) l))) (n * w) refl)
+      rw (← g, seq-as old (partTy T t i)) (with-took size (λ n. times n (value (typeAs old (partTy T t i)))) s r e n k q (Took (n * w))
+      (rw (times-takes (value (typeAs old (partTy T t i))) w (below-takes old T shapes f t i w d h) n (take (length s - k) (drop k s)) (after-those s k (n * w) l))) (n * w) refl)
 
   module _ (n k : ℕ) (q : r ≡ Is n k) (a : Step) where
-    module _ (T : List ℕ) (t i : ℕ) (g : i ≡ field T t 0) (d : a ≡ stepOf (times n (value (partTy T t i)) (take (length s - k) (drop k s)))) where
-      pub seq-took : (m : ℕ) → a ≡ Took m → Took (k + m) ≡ stepOf (value (seq (partTy T t (field T t 0))) s)
-      unfolding value
-      seq-took m h = rw (← g) (with-took size (λ n. times n (value (partTy T t i))) s r e n k q a d m h)
+    module _ (T : List ℕ) (t i : ℕ) (g : i ≡ field T t 0) (d : a ≡ stepOf (times n (value (typeAs old (partTy T t i))) (take (length s - k) (drop k s)))) where
+      pub seq-took : (m : ℕ) → a ≡ Took m → Took (k + m) ≡ stepOf (value (typeAs old (seq (partTy T t (field T t 0)))) s)
+      seq-took m h = rw (← g, seq-as old (partTy T t i)) (with-took size (λ n. times n (value (typeAs old (partTy T t i)))) s r e n k q a d m h)
 
-      pub seq-bad : (f p : ℕ) → a ≡ Fault f p → Fault f (k + p) ≡ stepOf (value (seq (partTy T t (field T t 0))) s)
-      unfolding value
-      seq-bad f p h = rw (← g) (with-bad size (λ n. times n (value (partTy T t i))) s r e n k q a d f p h)
+      pub seq-bad : (f p : ℕ) → a ≡ Fault f p → Fault f (k + p) ≡ stepOf (value (typeAs old (seq (partTy T t (field T t 0)))) s)
+      seq-bad f p h = rw (← g, seq-as old (partTy T t i)) (with-bad size (λ n. times n (value (typeAs old (partTy T t i)))) s r e n k q a d f p h)
 
-    module _ (K W : Ty) (d : a ≡ stepOf (times n (entry K W) (take (length s - k) (drop k s)))) where
-      pub dict-took : (m : ℕ) → a ≡ Took m → Took (k + m) ≡ stepOf (value (dict K W) s)
-      unfolding value entry
-      dict-took m h = with-took size (λ n. times n (entry K W)) s r e n k q a d m h
+    module _ (K W : Ty) (d : a ≡ stepOf (times n (entry (typeAs old K) (typeAs old W)) (take (length s - k) (drop k s)))) where
+      pub dict-took : (m : ℕ) → a ≡ Took m → Took (k + m) ≡ stepOf (value (typeAs old (dict K W)) s)
+      dict-took m h = rw (dict-as old K W) (with-took size (λ n. times n (entry (typeAs old K) (typeAs old W))) s r e n k q a d m h)
 
-      pub dict-bad : (f p : ℕ) → a ≡ Fault f p → Fault f (k + p) ≡ stepOf (value (dict K W) s)
-      unfolding value entry
-      dict-bad f p h = with-bad size (λ n. times n (entry K W)) s r e n k q a d f p h
+      pub dict-bad : (f p : ℕ) → a ≡ Fault f p → Fault f (k + p) ≡ stepOf (value (typeAs old (dict K W)) s)
+      dict-bad f p h = rw (dict-as old K W) (with-bad size (λ n. times n (entry (typeAs old K) (typeAs old W))) s r e n k q a d f p h)
 
 -- ---- the loops over elements and pairs, and what they take
 
@@ -343,9 +376,9 @@ module _ (K : Ty) where
       pub element-fault : (f k : ℕ) → r ≡ Fault f k → Fault f (at + k) ≡ all
       element-fault = turns-fault (value K) (held-value K) s all left at inv h r e
 
-pub entry-begin : (T : List ℕ) (t k v : ℕ) → k ≡ field T t 0 → v ≡ field T t 1 → (s : List ℕ) (n : ℕ)
-    → Left s (stepOf (times n (entry (partTy T t (field T t 0)) (partTy T t (field T t 1))) s)) (times n (entry (partTy T t k) (partTy T t v))) 0
-entry-begin T t k v e f s n = rw (← e, ← f) (turns-begin (entry (partTy T t k) (partTy T t v)) (held-entry _ _) s n)
+pub entry-begin : (old : Bool) (T : List ℕ) (t k v : ℕ) → k ≡ field T t 0 → v ≡ field T t 1 → (s : List ℕ) (n : ℕ)
+    → Left s (stepOf (times n (entry (typeAs old (partTy T t (field T t 0))) (typeAs old (partTy T t (field T t 1)))) s)) (times n (entry (typeAs old (partTy T t k)) (typeAs old (partTy T t v)))) 0
+entry-begin old T t k v e f s n = rw (← e, ← f) (turns-begin (entry (typeAs old (partTy T t k)) (typeAs old (partTy T t v))) (held-entry _ _) s n)
 
 module _ (K W : Ty) where
   module _ (s : List ℕ) (all : Step) (left at : ℕ) (inv : Left s all (times left (entry K W)) at) where
@@ -379,10 +412,10 @@ module _ (K W : Ty) (s : List ℕ) (r : Step) (e : r ≡ stepOf (value K s)) whe
     pair-bad f p h = then-bad (value K) (value W) s r e n q a d f p h
 
 pub pair-wide : (K : Ty) (s : List ℕ) (r : Step) → r ≡ stepOf (value K s) → (n : ℕ) → r ≡ Took n
-    → (T shapes : List ℕ) → shapes ≡ shapesOf T → (t e w : ℕ) → w ≡ widthBelow shapes t e → 0 < w → w ≤ length s - n → Took (n + w) ≡ stepOf (entry K (partTy T t e) s)
+    → (old : Bool) (T shapes : List ℕ) → shapes ≡ shapesOf T → (t e w : ℕ) → w ≡ widthBelow shapes t e → 0 < w → w ≤ length s - n → Took (n + w) ≡ stepOf (entry K (typeAs old (partTy T t e)) s)
 unfolding entry stepOf
-pair-wide K s r d n q T shapes f t e w g h l = then-took (value K) (value (partTy T t e)) s r d n q (Took w)
-    (rw (below-takes T shapes f t e w g h (take (length s - n) (drop n s)) (after-those s n w l))) w refl
+pair-wide K s r d n q old T shapes f t e w g h l = then-took (value K) (value (typeAs old (partTy T t e))) s r d n q (Took w)
+    (rw (below-takes old T shapes f t e w g h (take (length s - n) (drop n s)) (after-those s n w l))) w refl
 
 -- ---- sums of places
 
@@ -412,9 +445,9 @@ pairs-bad-fits i K W = bad-fits (times i (entry K W)) (held-times i (entry K W) 
 
 -- ---- a row of the table, and exactly one value
 
-pub value-row : (T : List ℕ) (n t : ℕ) (s : List ℕ) (r : Step) → n ≡ typeRows T → r ≡ stepOf (value (partTy T n t) s) → r ≡ stepOf (value (tyOf T t) s)
+pub value-row : (old : Bool) (T : List ℕ) (n t : ℕ) (s : List ℕ) (r : Step) → n ≡ typeRows T → r ≡ stepOf (value (typeAs old (partTy T n t)) s) → r ≡ stepOf (value (typeAs old (tyOf T t)) s)
 unfolding tyOf trees partTy
-value-row T n t s r e d = rw (← e) d
+value-row old T n t s r e d = rw (← e) d
 
 module _ (X : Ty) (s : List ℕ) (r : Step) (e : r ≡ stepOf (value X s)) where
   pub exact-took : (n : ℕ) → r ≡ Took n → eqb n (length s) ≡ exact X s

@@ -1,21 +1,28 @@
 -- Parts of the definition of values that are functions of their own in the code.
 --
 --   isTextBelow    row e is a string as a part of row t, by the array of shapes
+--   typesAs old ts   the types of a struct's members as an encoding has them
 --   entry k v      one entry of a dictionary
 --   AreBools s i k   the k bytes at i are there, each 0 or 1
-use mathlib.Core.Bool.{Bool, false}
+use mathlib.Core.Bool.{Bool, true, false}
 use mathlib.Core.List.{List}
 use Prim.Native.Nat.{ℕ, _+_, _≤_, _<_}
 use lib.ListN.{length, getD}
 use lib.Dec.{leb}
 use Rattle.encoding.specs.Result.{Parser, pick, _>>=_}
-use Rattle.encoding.specs.Types.{Ty}
+use Rattle.encoding.specs.Types.{Ty, Tys}
 use Rattle.encoding.specs.Value.{value}
+use Rattle.encoding.specs.Old.{asOlds}
 use Rattle.shapes.specs.Shapes.{isTextIn}
 
 -- row e is a string, and below t
 unfoldable pub isTextBelow : List ℕ → ℕ → ℕ → Bool
 isTextBelow l t e = pick (leb t e) false (isTextIn l e)
+
+-- the types of a struct's members, 1.0 or 1.1
+abbrev pub typesAs : Bool → Tys → Tys
+typesAs true ts = asOlds ts
+typesAs false ts = ts
 
 -- a key, then a value
 unfoldable pub entry : Ty → Ty → Parser (Unit {0})

@@ -3,7 +3,7 @@
 // The readers of values, structs, sequences and dictionaries are one cycle of calls. Each has a bound: a type is one of the rows
 // below it, any other row is broken. The bound falls with each part. `part` is small enough to be inlined into the loops that call it;
 // `value`, called from several places, is not.
-// Each is given `begin`, where the type rows begin.
+// Each is given `begin`, where the type rows begin, and `old`: whether the value is in encoding 1.0, which has other enums and proxies.
 mod plain;
 
 ghost use mathlib.Core.Path.{_≡_};
@@ -11,6 +11,7 @@ ghost use Rattle.encoding.specs.Result.{times};
 ghost use Rattle.encoding.specs.Types.{struct, seq, dict};
 ghost use Rattle.encoding.specs.Table.{typesAt, field, tys, partTy, tyOf, memberTys, ownRows};
 ghost use Rattle.encoding.specs.Value.{value, exact};
+ghost use Rattle.encoding.specs.Old.{typeAs};
 ghost use Rattle.wire.specs.Steps.{stepOf};
 ghost use Rattle.shapes.specs.Shapes.{shapesOf, widthBelow};
 ghost use Rattle.value.specs.Parts.{entry, isTextBelow};
@@ -18,10 +19,18 @@ use wire::Sized;
 use wire::Step;
 
 // A value of row e, where e is below t.
-fn value(table: &[u8], begin: usize, shapes: &[u8; 256], t: usize, e: usize, s: &[u8]) -> Step
+fn value(
+    table: &[u8],
+    begin: usize,
+    shapes: &[u8; 256],
+    t: usize,
+    e: usize,
+    s: &[u8],
+    old: bool,
+) -> Step
     requires { ⌜ begin ≡ typesAt (now table) ⌝ }
     requires { ⌜ now shapes ≡ shapesOf (now table) ⌝ }
-    ensures { λ r. ⌜ r ≡ stepOf (value (partTy (now (table .entry)) t e) (now (s .entry))) ⌝ }
+    ensures { λ r. ⌜ r ≡ stepOf (value (typeAs old (partTy (now (table .entry)) t e)) (now (s .entry))) ⌝ }
 {
     if t <= e {
         return Step::Fault(4, 0);
@@ -36,20 +45,28 @@ fn value(table: &[u8], begin: usize, shapes: &[u8; 256], t: usize, e: usize, s: 
         5 => plain::skip(s, 4),
         6 => plain::skip(s, 8),
         7 => text::read_text(s),
-        8 => plain::enumerator(table, e, s),
-        9 => struct_value(table, begin, shapes, e, s),
-        10 => sequence(table, begin, shapes, e, s),
-        11 => dictionary(table, begin, shapes, e, s),
-        12 => proxy::proxy(s),
+        8 => plain::enumerator_as(table, begin, e, s, old),
+        9 => struct_value(table, begin, shapes, e, s, old),
+        10 => sequence(table, begin, shapes, e, s, old),
+        11 => dictionary(table, begin, shapes, e, s, old),
+        12 => proxy::proxy(old, s),
         _ => Step::Fault(4, 0),
     }
 }
 
 // The same; a value that may be any bytes is taken at once. The answer is rebuilt, so that it stays in registers.
-fn part(table: &[u8], begin: usize, shapes: &[u8; 256], t: usize, e: usize, s: &[u8]) -> Step
+fn part(
+    table: &[u8],
+    begin: usize,
+    shapes: &[u8; 256],
+    t: usize,
+    e: usize,
+    s: &[u8],
+    old: bool,
+) -> Step
     requires { ⌜ begin ≡ typesAt (now table) ⌝ }
     requires { ⌜ now shapes ≡ shapesOf (now table) ⌝ }
-    ensures { λ r. ⌜ r ≡ stepOf (value (partTy (now (table .entry)) t e) (now (s .entry))) ⌝ }
+    ensures { λ r. ⌜ r ≡ stepOf (value (typeAs old (partTy (now (table .entry)) t e)) (now (s .entry))) ⌝ }
 {
     if e < t {
         let w = shapes::width(shapes, e);
@@ -59,7 +76,7 @@ fn part(table: &[u8], begin: usize, shapes: &[u8; 256], t: usize, e: usize, s: &
             }
         }
     }
-    let step = value(table, begin, shapes, t, e, s);
+    let step = value(table, begin, shapes, t, e, s, old);
     match step {
         Step::Took(n) => Step::Took(n),
         Step::Fault(f, p) => Step::Fault(f, p),
@@ -67,10 +84,17 @@ fn part(table: &[u8], begin: usize, shapes: &[u8; 256], t: usize, e: usize, s: &
 }
 
 // The members of struct row t, one after another.
-fn struct_value(table: &[u8], begin: usize, shapes: &[u8; 256], t: usize, s: &[u8]) -> Step
+fn struct_value(
+    table: &[u8],
+    begin: usize,
+    shapes: &[u8; 256],
+    t: usize,
+    s: &[u8],
+    old: bool,
+) -> Step
     requires { ⌜ begin ≡ typesAt (now table) ⌝ }
     requires { ⌜ now shapes ≡ shapesOf (now table) ⌝ }
-    ensures { λ r. ⌜ r ≡ stepOf (value (struct (memberTys (now (table .entry)) (tys (now (table .entry)) t) (ownRows (now (table .entry)) t))) (now (s .entry))) ⌝ }
+    ensures { λ r. ⌜ r ≡ stepOf (value (typeAs old (struct (memberTys (now (table .entry)) (tys (now (table .entry)) t) (ownRows (now (table .entry)) t)))) (now (s .entry))) ⌝ }
 {
     let all = table::members(table);
     let first = table::members_at(table, begin);
@@ -83,7 +107,7 @@ fn struct_value(table: &[u8], begin: usize, shapes: &[u8; 256], t: usize, s: &[u
             return Step::Fault(4, at);
         }
         let row = table::member_row_from(table, first, m);
-        let step = part(table, begin, shapes, t, row.of, &s[at..]);
+        let step = part(table, begin, shapes, t, row.of, &s[at..], old);
         match step {
             Step::Took(n) => {
                 at += n;
@@ -109,10 +133,10 @@ fn is_text_below(shapes: &[u8; 256], t: usize, k: usize) -> bool
 }
 
 // The sequence of row t: a size, and as many elements; elements that may be any bytes are taken at once.
-fn sequence(table: &[u8], begin: usize, shapes: &[u8; 256], t: usize, s: &[u8]) -> Step
+fn sequence(table: &[u8], begin: usize, shapes: &[u8; 256], t: usize, s: &[u8], old: bool) -> Step
     requires { ⌜ begin ≡ typesAt (now table) ⌝ }
     requires { ⌜ now shapes ≡ shapesOf (now table) ⌝ }
-    ensures { λ r. ⌜ r ≡ stepOf (value (seq (partTy (now (table .entry)) t (field (now (table .entry)) t 0))) (now (s .entry))) ⌝ }
+    ensures { λ r. ⌜ r ≡ stepOf (value (typeAs old (seq (partTy (now (table .entry)) t (field (now (table .entry)) t 0)))) (now (s .entry))) ⌝ }
 {
     let z = wire::read_size(s);
     match z {
@@ -124,7 +148,7 @@ fn sequence(table: &[u8], begin: usize, shapes: &[u8; 256], t: usize, s: &[u8]) 
                     return Step::Took(k + n * w);
                 }
             }
-            let step = elements(table, begin, shapes, t, e, n, &s[k..]);
+            let step = elements(table, begin, shapes, t, e, n, &s[k..], old);
             match step {
                 Step::Took(m) => Step::Took(k + m),
                 Step::Fault(f, p) => Step::Fault(f, k + p),
@@ -143,10 +167,11 @@ fn elements(
     e: usize,
     n: usize,
     s: &[u8],
+    old: bool,
 ) -> Step
     requires { ⌜ begin ≡ typesAt (now table) ⌝ }
     requires { ⌜ now shapes ≡ shapesOf (now table) ⌝ }
-    ensures { λ r. ⌜ r ≡ stepOf (times n (value (partTy (now (table .entry)) t e)) (now (s .entry))) ⌝ }
+    ensures { λ r. ⌜ r ≡ stepOf (times n (value (typeAs old (partTy (now (table .entry)) t e))) (now (s .entry))) ⌝ }
 {
     if e < t {
         if shapes::is_text(shapes, e) {
@@ -159,7 +184,7 @@ fn elements(
     let mut left = n;
     let mut at: usize = 0;
     while left > 0 {
-        let step = part(table, begin, shapes, t, e, &s[at..]);
+        let step = part(table, begin, shapes, t, e, &s[at..], old);
         match step {
             Step::Took(m) => {
                 at += m;
@@ -175,15 +200,15 @@ fn elements(
 }
 
 // The dictionary of row t: a size, and as many pairs.
-fn dictionary(table: &[u8], begin: usize, shapes: &[u8; 256], t: usize, s: &[u8]) -> Step
+fn dictionary(table: &[u8], begin: usize, shapes: &[u8; 256], t: usize, s: &[u8], old: bool) -> Step
     requires { ⌜ begin ≡ typesAt (now table) ⌝ }
     requires { ⌜ now shapes ≡ shapesOf (now table) ⌝ }
-    ensures { λ r. ⌜ r ≡ stepOf (value (dict (partTy (now (table .entry)) t (field (now (table .entry)) t 0)) (partTy (now (table .entry)) t (field (now (table .entry)) t 1))) (now (s .entry))) ⌝ }
+    ensures { λ r. ⌜ r ≡ stepOf (value (typeAs old (dict (partTy (now (table .entry)) t (field (now (table .entry)) t 0)) (partTy (now (table .entry)) t (field (now (table .entry)) t 1)))) (now (s .entry))) ⌝ }
 {
     let z = wire::read_size(s);
     match z {
         Sized::Is(n, k) => {
-            let step = pairs(table, begin, shapes, t, n, &s[k..]);
+            let step = pairs(table, begin, shapes, t, n, &s[k..], old);
             match step {
                 Step::Took(m) => Step::Took(k + m),
                 Step::Fault(f, p) => Step::Fault(f, k + p),
@@ -194,10 +219,18 @@ fn dictionary(table: &[u8], begin: usize, shapes: &[u8; 256], t: usize, s: &[u8]
 }
 
 // n pairs of dictionary row t.
-fn pairs(table: &[u8], begin: usize, shapes: &[u8; 256], t: usize, n: usize, s: &[u8]) -> Step
+fn pairs(
+    table: &[u8],
+    begin: usize,
+    shapes: &[u8; 256],
+    t: usize,
+    n: usize,
+    s: &[u8],
+    old: bool,
+) -> Step
     requires { ⌜ begin ≡ typesAt (now table) ⌝ }
     requires { ⌜ now shapes ≡ shapesOf (now table) ⌝ }
-    ensures { λ r. ⌜ r ≡ stepOf (times n (entry (partTy (now (table .entry)) t (field (now (table .entry)) t 0)) (partTy (now (table .entry)) t (field (now (table .entry)) t 1))) (now (s .entry))) ⌝ }
+    ensures { λ r. ⌜ r ≡ stepOf (times n (entry (typeAs old (partTy (now (table .entry)) t (field (now (table .entry)) t 0))) (typeAs old (partTy (now (table .entry)) t (field (now (table .entry)) t 1)))) (now (s .entry))) ⌝ }
 {
     let key = table::field_a(table, begin, t);
     let val = table::field_b(table, begin, t);
@@ -206,7 +239,7 @@ fn pairs(table: &[u8], begin: usize, shapes: &[u8; 256], t: usize, n: usize, s: 
     let mut left = n;
     let mut at: usize = 0;
     while left > 0 {
-        let step = pair(table, begin, shapes, t, key, val, text, w, &s[at..]);
+        let step = pair(table, begin, shapes, t, key, val, text, w, &s[at..], old);
         match step {
             Step::Took(m) => {
                 at += m;
@@ -229,16 +262,17 @@ fn key(
     k: usize,
     text: bool,
     s: &[u8],
+    old: bool,
 ) -> Step
     requires { ⌜ begin ≡ typesAt (now table) ⌝ }
     requires { ⌜ now shapes ≡ shapesOf (now table) ⌝ }
     requires { ⌜ text ≡ isTextBelow (now shapes) t k ⌝ }
-    ensures { λ r. ⌜ r ≡ stepOf (value (partTy (now (table .entry)) t k) (now (s .entry))) ⌝ }
+    ensures { λ r. ⌜ r ≡ stepOf (value (typeAs old (partTy (now (table .entry)) t k)) (now (s .entry))) ⌝ }
 {
     if text {
         return text::read_text(s);
     }
-    part(table, begin, shapes, t, k, s)
+    part(table, begin, shapes, t, k, s, old)
 }
 
 // A key of row k, then a value of row v, both below t; `text` and `w` come from their shapes, looked up once for all pairs.
@@ -252,14 +286,15 @@ fn pair(
     text: bool,
     w: usize,
     s: &[u8],
+    old: bool,
 ) -> Step
     requires { ⌜ begin ≡ typesAt (now table) ⌝ }
     requires { ⌜ now shapes ≡ shapesOf (now table) ⌝ }
     requires { ⌜ text ≡ isTextBelow (now shapes) t k ⌝ }
     requires { ⌜ w ≡ widthBelow (now shapes) t v ⌝ }
-    ensures { λ r. ⌜ r ≡ stepOf (entry (partTy (now (table .entry)) t k) (partTy (now (table .entry)) t v) (now (s .entry))) ⌝ }
+    ensures { λ r. ⌜ r ≡ stepOf (entry (typeAs old (partTy (now (table .entry)) t k)) (typeAs old (partTy (now (table .entry)) t v)) (now (s .entry))) ⌝ }
 {
-    let first = key(table, begin, shapes, t, k, text, s);
+    let first = key(table, begin, shapes, t, k, text, s, old);
     match first {
         Step::Took(n) => {
             if 0 < w {
@@ -267,7 +302,7 @@ fn pair(
                     return Step::Took(n + w);
                 }
             }
-            let step = value(table, begin, shapes, t, v, &s[n..]);
+            let step = value(table, begin, shapes, t, v, &s[n..], old);
             match step {
                 Step::Took(m) => Step::Took(n + m),
                 Step::Fault(f, p) => Step::Fault(f, n + p),
@@ -278,23 +313,37 @@ fn pair(
 }
 
 // A value of row t of the table; a row that has no tree is refused by 4 here.
-pub fn read_value(table: &[u8], begin: usize, shapes: &[u8; 256], t: usize, s: &[u8]) -> Step
+pub fn read_value(
+    table: &[u8],
+    begin: usize,
+    shapes: &[u8; 256],
+    t: usize,
+    s: &[u8],
+    old: bool,
+) -> Step
     requires { ⌜ begin ≡ typesAt (now table) ⌝ }
     requires { ⌜ now shapes ≡ shapesOf (now table) ⌝ }
-    ensures { λ r. ⌜ r ≡ stepOf (value (tyOf (now (table .entry)) t) (now (s .entry))) ⌝ }
+    ensures { λ r. ⌜ r ≡ stepOf (value (typeAs old (tyOf (now (table .entry)) t)) (now (s .entry))) ⌝ }
 {
-    let step = value(table, begin, shapes, table::rows(table), t, s);
+    let step = value(table, begin, shapes, table::rows(table), t, s, old);
     match step {
         Step::Took(n) => Step::Took(n),
         Step::Fault(f, p) => Step::Fault(f, p),
     }
 }
 
-// The same; one that may be any bytes, a string, a bool and an enum without a list are taken without a call.
-pub fn read_member(table: &[u8], begin: usize, shapes: &[u8; 256], t: usize, s: &[u8]) -> Step
+// The same; one that may be any bytes, a string, a bool and an enum of 1.1 without a list are taken without a call.
+pub fn read_member(
+    table: &[u8],
+    begin: usize,
+    shapes: &[u8; 256],
+    t: usize,
+    s: &[u8],
+    old: bool,
+) -> Step
     requires { ⌜ begin ≡ typesAt (now table) ⌝ }
     requires { ⌜ now shapes ≡ shapesOf (now table) ⌝ }
-    ensures { λ r. ⌜ r ≡ stepOf (value (tyOf (now (table .entry)) t) (now (s .entry))) ⌝ }
+    ensures { λ r. ⌜ r ≡ stepOf (value (typeAs old (tyOf (now (table .entry)) t)) (now (s .entry))) ⌝ }
 {
     let w = shapes::width(shapes, t);
     if 0 < w {
@@ -310,18 +359,27 @@ pub fn read_member(table: &[u8], begin: usize, shapes: &[u8; 256], t: usize, s: 
     }
     if shapes::is_enum(shapes, t) {
         if !table::with_lists(table, begin) {
-            let row = table::type_row(table, begin, t);
-            return plain::upto(table::greatest(row), s);
+            if !old {
+                let row = table::type_row(table, begin, t);
+                return plain::upto(table::greatest(row), s);
+            }
         }
     }
-    read_value(table, begin, shapes, t, s)
+    read_value(table, begin, shapes, t, s, old)
 }
 
 // The bytes are exactly one value of row t.
-pub fn exact_value(table: &[u8], begin: usize, shapes: &[u8; 256], t: usize, s: &[u8]) -> bool
+pub fn exact_value(
+    table: &[u8],
+    begin: usize,
+    shapes: &[u8; 256],
+    t: usize,
+    s: &[u8],
+    old: bool,
+) -> bool
     requires { ⌜ begin ≡ typesAt (now table) ⌝ }
     requires { ⌜ now shapes ≡ shapesOf (now table) ⌝ }
-    ensures { λ r. ⌜ r ≡ exact (tyOf (now (table .entry)) t) (now (s .entry)) ⌝ }
+    ensures { λ r. ⌜ r ≡ exact (typeAs old (tyOf (now (table .entry)) t)) (now (s .entry)) ⌝ }
 {
     let w = shapes::width(shapes, t);
     if 0 < w {
@@ -329,7 +387,7 @@ pub fn exact_value(table: &[u8], begin: usize, shapes: &[u8; 256], t: usize, s: 
             return w == s.len();
         }
     }
-    let step = value(table, begin, shapes, table::rows(table), t, s);
+    let step = value(table, begin, shapes, table::rows(table), t, s, old);
     match step {
         Step::Took(n) => n == s.len(),
         Step::Fault(f, p) => false,

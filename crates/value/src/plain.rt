@@ -4,12 +4,13 @@ ghost use mathlib.Core.Bool.{true};
 ghost use Prim.Native.Nat.{_+_, _≤_};
 ghost use lib.ListN.{length};
 ghost use Rattle.encoding.specs.Result.{skip, times};
-ghost use Rattle.encoding.specs.Number.{bool};
+ghost use Rattle.encoding.specs.Number.{bool, number};
 ghost use Rattle.encoding.specs.Proxy.{text};
-ghost use Rattle.encoding.specs.Types.{upto, enum};
-ghost use Rattle.encoding.specs.Table.{allowed};
-ghost use Rattle.encoding.specs.Value.{value};
-ghost use Rattle.wire.specs.Steps.{stepOf};
+ghost use Rattle.encoding.specs.Types.{upto, enum, oldEnum};
+ghost use Rattle.encoding.specs.Table.{typesAt, allowed};
+ghost use Rattle.encoding.specs.Value.{enumWidth, value};
+ghost use Rattle.encoding.specs.Old.{typeAs};
+ghost use Rattle.wire.specs.Steps.{stepOf, sizedOf};
 ghost use Rattle.value.specs.Parts.{AreBools};
 use wire::Sized;
 use wire::Step;
@@ -110,7 +111,7 @@ pub fn texts(s: &[u8], n: usize) -> Step
 }
 
 // An enum: a size that enum row t of the table allows.
-pub fn enumerator(table: &[u8], t: usize, s: &[u8]) -> Step
+fn enumerator(table: &[u8], t: usize, s: &[u8]) -> Step
     ensures { λ r. ⌜ r ≡ stepOf (value (enum (allowed (now (table .entry)) t)) (now (s .entry))) ⌝ }
 {
     let z = wire::read_size(s);
@@ -141,4 +142,56 @@ pub fn upto(g: usize, s: &[u8]) -> Step
         }
         Sized::Isnt(f, p) => Step::Fault(f, p),
     }
+}
+
+// The number of an enumerator in encoding 1.0: of one byte, two or four, by the greatest, g.
+// Wrong and ruled out: a byte where the greatest is 127; the bytes of a short in the other order.
+fn old_number(g: usize, s: &[u8]) -> Sized
+    ensures { λ r. ⌜ r ≡ sizedOf (number (enumWidth g) (now (s .entry))) ⌝ }
+{
+    if g <= 126 {
+        if s.len() < 1 {
+            return Sized::Isnt(4, 0);
+        }
+        return Sized::Is(wire::byte_at(s, 0), 1);
+    }
+    if g <= 32766 {
+        if s.len() < 2 {
+            return Sized::Isnt(4, 0);
+        }
+        return Sized::Is(wire::short_at(s, 0), 2);
+    }
+    if s.len() < 4 {
+        return Sized::Isnt(4, 0);
+    }
+    Sized::Is(wire::int_at(s, 0), 4)
+}
+
+// An enum in encoding 1.0: a number that enum row t of the table allows. Here and below, `begin` is where the type rows begin.
+fn old_enumerator(table: &[u8], begin: usize, t: usize, s: &[u8]) -> Step
+    requires { ⌜ begin ≡ typesAt (now table) ⌝ }
+    ensures { λ r. ⌜ r ≡ stepOf (value (oldEnum (allowed (now (table .entry)) t)) (now (s .entry))) ⌝ }
+{
+    let z = old_number(table::most(table, begin, t), s);
+    match z {
+        Sized::Is(n, k) => {
+            if table::allows(table, t, n) {
+                Step::Took(k)
+            } else {
+                Step::Fault(9, 0)
+            }
+        }
+        Sized::Isnt(f, p) => Step::Fault(f, p),
+    }
+}
+
+// An enum in either encoding.
+pub fn enumerator_as(table: &[u8], begin: usize, t: usize, s: &[u8], old: bool) -> Step
+    requires { ⌜ begin ≡ typesAt (now table) ⌝ }
+    ensures { λ r. ⌜ r ≡ stepOf (value (typeAs old (enum (allowed (now (table .entry)) t))) (now (s .entry))) ⌝ }
+{
+    if old {
+        return old_enumerator(table, begin, t, s);
+    }
+    enumerator(table, t, s)
 }

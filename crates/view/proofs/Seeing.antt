@@ -16,7 +16,7 @@ use lib.Dec.{eqb}
 use borrow.Author.Tests.{eq-eqb, ne-eqb}
 use Rattle.encoding.specs.Result.{Res, ok, bad, pick, concat}
 use Rattle.encoding.specs.Table.{at, members, range, any, takes, chain}
-use Rattle.encoding.specs.Message.{Read, limit, rules, Row, rows, rowBytes, firstKnown}
+use Rattle.encoding.specs.Message.{Encoding, Read, limit, rules, Row, rows, rowBytes, firstKnown}
 use Rattle.encoding.specs.Write.{rowAt}
 use Rattle.encoding.specs.View.{Seen, part, fallback, nothing, rowOf, ofChain, seen, viewing, seenBytes}
 use Rattle.table.proofs.Ranges.{range-more, range-none}
@@ -71,10 +71,10 @@ module _ (list : List ℕ) (member n i : ℕ) (S : Seeks list member n i) where
 -- ---- what a walk says of a member
 
 -- a part lies in the message
-row-within : (T m : List ℕ) (member : ℕ) {rs : List Row} → All (RowExact T m) rs → (p l : ℕ) → rowOf member rs ≡ part p l → p + l ≤ length m
+row-within : (T m : List ℕ) (f : Encoding) (member : ℕ) {rs : List Row} → All (RowExact T m f) rs → (p l : ℕ) → rowOf member rs ≡ part p l → p + l ≤ length m
 unfolding rowOf
-row-within T m member end p l h = let z : _≡_ {A = ℕ} 0 1 = cc in absurd (omega arith)
-row-within T m member (more {a = r} {l = rs} E L) p l h = go (eqb member (r .member)) h (λ x. row-within T m member L p l x)
+row-within T m f member end p l h = let z : _≡_ {A = ℕ} 0 1 = cc in absurd (omega arith)
+row-within T m f member (more {a = r} {l = rs} E L) p l h = go (eqb member (r .member)) h (λ x. row-within T m f member L p l x)
   where
     go : (b : Bool) → pick b (part (r .place) (r .len)) (rowOf member rs) ≡ part p l → (rowOf member rs ≡ part p l → p + l ≤ length m) → p + l ≤ length m
     go true h next = let ep : r .place ≡ p = cc in let el : r .len ≡ l = cc in omega (arith, E .inside)
@@ -159,7 +159,7 @@ module _ (T : List ℕ) (top : ℕ) (m list last : List ℕ) (w : Walk) (W : Wal
 
             go : (K : Taken T top m t n) (p l : ℕ) → Part p l ≡ viewOf (rowOf member (rows T top (K .rd .format) (K .rd .pieces))) → p + l ≤ length m
             go K p l h =
-                row-within T m member (exact-rows T top m (K .rd .format) (K .rd .pieces) (K .end) (W .bytes) (K .accepted)) p l (go₂ _ p l h)
+                row-within T m (K .rd .format) member (exact-rows T top m (K .rd .format) (K .rd .pieces) (K .end) (W .bytes) (K .accepted)) p l (go₂ _ p l h)
 
   module _ (c q : ℕ) (e : w ≡ Stop c q) where
     pub look-refused : (i j : ℕ) → i ≡ low c → j ≡ low q → (member : ℕ) → Refused i j ≡ viewAnswer T top m member

@@ -14,7 +14,8 @@ use Rattle.encoding.specs.Result.{concat}
 use Rattle.encoding.specs.Optional.{Piece, pieceBytes, isOptional}
 use Rattle.encoding.specs.Slice.{anyOptional}
 use Rattle.encoding.specs.Table.{base}
-use Rattle.encoding.specs.Write.{State, stop, anyOf}
+use Rattle.encoding.specs.Old.{anyOf}
+use Rattle.encoding.specs.Write.{State, stop}
 use Rattle.pieces.specs.declared.Cursor.{Cursor}
 use Rattle.pieces.specs.declared.Placed.{Placed}
 use Rattle.pieces.specs.declared.Placed.the-variants.{Row, Stop, Wrong}
@@ -48,21 +49,21 @@ module _ (T rows buffer : List ℕ) (s : State) (i count : ℕ) where
   group-end h = let n : count - i ≡ 0 = omega arith in ap (group T rows buffer s i) n
 
 -- the rows from i on give the pieces still to be put, and the verdict
-pub record Grouping (T rows buffer : List ℕ) (judged : Bool) (count o first begin : ℕ) (out₀ : List ℕ) (c : Cursor) (at i : ℕ) (optionals : Bool) (out : List ℕ) : Type 0 where
+pub record Grouping (T : List ℕ) (old : Bool) (rows buffer : List ℕ) (judged : Bool) (count o first begin : ℕ) (out₀ : List ℕ) (c : Cursor) (at i : ℕ) (optionals : Bool) (out : List ℕ) : Type 0 where
   pub leaves : Leaves begin (concat pieceBytes (groupOf T rows buffer count o first)) out₀ at (concat pieceBytes (group T rows buffer (stateOf T c) i (count - i))) out
   pub left : i + length (group T rows buffer (stateOf T c) i (count - i)) ≡ first + length (groupOf T rows buffer count o first)
   pub flags : (optionals || anyOptional (group T rows buffer (stateOf T c) i (count - i))) ≡ anyOptional (groupOf T rows buffer count o first)
-  pub rest : Gives judged (verdictFrom T rows buffer count (stateOf T (start o)) first) (verdictFrom T rows buffer count (stateOf T c) i)
+  pub rest : Gives judged (verdictFrom T old rows buffer count (stateOf T (start o)) first) (verdictFrom T old rows buffer count (stateOf T c) i)
   pub same : c .owner ≡ o
   pub near : c .passed ≤ 65536
   pub behind : first ≤ i
   pub within : i ≤ count
   pub few : at ≤ begin + 66000 * (i - first)
 
-pub grouping-begin : (T rows buffer : List ℕ) (judged : Bool) (count o first begin : ℕ) (out : List ℕ) → first ≤ count
-    → Grouping T rows buffer judged count o first begin out (start o) begin first false out
+pub grouping-begin : (T : List ℕ) (old : Bool) (rows buffer : List ℕ) (judged : Bool) (count o first begin : ℕ) (out : List ℕ) → first ≤ count
+    → Grouping T old rows buffer judged count o first begin out (start o) begin first false out
 unfolding groupOf
-grouping-begin T rows buffer judged count o first begin out h = record {
+grouping-begin T old rows buffer judged count o first begin out h = record {
   leaves = leaves-begin begin _ out;
   left = refl;
   flags = refl;
@@ -82,10 +83,10 @@ or-none : (a : Bool) → (a || false) ≡ a
 or-none true = refl
 or-none false = refl
 
-module _ (T rows buffer : List ℕ) (judged : Bool) (count o first begin : ℕ) (out₀ : List ℕ) (c : Cursor) (at i : ℕ) (optionals : Bool) (out : List ℕ)
-    (g : Grouping T rows buffer judged count o first begin out₀ c at i optionals out) where
-  row-next : (last : List ℕ) → i < count → (d : Cursor) (end : ℕ) (optional : Bool) → RowLaid T rows buffer judged c i at out last d end optional
-      → Grouping T rows buffer judged count o first begin out₀ d end (i + 1) (optionals || optional) last
+module _ (T : List ℕ) (old : Bool) (rows buffer : List ℕ) (judged : Bool) (count o first begin : ℕ) (out₀ : List ℕ) (c : Cursor) (at i : ℕ) (optionals : Bool) (out : List ℕ)
+    (g : Grouping T old rows buffer judged count o first begin out₀ c at i optionals out) where
+  row-next : (last : List ℕ) → i < count → (d : Cursor) (end : ℕ) (optional : Bool) → RowLaid T old rows buffer judged c i at out last d end optional
+      → Grouping T old rows buffer judged count o first begin out₀ d end (i + 1) (optionals || optional) last
   unfolding concat anyOptional
   row-next last l d end optional r =
       let e = group-more T rows buffer (stateOf T c) i count l (r .piece) (stateOf T d) (r .is) in
@@ -94,7 +95,7 @@ module _ (T rows buffer : List ℕ) (judged : Bool) (count o first begin : ℕ) 
         left = omega (arith, g .left, ap length e);
         flags = ap (λ (b : Bool). (optionals || b) || anyOptional (group T rows buffer (stateOf T d) (i + 1) (count - (i + 1)))) (r .flag)
             ∙ or-assoc optionals (isOptional (r .piece)) _ ∙ sym (ap (λ (l : List Piece). optionals || anyOptional l) e) ∙ g .flags;
-        rest = gives-then judged _ _ _ (g .rest) (verdict-right T rows buffer count (stateOf T c) i l judged (stateOf T d) (r .right));
+        rest = gives-then judged _ _ _ (g .rest) (verdict-right T old rows buffer count (stateOf T c) i l judged (stateOf T d) (r .right));
         same = r .same ∙ g .same;
         near = r .near;
         behind = omega (arith, g .behind);
@@ -103,8 +104,8 @@ module _ (T rows buffer : List ℕ) (judged : Bool) (count o first begin : ℕ) 
       }
 
   -- no row of the owner is left
-  rows-end : group T rows buffer (stateOf T c) i (count - i) ≡ [] → verdictFrom T rows buffer count (stateOf T c) i ≡ verdictAbove T rows buffer count (base T (c .owner)) i
-      → RowsPut T rows buffer judged count o first begin out₀ out (record { end = at; row = i; optionals = optionals; fault = 0 })
+  rows-end : group T rows buffer (stateOf T c) i (count - i) ≡ [] → verdictFrom T old rows buffer count (stateOf T c) i ≡ verdictAbove T old rows buffer count (base T (c .owner)) i
+      → RowsPut T old rows buffer judged count o first begin out₀ out (record { end = at; row = i; optionals = optionals; fault = 0 })
   unfolding concat anyOptional
   rows-end e v = record {
     right = λ _. record {
@@ -112,37 +113,37 @@ module _ (T rows buffer : List ℕ) (judged : Bool) (count o first begin : ℕ) 
       next = omega (arith, g .left, ap length e);
       flag = sym (sym (g .flags) ∙ ap (λ (l : List Piece). optionals || anyOptional l) e ∙ or-none optionals);
       within = g .within;
-      rest = λ a. g .rest a ∙ v ∙ ap (λ (x : ℕ). verdictAbove T rows buffer count (base T x) i) (g .same);
+      rest = λ a. g .rest a ∙ v ∙ ap (λ (x : ℕ). verdictAbove T old rows buffer count (base T x) i) (g .same);
       few = g .few;
     };
     wrong = λ n. absurd (n refl);
   }
 
   -- they are refused
-  rows-wrong : (last : List ℕ) (n : ℕ) → 0 < n → verdictFrom T rows buffer count (stateOf T c) i ≡ stop n i
-      → RowsPut T rows buffer judged count o first begin out₀ last (record { end = at; row = i; optionals = optionals; fault = n })
+  rows-wrong : (last : List ℕ) (n : ℕ) → 0 < n → verdictFrom T old rows buffer count (stateOf T c) i ≡ stop n i
+      → RowsPut T old rows buffer judged count o first begin out₀ last (record { end = at; row = i; optionals = optionals; fault = n })
   rows-wrong last n l v = record { right = λ e. absurd (omega arith); wrong = λ _ a. g .rest a ∙ v }
 
   module _ (l : count ≤ i) (r : Bool) (e : r ≡ anyOf (dueFrom T (c .owner) (c .passed))) where
-    pub grouping-due : r ≡ true → RowsPut T rows buffer judged count o first begin out₀ out (record { end = at; row = i; optionals = optionals; fault = 20 })
-    grouping-due q = rows-wrong out 20 (omega arith) (verdict-due T rows buffer count c i l (sym e ∙ q))
+    pub grouping-due : r ≡ true → RowsPut T old rows buffer judged count o first begin out₀ out (record { end = at; row = i; optionals = optionals; fault = 20 })
+    grouping-due q = rows-wrong out 20 (omega arith) (verdict-due T old rows buffer count c i l (sym e ∙ q))
 
-    pub grouping-end : r ≡ false → RowsPut T rows buffer judged count o first begin out₀ out (record { end = at; row = i; optionals = optionals; fault = 0 })
-    grouping-end q = rows-end (group-end T rows buffer (stateOf T c) i count l) (leave-end T rows buffer count c i l (sym e ∙ q))
+    pub grouping-end : r ≡ false → RowsPut T old rows buffer judged count o first begin out₀ out (record { end = at; row = i; optionals = optionals; fault = 0 })
+    grouping-end q = rows-end (group-end T rows buffer (stateOf T c) i count l) (leave-end T old rows buffer count c i l (sym e ∙ q))
 
-  module _ (l : i < count) (last : List ℕ) (p : Placed) (h : RowPut T rows buffer judged c i at out last p) where
+  module _ (l : i < count) (last : List ℕ) (p : Placed) (h : RowPut T old rows buffer judged c i at out last p) where
     pub grouping-next : (d : Cursor) (end : ℕ) (optional : Bool) → p ≡ Row d end optional
-        → Grouping T rows buffer judged count o first begin out₀ d end (i + 1) (optionals || optional) last
+        → Grouping T old rows buffer judged count o first begin out₀ d end (i + 1) (optionals || optional) last
     grouping-next d end optional q = row-next last l d end optional (rw q at h)
 
-    pub grouping-wrong : (n : ℕ) → p ≡ Wrong n → RowsPut T rows buffer judged count o first begin out₀ last (record { end = at; row = i; optionals = optionals; fault = n })
+    pub grouping-wrong : (n : ℕ) → p ≡ Wrong n → RowsPut T old rows buffer judged count o first begin out₀ last (record { end = at; row = i; optionals = optionals; fault = n })
     grouping-wrong n q = go (rw q at h)
       where
-        go : RowPut T rows buffer judged c i at out last (Wrong n) → RowsPut T rows buffer judged count o first begin out₀ last (record { end = at; row = i; optionals = optionals; fault = n })
-        go r = rows-wrong last n (r .1) (verdict-wrong T rows buffer count (stateOf T c) i l n (r .0))
+        go : RowPut T old rows buffer judged c i at out last (Wrong n) → RowsPut T old rows buffer judged count o first begin out₀ last (record { end = at; row = i; optionals = optionals; fault = n })
+        go r = rows-wrong last n (r .1) (verdict-wrong T old rows buffer count (stateOf T c) i l n (r .0))
 
-    pub grouping-stop : p ≡ Stop → RowsPut T rows buffer judged count o first begin out₀ last (record { end = at; row = i; optionals = optionals; fault = 0 })
+    pub grouping-stop : p ≡ Stop → RowsPut T old rows buffer judged count o first begin out₀ last (record { end = at; row = i; optionals = optionals; fault = 0 })
     grouping-stop q = go (rw q at h)
       where
-        go : RowPut T rows buffer judged c i at out last Stop → RowsPut T rows buffer judged count o first begin out₀ last (record { end = at; row = i; optionals = optionals; fault = 0 })
-        go r = rw (r .1) (rows-end (group-stop T rows buffer (stateOf T c) i count (gone-none T rows buffer c i (r .0))) (leave-row T rows buffer count c i l (r .0)))
+        go : RowPut T old rows buffer judged c i at out last Stop → RowsPut T old rows buffer judged count o first begin out₀ last (record { end = at; row = i; optionals = optionals; fault = 0 })
+        go r = rw (r .1) (rows-end (group-stop T rows buffer (stateOf T c) i count (gone-none T rows buffer c i (r .0))) (leave-row T old rows buffer count c i l (r .0)))

@@ -27,34 +27,35 @@ use Rattle.pieces.specs.Cursors.{start, stateOf}
 use Rattle.pieces.specs.Judged.{verdictFrom}
 use Rattle.pieces.specs.JudgedLaws.{gives-all}
 use Rattle.pieces.specs.Puts.{Puts}
+use Rattle.writer.specs.Slices.{encodingAs}
 use Rattle.writer.specs.Messages.{contentsOf, AllPut, written, outcomeOf}
 use Rattle.writer.specs.MessagesLaws.{written-few, written-wrong, written-right}
 
-module _ (T : List ℕ) (top count : ℕ) (rows buffer lent : List ℕ) where
+module _ (T : List ℕ) (top : ℕ) (old : Bool) (count : ℕ) (rows buffer lent : List ℕ) where
   -- what is written
   abbrev result : Out (List ℕ)
-  result = written T top count rows buffer (length lent)
+  result = written T top old count rows buffer (length lent)
 
   -- the message
   abbrev message : List ℕ
-  message = encapsulate (contentsOf T rows buffer count top)
+  message = encapsulate (encodingAs old) (contentsOf T old rows buffer count top)
 
   refused : (n p : ℕ) → result ≡ stop n p → (Stopped n p ≡ outcomeOf result) × (lent ≡ output result lent)
   unfolding outcomeOf output
   refused n p w = (sym (ap outcomeOf w), sym (ap (λ (x : Out (List ℕ)). output x lent) w))
 
   pub answer-few : length rows / 12 < count → (Stopped 20 count ≡ outcomeOf result) × (lent ≡ output result lent)
-  answer-few h = refused 20 count (written-few T top count rows buffer (length lent) h)
+  answer-few h = refused 20 count (written-few T top old count rows buffer (length lent) h)
 
-  module _ (enough : count ≤ length rows / 12) (few last : List ℕ) (r : Put) (j : AllPut T rows buffer false count top 0 message few last r) where
+  module _ (enough : count ≤ length rows / 12) (few last : List ℕ) (r : Put) (j : AllPut T old rows buffer false count top 0 message few last r) where
     pub answer-wrong : (n p : ℕ) → r ≡ Wrong n p → (Stopped n p ≡ outcomeOf result) × (lent ≡ output result lent)
-    answer-wrong n p q = refused n p (written-wrong T top count rows buffer (length lent) enough n p (gives-all _ _ (rw q at j)))
+    answer-wrong n p q = refused n p (written-wrong T top old count rows buffer (length lent) enough n p (gives-all _ _ (rw q at j)))
 
     module _ (n : ℕ) (q : r ≡ Made n) where
-      all-right : (verdictFrom T rows buffer count (stateOf T (start top)) 0 ≡ out tt) × Puts 0 message few last n
+      all-right : (verdictFrom T old rows buffer count (stateOf T (start top)) 0 ≡ out tt) × Puts 0 message few last n
       all-right = go (rw q at j)
         where
-          go : AllPut T rows buffer false count top 0 message few last (Made n) → (verdictFrom T rows buffer count (stateOf T (start top)) 0 ≡ out tt) × Puts 0 message few last n
+          go : AllPut T old rows buffer false count top 0 message few last (Made n) → (verdictFrom T old rows buffer count (stateOf T (start top)) 0 ≡ out tt) × Puts 0 message few last n
           go a = (gives-all _ _ (a .0), a .1)
 
       long : length message ≡ n
@@ -63,7 +64,7 @@ module _ (T : List ℕ) (top count : ℕ) (rows buffer lent : List ℕ) where
       result-is : (a b : Bool) → leb (length message) 65536 ≡ a → leb (length message) (length lent) ≡ b → result ≡ pick (a && b) (out message) (stop 22 n)
       unfolding bounded
       result-is a b f g =
-          written-right T top count rows buffer (length lent) enough (all-right .0) ∙ rw (f, g, long)
+          written-right T top old count rows buffer (length lent) enough (all-right .0) ∙ rw (f, g, long)
 
       pub answer-over : 65536 < n → (Stopped 22 n ≡ outcomeOf result) × (lent ≡ output result lent)
       answer-over h = refused 22 n (result-is false (leb (length message) (length lent)) (lt-leb (length message) 65536 (omega (arith, long))) refl)
@@ -87,6 +88,6 @@ module _ (T : List ℕ) (top count : ℕ) (rows buffer lent : List ℕ) where
               made (e ∙ ap (λ (b : List ℕ). put 0 b lent) t)
 
           -- the rows are right as before
-          pub answer-long : (again : Put) → AllPut T rows buffer true count top 0 message lent end again → (Told n ≡ outcomeOf result) × (end ≡ output result lent)
+          pub answer-long : (again : Put) → AllPut T old rows buffer true count top 0 message lent end again → (Told n ≡ outcomeOf result) × (end ≡ output result lent)
           answer-long (Made k) a = made (a .1 .lays (omega (arith, long)))
           answer-long (Wrong k p) a = let f : stop k p ≡ out tt = sym (a (λ _. rw (all-right .0) tt)) ∙ all-right .0 in let y : _≡_ {A = ℕ} 0 1 = cc in absurd (omega arith)

@@ -10,7 +10,7 @@
 use mathlib.Core.Path.{_≡_, refl, sym, ap, ap₂, _∙_}
 use mathlib.Core.Bool.{Bool, true, false}
 use mathlib.Core.Option.{Option, none, some}
-use mathlib.Core.List.{List, [], _∷_, map}
+use mathlib.Core.List.{List, [], _∷_, _++_, map}
 use Prim.Native.Nat.{ℕ, zero, suc, _+_, _-_, _≤_, _<_}
 use native.Mathlib.Omega.{arith}
 use lib.ListN.{length}
@@ -21,15 +21,16 @@ use Rattle.encoding.specs.Value.{exact}
 use Rattle.encoding.specs.Table.{kind, range, Member, requiredMembers, optionalMembers, nameOf, base, upward, chain}
 use Rattle.encoding.specs.TableLaws.{base-below, chain-row}
 use Rattle.encoding.specs.Optional.{Piece, pieceBytes}
-use Rattle.encoding.specs.Slice.{sliced, first, Slice, known, slicesBytes}
-use Rattle.encoding.specs.Message.{Row, list, exception, class, encode}
+use Rattle.encoding.specs.Slice.{first, Slice, known}
+use Rattle.encoding.specs.Old.{typeAs}
+use Rattle.encoding.specs.Message.{Row, list, exception, class, slicesBytes, lead, encode}
 use Rattle.encoding.specs.Write.{Out, out, stop, next, State, above, begin, Reached, reachDue, optionalRow, orAbove, entered, reachMay, reach, stillDue, Given, given, partOf, judge, prepend, judgeAll, piecesOf, slicesOf, gathered, rowAt}
 use Rattle.pieces.specs.declared.Cursor.{Cursor}
 use Rattle.pieces.specs.Cursors.{bases, start, stateOf, Gone}
 use Rattle.pieces.specs.CursorsLaws.{due-begin, reach-end, reach-above}
 use Rattle.pieces.specs.JudgedLaws.{judged-up}
 use Rattle.pieces.specs.Pieces.{hereOf, Taken, takenOf, pieceAt, grown, group}
-use Rattle.writer.specs.Slices.{groupOf, sliceOf, slicesFrom}
+use Rattle.writer.specs.Slices.{encodingAs, groupOf, sliceOf, slicesFrom}
 use Rattle.writer.specs.Messages.{contentsOf}
 
 -- ---- bases
@@ -148,7 +149,7 @@ gone-none T rows buffer c i g = go (base T (c .owner)) refl
 
 -- ---- a first row that was judged right
 
-module _ (T rows buffer : List ℕ) where
+module _ (T : List ℕ) (old : Bool) (rows buffer : List ℕ) where
   -- rows i, i + 1, .., k of them
   abbrev from : ℕ → ℕ → List Row
   from i k = map (rowAt rows) (range i k)
@@ -157,33 +158,33 @@ module _ (T rows buffer : List ℕ) where
     z : Reached
     rest : List Given
     reached : reach T (rowAt rows i .member) s ≡ some z
-    more : judgeAll T buffer (z .state) (suc i) (from (suc i) k) ≡ out rest
+    more : judgeAll T old buffer (z .state) (suc i) (from (suc i) k) ≡ out rest
     is : gs ≡ given z (partOf buffer (rowAt rows i)) ∷ rest
 
-  judged-first : (s : State) (i k : ℕ) (gs : List Given) → judgeAll T buffer s i (from i (suc k)) ≡ out gs → First s i k gs
+  judged-first : (s : State) (i k : ℕ) (gs : List Given) → judgeAll T old buffer s i (from i (suc k)) ≡ out gs → First s i k gs
   unfolding judgeAll judge next prepend range
   judged-first s i k gs e = go (reach T (rowAt rows i .member) s) refl e
     where
       r : Row
       r = rowAt rows i
 
-      second : (z : Reached) → reach T (r .member) s ≡ some z → (w : Out (List Given)) → judgeAll T buffer (z .state) (suc i) (from (suc i) k) ≡ w
+      second : (z : Reached) → reach T (r .member) s ≡ some z → (w : Out (List Given)) → judgeAll T old buffer (z .state) (suc i) (from (suc i) k) ≡ w
           → next w (prepend (given z (partOf buffer r))) ≡ out gs → First s i k gs
       second z q (out l) f h = record { z = z; rest = l; reached = q; more = f; is = cc }
       second z q (stop n p) f h = let y : _≡_ {A = ℕ} 0 1 = cc in absurd (omega arith)
 
       parts : (z : Reached) → reach T (r .member) s ≡ some z → (a b : Bool)
-          → next (pick a (pick b (out z) (stop 21 i)) (stop 20 i)) (λ (z : Reached). next (judgeAll T buffer (z .state) (suc i) (from (suc i) k)) (prepend (given z (partOf buffer r)))) ≡ out gs
+          → next (pick a (pick b (out z) (stop 21 i)) (stop 20 i)) (λ (z : Reached). next (judgeAll T old buffer (z .state) (suc i) (from (suc i) k)) (prepend (given z (partOf buffer r)))) ≡ out gs
           → First s i k gs
       parts z q true true h = second z q _ refl h
       parts z q true false h = let y : _≡_ {A = ℕ} 0 1 = cc in absurd (omega arith)
       parts z q false b h = let y : _≡_ {A = ℕ} 0 1 = cc in absurd (omega arith)
 
       go : (w : Option Reached) → reach T (r .member) s ≡ w
-          → next (judge buffer i r w) (λ (z : Reached). next (judgeAll T buffer (z .state) (suc i) (from (suc i) k)) (prepend (given z (partOf buffer r)))) ≡ out gs
+          → next (judge old buffer i r w) (λ (z : Reached). next (judgeAll T old buffer (z .state) (suc i) (from (suc i) k)) (prepend (given z (partOf buffer r)))) ≡ out gs
           → First s i k gs
       go none q h = let y : _≡_ {A = ℕ} 0 1 = cc in absurd (omega arith)
-      go (some z) q h = parts z q (leb (r .place + r .len) (length buffer)) (exact (z .member .ty) (partOf buffer r)) h
+      go (some z) q h = parts z q (leb (r .place + r .len) (length buffer)) (exact (typeAs old (z .member .ty)) (partOf buffer r)) h
 
   -- ---- owner by owner
 
@@ -255,7 +256,7 @@ module _ (T rows buffer : List ℕ) where
           free = λ u q. S .free u (omega arith);
         }
 
-  split-end : (count : ℕ) (s : State) (i : ℕ) (gs : List Given) → count - i ≡ 0 → judgeAll T buffer s i (from i 0) ≡ out gs → Split count s i 0 gs
+  split-end : (count : ℕ) (s : State) (i : ℕ) (gs : List Given) → count - i ≡ 0 → judgeAll T old buffer s i (from i 0) ≡ out gs → Split count s i 0 gs
   unfolding judgeAll range group piecesOf
   split-end count s i gs n e = go (stillDue T s) e
     where
@@ -271,9 +272,9 @@ module _ (T rows buffer : List ℕ) where
 
   -- one more row, where it is known of fewer
   split-more : (count k : ℕ)
-      → ((s : State) (i : ℕ) (gs : List Given) → s .above ≡ bases T (s .owner) → count - i ≡ k → judgeAll T buffer s i (from i k) ≡ out gs → Split count s i k gs)
+      → ((s : State) (i : ℕ) (gs : List Given) → s .above ≡ bases T (s .owner) → count - i ≡ k → judgeAll T old buffer s i (from i k) ≡ out gs → Split count s i k gs)
       → (ts : List ℕ) (s : State) (i : ℕ) (gs : List Given) → s .above ≡ ts → ts ≡ bases T (s .owner) → count - i ≡ suc k
-      → judgeAll T buffer s i (from i (suc k)) ≡ out gs → Split count s i (suc k) gs
+      → judgeAll T old buffer s i (from i (suc k)) ≡ out gs → Split count s i (suc k) gs
   unfolding begin
   split-more count k ih [] s i gs e b n j = go (judged-first s i k gs j)
     where
@@ -285,7 +286,7 @@ module _ (T rows buffer : List ℕ) where
           side (up t us p q) = let f : t ∷ us ≡ [] = cc in let y : _≡_ {A = ℕ} 0 1 = cc in absurd (omega arith)
   split-more count k ih (t ∷ ts) s i gs e b n j = go (judged-first s i k gs j) (λ q. split-more count k ih ts (begin T t ts) i gs refl (bases-more T (s .owner) t ts b .1) n q)
     where
-      go : First s i k gs → (judgeAll T buffer (begin T t ts) i (from i (suc k)) ≡ out gs → Split count (begin T t ts) i (suc k) gs) → Split count s i (suc k) gs
+      go : First s i k gs → (judgeAll T old buffer (begin T t ts) i (from i (suc k)) ≡ out gs → Split count (begin T t ts) i (suc k) gs) → Split count s i (suc k) gs
       go F rec = side (reach-where T (rowAt rows i .member) s (F .z) (F .reached))
         where
           side : Where T (rowAt rows i .member) (s .owner) (s .above) (reach T (rowAt rows i .member) s) (F .z) → Split count s i (suc k) gs
@@ -300,16 +301,16 @@ module _ (T rows buffer : List ℕ) where
               let m = bases-more T (s .owner) t ts b in
               split-up count s i k gs F t ts e (m .1) (m .0)
               (reach-low T (rowAt rows i .member) ts (begin T t ts) (F .z) refl (under-bases T ts t (m .1)) (sym r ∙ F .reached))
-              n (rec (sym (judged-up T rows buffer s (begin T t ts) i k r) ∙ j))
+              n (rec (sym (judged-up T old rows buffer s (begin T t ts) i k r) ∙ j))
 
-  split : (count k : ℕ) (s : State) (i : ℕ) (gs : List Given) → s .above ≡ bases T (s .owner) → count - i ≡ k → judgeAll T buffer s i (from i k) ≡ out gs → Split count s i k gs
+  split : (count k : ℕ) (s : State) (i : ℕ) (gs : List Given) → s .above ≡ bases T (s .owner) → count - i ≡ k → judgeAll T old buffer s i (from i k) ≡ out gs → Split count s i k gs
   split count zero s i gs b n j = split-end count s i gs n j
   split count (suc k) s i gs b n j = split-more count k (λ s i gs b n j. split count k s i gs b n j) (s .above) s i gs refl b n j
 
   -- ---- the message
 
-  pub contents-are : (count type : ℕ) (gs : List Given) → judgeAll T buffer (stateOf T (start type)) 0 (from 0 count) ≡ out gs
-      → encode sliced (gathered T type gs) ≡ contentsOf T rows buffer count type
+  pub contents-are : (count type : ℕ) (gs : List Given) → judgeAll T old buffer (stateOf T (start type)) 0 (from 0 count) ≡ out gs
+      → encode (encodingAs old) (gathered T type gs) ≡ contentsOf T old rows buffer count type
   unfolding encode gathered contentsOf stateOf slicesOf slicesFrom sliceOf groupOf
   contents-are count type gs j = go (eqb (kind T type) 15) (eqb (kind T type) 14)
     where
@@ -325,8 +326,8 @@ module _ (T rows buffer : List ℕ) where
           ∙ ap₂ (λ (x : List Piece) (y : List Slice). known (nameOf T type) x ∷ y) list-is (S .others ∙ ap (λ (x : List Piece). slicesFrom T rows buffer count (0 + length x) (bases T type)) (sym (S .mine) ∙ list-is))
           ∙ ap (slicesFrom T rows buffer count 0) (sym (chain-row T type))
 
-      go : (a b : Bool) → encode sliced (pick a (list (piecesOf type gs)) (pick b (class (slicesOf T gs (chain T type))) (exception (slicesOf T gs (chain T type)))))
-          ≡ pick a (concat pieceBytes (groupOf T rows buffer count type 0)) (pick b (1 ∷ slicesBytes sliced first (slicesFrom T rows buffer count 0 (chain T type))) (slicesBytes sliced first (slicesFrom T rows buffer count 0 (chain T type))))
+      go : (a b : Bool) → encode (encodingAs old) (pick a (list (piecesOf type gs)) (pick b (class (slicesOf T gs (chain T type))) (exception (slicesOf T gs (chain T type)))))
+          ≡ pick a (concat pieceBytes (groupOf T rows buffer count type 0)) (pick b (1 ∷ slicesBytes (encodingAs old) first (slicesFrom T rows buffer count 0 (chain T type))) (lead (encodingAs old) ++ slicesBytes (encodingAs old) first (slicesFrom T rows buffer count 0 (chain T type))))
       go true b = ap (concat pieceBytes) list-is
-      go false true = ap (λ (l : List Slice). 1 ∷ slicesBytes sliced first l) slices-are
-      go false false = ap (slicesBytes sliced first) slices-are
+      go false true = ap (λ (l : List Slice). 1 ∷ slicesBytes (encodingAs old) first l) slices-are
+      go false false = ap (λ (l : List Slice). lead (encodingAs old) ++ slicesBytes (encodingAs old) first l) slices-are

@@ -3,7 +3,8 @@
 --   groupOf                the pieces of an owner from row i on, of `count` rows
 --   sliceOf                its slice
 --   slicesFrom             the slices of owners, one after another, from row i on
---   frontField             all that comes before a slice's data: flags, type ID, size
+--   encodingAs             1.0 if old, else 1.1 sliced
+--   frontField, pairField  all that comes before a slice's data: flags, type ID, size; in 1.0 type ID and size. frontOf: by the encoding
 --   RowsLaid, DataLaid, SliceLaid   what is put of an owner's rows, of its slice's data, of its slice, and what the code answers of it
 --   Judges                 the owner's rows are right and that much is put; or the verdict is their refusal
 --   RowsPut, DataPut, SlicePut      the code's answers
@@ -12,17 +13,21 @@ use mathlib.Core.Bool.{Bool, true}
 use mathlib.Core.List.{List, [], _∷_, _++_}
 use Prim.Native.Nat.{ℕ, _+_, _-_, _*_, _≤_}
 use lib.ListN.{length}
-use Rattle.encoding.specs.Result.{concat}
+use Rattle.encoding.specs.Result.{pick, concat}
 use Rattle.encoding.specs.Number.{leBytes, stringBytes}
 use Rattle.encoding.specs.Table.{nameOf, base}
 use Rattle.encoding.specs.Optional.{Piece, pieceBytes}
 use Rattle.encoding.specs.Slice.{sliced, Slice, known, anyOptional, dataBytes, flagBits}
+use Rattle.encoding.specs.Message.{Encoding, v10, v11}
 use Rattle.encoding.specs.Write.{stop}
 use Rattle.writer.specs.declared.Laid.{Laid}
 use Rattle.pieces.specs.Cursors.{start, stateOf}
 use Rattle.pieces.specs.Judged.{verdictFrom, verdictAbove, Gives}
 use Rattle.pieces.specs.Puts.{Puts}
 use Rattle.pieces.specs.Pieces.{group}
+
+abbrev pub encodingAs : Bool → Encoding
+encodingAs old = pick old v10 (v11 sliced)
 
 unfoldable pub groupOf : List ℕ → List ℕ → List ℕ → ℕ → ℕ → ℕ → List Piece
 groupOf T rows buffer count o i = group T rows buffer (stateOf T (start o)) i (count - i)
@@ -38,44 +43,50 @@ slicesFrom T rows buffer count i (t ∷ ts) =
 unfoldable pub frontField : List ℕ → ℕ → Bool → Bool → ℕ → List ℕ
 frontField T o optionals last n = flagBits sliced true optionals last ∷ (stringBytes (nameOf T o) ++ leBytes 4 (4 + n))
 
-pub record RowsLaid (T rows buffer : List ℕ) (judged : Bool) (count o i at : ℕ) (out last : List ℕ) (r : Laid) : Type 0 where
+unfoldable pub pairField : List ℕ → ℕ → ℕ → List ℕ
+pairField T o n = stringBytes (nameOf T o) ++ leBytes 4 (4 + n)
+
+unfoldable pub frontOf : List ℕ → ℕ → Bool → Bool → Bool → ℕ → List ℕ
+frontOf T o old optionals last n = pick old (pairField T o n) (frontField T o optionals last n)
+
+pub record RowsLaid (T : List ℕ) (old : Bool) (rows buffer : List ℕ) (judged : Bool) (count o i at : ℕ) (out last : List ℕ) (r : Laid) : Type 0 where
   pub puts : Puts at (concat pieceBytes (groupOf T rows buffer count o i)) out last (r .end)
   pub next : r .row ≡ i + length (groupOf T rows buffer count o i)
   pub flag : r .optionals ≡ anyOptional (groupOf T rows buffer count o i)
   pub within : r .row ≤ count
-  pub rest : Gives judged (verdictFrom T rows buffer count (stateOf T (start o)) i) (verdictAbove T rows buffer count (base T o) (r .row))
+  pub rest : Gives judged (verdictFrom T old rows buffer count (stateOf T (start o)) i) (verdictAbove T old rows buffer count (base T o) (r .row))
   pub few : r .end ≤ at + 66000 * (r .row - i)
 
-pub record DataLaid (T rows buffer : List ℕ) (judged : Bool) (count o i at : ℕ) (out last : List ℕ) (r : Laid) : Type 0 where
+pub record DataLaid (T : List ℕ) (old : Bool) (rows buffer : List ℕ) (judged : Bool) (count o i at : ℕ) (out last : List ℕ) (r : Laid) : Type 0 where
   pub puts : Puts at (dataBytes (sliceOf T rows buffer count o i)) out last (r .end)
   pub next : r .row ≡ i + length (groupOf T rows buffer count o i)
   pub flag : r .optionals ≡ anyOptional (groupOf T rows buffer count o i)
   pub within : r .row ≤ count
-  pub rest : Gives judged (verdictFrom T rows buffer count (stateOf T (start o)) i) (verdictAbove T rows buffer count (base T o) (r .row))
+  pub rest : Gives judged (verdictFrom T old rows buffer count (stateOf T (start o)) i) (verdictAbove T old rows buffer count (base T o) (r .row))
   pub few : r .end ≤ at + 66000 * (r .row - i) + 1
 
 -- the slice's front and data
-unfoldable pub sliceField : List ℕ → List ℕ → List ℕ → ℕ → Bool → ℕ → ℕ → List ℕ
-sliceField T rows buffer count last o i =
-    frontField T o (anyOptional (groupOf T rows buffer count o i)) last (length (dataBytes (sliceOf T rows buffer count o i)))
+unfoldable pub sliceField : List ℕ → Bool → List ℕ → List ℕ → ℕ → Bool → ℕ → ℕ → List ℕ
+sliceField T old rows buffer count last o i =
+    frontOf T o old (anyOptional (groupOf T rows buffer count o i)) last (length (dataBytes (sliceOf T rows buffer count o i)))
     ++ dataBytes (sliceOf T rows buffer count o i)
 
-pub record SliceLaid (T rows buffer : List ℕ) (judged : Bool) (count : ℕ) (end : Bool) (o i at : ℕ) (out last : List ℕ) (r : Laid) : Type 0 where
-  pub puts : Puts at (sliceField T rows buffer count end o i) out last (r .end)
+pub record SliceLaid (T : List ℕ) (old : Bool) (rows buffer : List ℕ) (judged : Bool) (count : ℕ) (end : Bool) (o i at : ℕ) (out last : List ℕ) (r : Laid) : Type 0 where
+  pub puts : Puts at (sliceField T old rows buffer count end o i) out last (r .end)
   pub next : r .row ≡ i + length (groupOf T rows buffer count o i)
   pub within : r .row ≤ count
-  pub rest : Gives judged (verdictFrom T rows buffer count (stateOf T (start o)) i) (verdictAbove T rows buffer count (base T o) (r .row))
+  pub rest : Gives judged (verdictFrom T old rows buffer count (stateOf T (start o)) i) (verdictAbove T old rows buffer count (base T o) (r .row))
   pub few : r .end ≤ at + 66000 * (r .row - i) + 66000
 
-pub record Judges (T rows buffer : List ℕ) (judged : Bool) (count o i : ℕ) (r : Laid) (Right : Type 0) : Type 0 where
+pub record Judges (T : List ℕ) (old : Bool) (rows buffer : List ℕ) (judged : Bool) (count o i : ℕ) (r : Laid) (Right : Type 0) : Type 0 where
   pub right : r .fault ≡ 0 → Right
-  pub wrong : (r .fault ≡ 0 → ⊥) → Gives judged (verdictFrom T rows buffer count (stateOf T (start o)) i) (stop (r .fault) (r .row))
+  pub wrong : (r .fault ≡ 0 → ⊥) → Gives judged (verdictFrom T old rows buffer count (stateOf T (start o)) i) (stop (r .fault) (r .row))
 
-abbrev pub RowsPut : List ℕ → List ℕ → List ℕ → Bool → ℕ → ℕ → ℕ → ℕ → List ℕ → List ℕ → Laid → Type 0
-RowsPut T rows buffer judged count o i at out last r = Judges T rows buffer judged count o i r (RowsLaid T rows buffer judged count o i at out last r)
+abbrev pub RowsPut : List ℕ → Bool → List ℕ → List ℕ → Bool → ℕ → ℕ → ℕ → ℕ → List ℕ → List ℕ → Laid → Type 0
+RowsPut T old rows buffer judged count o i at out last r = Judges T old rows buffer judged count o i r (RowsLaid T old rows buffer judged count o i at out last r)
 
-abbrev pub DataPut : List ℕ → List ℕ → List ℕ → Bool → ℕ → ℕ → ℕ → ℕ → List ℕ → List ℕ → Laid → Type 0
-DataPut T rows buffer judged count o i at out last r = Judges T rows buffer judged count o i r (DataLaid T rows buffer judged count o i at out last r)
+abbrev pub DataPut : List ℕ → Bool → List ℕ → List ℕ → Bool → ℕ → ℕ → ℕ → ℕ → List ℕ → List ℕ → Laid → Type 0
+DataPut T old rows buffer judged count o i at out last r = Judges T old rows buffer judged count o i r (DataLaid T old rows buffer judged count o i at out last r)
 
-abbrev pub SlicePut : List ℕ → List ℕ → List ℕ → Bool → ℕ → Bool → ℕ → ℕ → ℕ → List ℕ → List ℕ → Laid → Type 0
-SlicePut T rows buffer judged count end o i at out last r = Judges T rows buffer judged count o i r (SliceLaid T rows buffer judged count end o i at out last r)
+abbrev pub SlicePut : List ℕ → Bool → List ℕ → List ℕ → Bool → ℕ → Bool → ℕ → ℕ → ℕ → List ℕ → List ℕ → Laid → Type 0
+SlicePut T old rows buffer judged count end o i at out last r = Judges T old rows buffer judged count o i r (SliceLaid T old rows buffer judged count end o i at out last r)

@@ -1,5 +1,6 @@
 // The whole message from its rows. Each function equals its definition on any table, rows, buffer and output.
 // One pass checks the rows and puts the message. On a second pass `judged` is true: the bytes of the rows were checked before and are not checked again.
+// `old` says that the message is of encoding 1.0.
 // slice.rt puts the rows of an owner and its slice, message.rt the slices of all owners. Each is given `begin`, where the table's type rows begin.
 pub mod message;
 pub mod slice;
@@ -39,6 +40,7 @@ fn write_by_draft(
     begin: usize,
     shapes: &[u8; 256],
     top: usize,
+    old: bool,
     count: usize,
     rows: &[u8],
     buffer: &[u8],
@@ -48,12 +50,23 @@ fn write_by_draft(
     requires { ⌜ begin ≡ typesAt (now table) ⌝ }
     requires { ⌜ now shapes ≡ shapesOf (now table) ⌝ }
     requires { ⌜ (top < 65536) × (count ≤ 4294967296) × (length (now buffer) ≤ 65536) ⌝ }
-    ensures { λ r. ⌜ (r ≡ outcomeOf (written (now (table .entry)) top count (now (rows .entry)) (now (buffer .entry)) (length (now (out .entry))))) × (now (out .exit) ≡ output (written (now (table .entry)) top count (now (rows .entry)) (now (buffer .entry)) (length (now (out .entry)))) (now (out .entry))) ⌝ }
+    ensures { λ r. ⌜ (r ≡ outcomeOf (written (now (table .entry)) top old count (now (rows .entry)) (now (buffer .entry)) (length (now (out .entry))))) × (now (out .exit) ≡ output (written (now (table .entry)) top old count (now (rows .entry)) (now (buffer .entry)) (length (now (out .entry)))) (now (out .entry))) ⌝ }
 {
     if rows.len() / 12 < count {
         return Outcome::Stopped(20, count);
     }
-    let put = message::put_message(table, begin, shapes, draft, top, false, count, rows, buffer);
+    let put = message::put_message(
+        table,
+        begin,
+        shapes,
+        draft,
+        top,
+        old,
+        false,
+        count,
+        rows,
+        buffer,
+    );
     match put {
         Put::Wrong(number, place) => Outcome::Stopped(number, place),
         Put::Made(n) => {
@@ -67,7 +80,18 @@ fn write_by_draft(
                 wire::put_part(out, 0, draft, 0, n);
                 return Outcome::Made(n);
             }
-            message::put_message(table, begin, shapes, out, top, true, count, rows, buffer);
+            message::put_message(
+                table,
+                begin,
+                shapes,
+                out,
+                top,
+                old,
+                true,
+                count,
+                rows,
+                buffer,
+            );
             Outcome::Made(n)
         }
     }
@@ -80,6 +104,7 @@ pub fn write_rows(
     begin: usize,
     shapes: &[u8; 256],
     top: usize,
+    old: bool,
     count: usize,
     rows: &[u8],
     buffer: &[u8],
@@ -88,7 +113,7 @@ pub fn write_rows(
     requires { ⌜ begin ≡ typesAt (now table) ⌝ }
     requires { ⌜ now shapes ≡ shapesOf (now table) ⌝ }
     requires { ⌜ (top < 65536) × (count ≤ 4294967296) × (length (now buffer) ≤ 65536) ⌝ }
-    ensures { λ r. ⌜ (r ≡ outcomeOf (written (now (table .entry)) top count (now (rows .entry)) (now (buffer .entry)) (length (now (out .entry))))) × (now (out .exit) ≡ output (written (now (table .entry)) top count (now (rows .entry)) (now (buffer .entry)) (length (now (out .entry)))) (now (out .entry))) ⌝ }
+    ensures { λ r. ⌜ (r ≡ outcomeOf (written (now (table .entry)) top old count (now (rows .entry)) (now (buffer .entry)) (length (now (out .entry))))) × (now (out .exit) ≡ output (written (now (table .entry)) top old count (now (rows .entry)) (now (buffer .entry)) (length (now (out .entry)))) (now (out .entry))) ⌝ }
 {
     if buffer.len() <= 128 {
         let mut few = [0u8; 256];
@@ -97,6 +122,7 @@ pub fn write_rows(
             begin,
             shapes,
             top,
+            old,
             count,
             rows,
             buffer,
@@ -110,6 +136,7 @@ pub fn write_rows(
         begin,
         shapes,
         top,
+        old,
         count,
         rows,
         buffer,

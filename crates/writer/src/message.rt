@@ -1,15 +1,15 @@
-// Checks the rows and puts the slices of a chain, and a message.
+// Checks the rows and puts the slices of a chain, and a message. `old` says that the encoding is 1.0.
 use crate::Put;
 use crate::slice;
 ghost use mathlib.Core.Path.{_≡_};
 ghost use Prim.Native.Nat.{_≤_, _<_};
 ghost use lib.ListN.{length};
 ghost use Rattle.encoding.specs.Table.{typesAt, chain};
-ghost use Rattle.encoding.specs.Slice.{sliced, first, slicesBytes};
-ghost use Rattle.encoding.specs.Message.{encapsulate};
+ghost use Rattle.encoding.specs.Slice.{first};
+ghost use Rattle.encoding.specs.Message.{slicesBytes, encapsulate};
 ghost use Rattle.shapes.specs.Shapes.{shapesOf};
-ghost use Rattle.writer.specs.Slices.{slicesFrom};
-ghost use Rattle.writer.specs.Messages.{contentsOf, AllPut};
+ghost use Rattle.writer.specs.Slices.{encodingAs, slicesFrom};
+ghost use Rattle.writer.specs.Messages.{versionOf, contentsOf, AllPut};
 
 // Checks the rows and puts the slices of row t and its bases.
 fn put_slices(
@@ -19,6 +19,7 @@ fn put_slices(
     out: &mut [u8],
     start: usize,
     t: usize,
+    old: bool,
     judged: bool,
     count: usize,
     rows: &[u8],
@@ -27,7 +28,7 @@ fn put_slices(
     requires { ⌜ begin ≡ typesAt (now table) ⌝ }
     requires { ⌜ now shapes ≡ shapesOf (now table) ⌝ }
     requires { ⌜ (start ≤ 7) × (t < 65536) × (count ≤ 4294967296) × (length (now buffer) ≤ 65536) ⌝ }
-    ensures { λ r. ⌜ AllPut (now (table .entry)) (now (rows .entry)) (now (buffer .entry)) judged count t start (slicesBytes sliced first (slicesFrom (now (table .entry)) (now (rows .entry)) (now (buffer .entry)) count 0 (chain (now (table .entry)) t))) (now (out .entry)) (now (out .exit)) r ⌝ }
+    ensures { λ r. ⌜ AllPut (now (table .entry)) old (now (rows .entry)) (now (buffer .entry)) judged count t start (slicesBytes (encodingAs old) first (slicesFrom (now (table .entry)) (now (rows .entry)) (now (buffer .entry)) count 0 (chain (now (table .entry)) t))) (now (out .entry)) (now (out .exit)) r ⌝ }
 {
     let mut at = start;
     let mut o = t;
@@ -43,6 +44,7 @@ fn put_slices(
             o,
             up == 0,
             i,
+            old,
             judged,
             count,
             rows,
@@ -63,13 +65,14 @@ fn put_slices(
     }
 }
 
-// Checks the rows and puts the data of an encapsulation: a parameter list, a class instance after its marker, or an exception.
+// Checks the rows and puts the data of an encapsulation: a parameter list, a class instance after its marker, or an exception, in 1.0 after its header byte.
 fn put_contents(
     table: &[u8],
     begin: usize,
     shapes: &[u8; 256],
     out: &mut [u8],
     t: usize,
+    old: bool,
     judged: bool,
     count: usize,
     rows: &[u8],
@@ -78,7 +81,7 @@ fn put_contents(
     requires { ⌜ begin ≡ typesAt (now table) ⌝ }
     requires { ⌜ now shapes ≡ shapesOf (now table) ⌝ }
     requires { ⌜ (t < 65536) × (count ≤ 4294967296) × (length (now buffer) ≤ 65536) ⌝ }
-    ensures { λ r. ⌜ AllPut (now (table .entry)) (now (rows .entry)) (now (buffer .entry)) judged count t 6 (contentsOf (now (table .entry)) (now (rows .entry)) (now (buffer .entry)) count t) (now (out .entry)) (now (out .exit)) r ⌝ }
+    ensures { λ r. ⌜ AllPut (now (table .entry)) old (now (rows .entry)) (now (buffer .entry)) judged count t 6 (contentsOf (now (table .entry)) old (now (rows .entry)) (now (buffer .entry)) count t) (now (out .entry)) (now (out .exit)) r ⌝ }
 {
     let k = table::kind(table, begin, t);
     if k == 15 {
@@ -90,6 +93,7 @@ fn put_contents(
             6,
             t,
             0,
+            old,
             judged,
             count,
             rows,
@@ -105,9 +109,59 @@ fn put_contents(
     }
     if k == 14 {
         wire::put_number(out, 6, 1, 1);
-        return put_slices(table, begin, shapes, out, 7, t, judged, count, rows, buffer);
+        return put_slices(
+            table,
+            begin,
+            shapes,
+            out,
+            7,
+            t,
+            old,
+            judged,
+            count,
+            rows,
+            buffer,
+        );
     }
-    put_slices(table, begin, shapes, out, 6, t, judged, count, rows, buffer)
+    if old {
+        wire::put_number(out, 6, 1, 0);
+        return put_slices(
+            table,
+            begin,
+            shapes,
+            out,
+            7,
+            t,
+            old,
+            judged,
+            count,
+            rows,
+            buffer,
+        );
+    }
+    put_slices(
+        table,
+        begin,
+        shapes,
+        out,
+        6,
+        t,
+        old,
+        judged,
+        count,
+        rows,
+        buffer,
+    )
+}
+
+// The version's two bytes as a number: 1.0 or 1.1.
+fn version(old: bool) -> usize
+    ensures { λ r. ⌜ r ≡ versionOf old ⌝ }
+{
+    if old {
+        return 1;
+    }
+    257
 }
 
 // Checks the rows and puts the message: the data, then the size and the version before them.
@@ -117,6 +171,7 @@ pub fn put_message(
     shapes: &[u8; 256],
     out: &mut [u8],
     t: usize,
+    old: bool,
     judged: bool,
     count: usize,
     rows: &[u8],
@@ -125,13 +180,24 @@ pub fn put_message(
     requires { ⌜ begin ≡ typesAt (now table) ⌝ }
     requires { ⌜ now shapes ≡ shapesOf (now table) ⌝ }
     requires { ⌜ (t < 65536) × (count ≤ 4294967296) × (length (now buffer) ≤ 65536) ⌝ }
-    ensures { λ r. ⌜ AllPut (now (table .entry)) (now (rows .entry)) (now (buffer .entry)) judged count t 0 (encapsulate (contentsOf (now (table .entry)) (now (rows .entry)) (now (buffer .entry)) count t)) (now (out .entry)) (now (out .exit)) r ⌝ }
+    ensures { λ r. ⌜ AllPut (now (table .entry)) old (now (rows .entry)) (now (buffer .entry)) judged count t 0 (encapsulate (encodingAs old) (contentsOf (now (table .entry)) old (now (rows .entry)) (now (buffer .entry)) count t)) (now (out .entry)) (now (out .exit)) r ⌝ }
 {
-    let put = put_contents(table, begin, shapes, out, t, judged, count, rows, buffer);
+    let put = put_contents(
+        table,
+        begin,
+        shapes,
+        out,
+        t,
+        old,
+        judged,
+        count,
+        rows,
+        buffer,
+    );
     match put {
         Put::Made(n) => {
             wire::put_number(out, 0, 4, n);
-            wire::put_number(out, 4, 2, 257);
+            wire::put_number(out, 4, 2, version(old));
             Put::Made(n)
         }
         Put::Wrong(number, place) => Put::Wrong(number, place),

@@ -1,4 +1,4 @@
-// Checks and puts the rows of an owner, and its slice.
+// Checks and puts the rows of an owner, and its slice. `old` says that the encoding is 1.0: its slices are pairs of type ID and size with data.
 use crate::Laid;
 use pieces::Cursor;
 use pieces::Placed;
@@ -7,11 +7,12 @@ use pieces::state;
 ghost use mathlib.Core.Path.{_≡_};
 ghost use Prim.Native.Nat.{_+_, _≤_};
 ghost use lib.ListN.{length};
+ghost use Rattle.encoding.specs.Result.{pick};
 ghost use Rattle.encoding.specs.Number.{stringBytes};
 ghost use Rattle.encoding.specs.Table.{typesAt, nameOf};
 ghost use Rattle.shapes.specs.Shapes.{shapesOf};
 ghost use Rattle.pieces.specs.Puts.{Puts};
-ghost use Rattle.writer.specs.Slices.{frontField, RowsPut, DataPut, SlicePut};
+ghost use Rattle.writer.specs.Slices.{frontField, pairField, frontOf, RowsPut, DataPut, SlicePut};
 
 // Checks and puts the rows of owner o from row `first` on.
 pub fn put_rows(
@@ -22,6 +23,7 @@ pub fn put_rows(
     start: usize,
     o: usize,
     first: usize,
+    old: bool,
     judged: bool,
     count: usize,
     rows: &[u8],
@@ -30,7 +32,7 @@ pub fn put_rows(
     requires { ⌜ begin ≡ typesAt (now table) ⌝ }
     requires { ⌜ now shapes ≡ shapesOf (now table) ⌝ }
     requires { ⌜ (start ≤ 576460752303423488) × (first ≤ count) × (count ≤ 4294967296) × (length (now buffer) ≤ 65536) ⌝ }
-    ensures { λ r. ⌜ RowsPut (now (table .entry)) (now (rows .entry)) (now (buffer .entry)) judged count o first start (now (out .entry)) (now (out .exit)) r ⌝ }
+    ensures { λ r. ⌜ RowsPut (now (table .entry)) old (now (rows .entry)) (now (buffer .entry)) judged count o first start (now (out .entry)) (now (out .exit)) r ⌝ }
 {
     let mut from = Cursor {
         owner: o,
@@ -41,7 +43,19 @@ pub fn put_rows(
     let mut i = first;
     let mut optionals = false;
     while i < count {
-        let p = piece::put_row(table, begin, shapes, out, at, from, judged, rows, i, buffer);
+        let p = piece::put_row(
+            table,
+            begin,
+            shapes,
+            out,
+            at,
+            from,
+            old,
+            judged,
+            rows,
+            i,
+            buffer,
+        );
         match p {
             Placed::Row(c, end, optional) => {
                 from = c;
@@ -115,6 +129,7 @@ fn put_data(
     start: usize,
     o: usize,
     first: usize,
+    old: bool,
     judged: bool,
     count: usize,
     rows: &[u8],
@@ -123,7 +138,7 @@ fn put_data(
     requires { ⌜ begin ≡ typesAt (now table) ⌝ }
     requires { ⌜ now shapes ≡ shapesOf (now table) ⌝ }
     requires { ⌜ (start ≤ 576460752303423488) × (first ≤ count) × (count ≤ 4294967296) × (length (now buffer) ≤ 65536) ⌝ }
-    ensures { λ r. ⌜ DataPut (now (table .entry)) (now (rows .entry)) (now (buffer .entry)) judged count o first start (now (out .entry)) (now (out .exit)) r ⌝ }
+    ensures { λ r. ⌜ DataPut (now (table .entry)) old (now (rows .entry)) (now (buffer .entry)) judged count o first start (now (out .entry)) (now (out .exit)) r ⌝ }
 {
     let d = put_rows(
         table,
@@ -133,6 +148,7 @@ fn put_data(
         start,
         o,
         first,
+        old,
         judged,
         count,
         rows,
@@ -153,7 +169,18 @@ fn put_data(
     d
 }
 
-// Puts what comes before a slice's data of n bytes, which are flags, type ID and size, and returns its end.
+// Puts the type ID of owner o and the size of data of n bytes, counting itself, and returns its end.
+fn put_pair(table: &[u8], begin: usize, out: &mut [u8], at: usize, o: usize, n: usize) -> usize
+    requires { ⌜ begin ≡ typesAt (now table) ⌝ }
+    requires { ⌜ (at ≤ 576460752303423489) × (n ≤ 576460752303423488) ⌝ }
+    ensures { λ r. ⌜ Puts at (pairField (now (table .entry)) o n) (now (out .entry)) (now (out .exit)) r × (r ≤ at + 65544) ⌝ }
+{
+    let a = put_id(table, begin, out, at, o);
+    wire::put_number(out, a, 4, 4 + n);
+    a + 4
+}
+
+// Puts what comes before a slice's data of n bytes in 1.1, which are flags, type ID and size, and returns its end.
 pub fn put_front(
     table: &[u8],
     begin: usize,
@@ -169,9 +196,39 @@ pub fn put_front(
     ensures { λ r. ⌜ Puts at (frontField (now (table .entry)) o optionals last n) (now (out .entry)) (now (out .exit)) r × (r ≤ at + 65545) ⌝ }
 {
     wire::put_number(out, at, 1, wire::slice_flags(true, optionals, true, last));
-    let a = put_id(table, begin, out, at + 1, o);
-    wire::put_number(out, a, 4, 4 + n);
-    a + 4
+    put_pair(table, begin, out, at + 1, o, n)
+}
+
+// The same by the encoding.
+fn put_front_as(
+    table: &[u8],
+    begin: usize,
+    out: &mut [u8],
+    at: usize,
+    o: usize,
+    old: bool,
+    optionals: bool,
+    last: bool,
+    n: usize,
+) -> usize
+    requires { ⌜ begin ≡ typesAt (now table) ⌝ }
+    requires { ⌜ (at ≤ 576460752303423488) × (n ≤ 576460752303423488) ⌝ }
+    ensures { λ r. ⌜ Puts at (frontOf (now (table .entry)) o old optionals last n) (now (out .entry)) (now (out .exit)) r ⌝ }
+{
+    if old {
+        return put_pair(table, begin, out, at, o, n);
+    }
+    put_front(table, begin, out, at, o, optionals, last, n)
+}
+
+// How many bytes before a slice's data are not those of its type ID: size and flags, in 1.0 the size alone.
+fn bare_len(old: bool) -> usize
+    ensures { λ r. ⌜ (r ≡ pick old 4 5) × (r ≤ 5) ⌝ }
+{
+    if old {
+        return 4;
+    }
+    5
 }
 
 // Checks the rows of owner o and puts its slice: the data first, then what comes before them.
@@ -184,6 +241,7 @@ pub fn put_slice(
     o: usize,
     last: bool,
     first: usize,
+    old: bool,
     judged: bool,
     count: usize,
     rows: &[u8],
@@ -192,9 +250,9 @@ pub fn put_slice(
     requires { ⌜ begin ≡ typesAt (now table) ⌝ }
     requires { ⌜ now shapes ≡ shapesOf (now table) ⌝ }
     requires { ⌜ (at ≤ 288230376151711744) × (first ≤ count) × (count ≤ 4294967296) × (length (now buffer) ≤ 65536) ⌝ }
-    ensures { λ r. ⌜ SlicePut (now (table .entry)) (now (rows .entry)) (now (buffer .entry)) judged count last o first at (now (out .entry)) (now (out .exit)) r ⌝ }
+    ensures { λ r. ⌜ SlicePut (now (table .entry)) old (now (rows .entry)) (now (buffer .entry)) judged count last o first at (now (out .entry)) (now (out .exit)) r ⌝ }
 {
-    let start = at + 5 + id_len(table, begin, o);
+    let start = at + bare_len(old) + id_len(table, begin, o);
     let d = put_data(
         table,
         begin,
@@ -203,6 +261,7 @@ pub fn put_slice(
         start,
         o,
         first,
+        old,
         judged,
         count,
         rows,
@@ -212,6 +271,6 @@ pub fn put_slice(
         return d;
     }
     let n = d.end - start;
-    put_front(table, begin, out, at, o, d.optionals, last, n);
+    put_front_as(table, begin, out, at, o, old, d.optionals, last, n);
     d
 }

@@ -21,7 +21,7 @@ use Rattle.encoding.specs.Message.{limit}
 use Rattle.encoding.specs.MessageLaws.{length-encapsulate}
 use Rattle.encoding.specs.declared.Writing.{Writing}
 use Rattle.encoding.specs.declared.Writing.the-variants.{Written, Rejected}
-use Rattle.encoding.specs.Write.{Out, out, stop, next, begin, above, judgeAll, bounded, tableRules, early, stoppedFirst, rowsGiven, message, writing, output, writingOf}
+use Rattle.encoding.specs.Write.{Out, out, stop, next, begin, above, judgeAll, encodingOf, bounded, tableRules, early, stoppedFirst, rowsGiven, message, writing, output, writingOf}
 use Rattle.wire.specs.StepLaws.{rest-is}
 use Rattle.prepare.specs.Preparing.{before, checked, checks}
 use Rattle.prepare.specs.PreparingLaws.{ready-table, ready-early}
@@ -73,12 +73,12 @@ module _ (T : List ℕ) (top format count : ℕ) (rows buffer : List ℕ) (room 
       go fine e zero i h = let z : _≡_ {A = ℕ} 0 1 = cc in absurd (omega arith)
       go fine e (suc n) i h = let ec : suc n ≡ c = cc in let ep : 0 ≡ p = cc in rw (e, i, ec, ep)
 
-  writing-rows : faults T ≡ fine → before T top format (length buffer) ≡ 0 → result ≡ written T top count rows buffer room
-  unfolding before early writing message tableRules stoppedFirst next written
+  writing-rows : faults T ≡ fine → before T top format (length buffer) ≡ 0 → result ≡ written T top (eqb format 2) count rows buffer room
+  unfolding before early writing message encodingOf tableRules stoppedFirst next written
   writing-rows f e =
       rw (f, e)
       (next-then (rowsGiven count rows) _ (bounded room) _
-      (λ rs. next-then (judgeAll T buffer (begin T top (above (chain T top))) 0 rs) _ (bounded room) _ (λ gs. refl)))
+      (λ rs. next-then (judgeAll T (eqb format 2) buffer (begin T top (above (chain T top))) 0 rs) _ (bounded room) _ (λ gs. refl)))
 
 -- an outcome has the numbers of what is written
 fits-outcome : (w : Out (List ℕ)) → Narrow w → Fits (outcomeOf w)
@@ -116,17 +116,17 @@ module _ (T : List ℕ) (top format count : ℕ) (rows buffer lent : List ℕ) w
       refused-output = stopped-output answered c p refused lent
 
     module _ (q : r ≡ Ready) where
-      rows-answered : written T top count rows buffer (length lent) ≡ answered
+      rows-answered : written T top (eqb format 2) count rows buffer (length lent) ≡ answered
       rows-answered =
           sym (writing-rows T top format count rows buffer (length lent) (ready-table T top format (length buffer) r er q) (ready-early T top format (length buffer) r er q))
 
-      pub rows-outcome : (o : Outcome) → o ≡ outcomeOf (written T top count rows buffer (length lent)) → o ≡ outcomeOf answered
+      pub rows-outcome : (o : Outcome) → o ≡ outcomeOf (written T top (eqb format 2) count rows buffer (length lent)) → o ≡ outcomeOf answered
       rows-outcome o e = e ∙ ap outcomeOf rows-answered
 
-      pub rows-fits : (o : Outcome) → o ≡ outcomeOf (written T top count rows buffer (length lent)) → count < 4294967296 → Fits o
+      pub rows-fits : (o : Outcome) → o ≡ outcomeOf (written T top (eqb format 2) count rows buffer (length lent)) → count < 4294967296 → Fits o
       rows-fits o e few = outcome-fits few o (rows-outcome o e)
 
-      pub rows-output : (last : List ℕ) → last ≡ output (written T top count rows buffer (length lent)) lent → last ≡ output answered lent
+      pub rows-output : (last : List ℕ) → last ≡ output (written T top (eqb format 2) count rows buffer (length lent)) lent → last ≡ output answered lent
       rows-output last e = e ∙ ap (λ (x : Out (List ℕ)). output x lent) rows-answered
 
 -- ---- the answer
@@ -203,7 +203,7 @@ module _ (T : List ℕ) (top format count : ℕ) (rows buffer : List ℕ) (l roo
       long : (m : List ℕ) → message T top format count rows buffer ≡ out m → leb (length m) l ≡ false
       long m e =
           let C = message-ok T top format count rows buffer e in
-          lt-leb (length m) l (omega (arith, ap length (C .made) ∙ length-encapsulate _))
+          lt-leb (length m) l (omega (arith, ap length (C .made) ∙ length-encapsulate _ _))
 
       go : (o : Out (List ℕ)) → message T top format count rows buffer ≡ o → fitted room (outcomeOf (next o (bounded l))) ≡ outcomeOf (next o (bounded room))
       go (out m) e = rw (long m e) (cases (leb (length m) limit) (leb (length m) room) refl refl)

@@ -30,7 +30,17 @@ fn checked(
             let mut shapes = [0u8; 256];
             let begin = table::types_at(table);
             shapes::fill(table, begin, &mut shapes);
-            writer::write_rows(table, begin, &shapes, top, count, rows, buffer, out)
+            writer::write_rows(
+                table,
+                begin,
+                &shapes,
+                top,
+                format == 2,
+                count,
+                rows,
+                buffer,
+                out,
+            )
         }
     }
 }
@@ -92,7 +102,7 @@ fn writing_of(o: Outcome) -> Writing
 }
 
 // The writer: rows and a buffer to a message of a type and format at the output's start; bytes of the output after the message stay, and on a refusal all of them.
-// Wrong and ruled out: a writer that answers right and puts nothing; one that writes whatever the format named.
+// Wrong and ruled out: a writer that answers right and puts nothing; one that writes whatever the format named; one that writes 1.1 for format 2.
 pub fn write(
     table: &[u8],
     top: u32,

@@ -1,5 +1,5 @@
-//! Random calls from one seed: tables of both versions and all kinds, right and damaged; messages in both formats with
-//! unknown optionals and slices in them, conforming, with wrong items in them, with strings that are no text, or damaged;
+//! Random calls from one seed: tables of both versions and all kinds, right and damaged; messages in both encodings and all
+//! formats with unknown optionals and slices in them, conforming, with wrong items in them, with strings that are no text, or damaged;
 //! right and wrong rows for the writer.
 
 mod message;
@@ -339,7 +339,8 @@ fn rows(rng: &mut Rng, types: &Types, top: u16, wrong: Wrong) -> Rows {
             buffer.extend(&message[place as usize..(place + length) as usize]);
         }
     }
-    Rows { table: types.spec.bytes(), of: reading.first, format: 1, rows, buffer }
+    let format = if reading.format == 2 { 2 } else { 1 };
+    Rows { table: types.spec.bytes(), of: reading.first, format, rows, buffer }
 }
 
 impl Rows {

@@ -9,7 +9,7 @@ use crate::{Refusal, MOST};
 pub struct Reading {
     /// The first known type; for a parameter list the top.
     pub first: u32,
-    /// 0 compact, 1 sliced or a parameter list.
+    /// 0 compact, 1 sliced or a parameter list, 2 encoding 1.0.
     pub format: u32,
     pub rows: u32,
     pub optionals_skipped: u32,
@@ -85,21 +85,31 @@ fn walk(table: &Table, top: u32, message: &[u8], give: impl FnMut(usize, usize, 
     if message.len() < 6 || u32::from_le_bytes(*size) as usize != message.len() {
         return Err((5, 0));
     }
-    if message[4..6] != [1, 1] {
-        return Err((6, 4));
+    let old = match message[4..6] {
+        [1, 1] => false,
+        [1, 0] if table.kind(top) != CLASS => true,
+        _ => return Err((6, 4)),
+    };
+    if old && table.has_optionals(top) {
+        return Err((26, 0));
     }
-    let mut part = Part { bytes: message, at: 6 };
+    let mut part = Part { bytes: message, at: 6, old };
     let mut walk = Walk { table, give, reading: Reading::default() };
-    if table.kind(top) == LIST {
-        walk.reading = Reading { first: top as u32, format: 1, ..Reading::default() };
-        let list = table.row(top);
-        walk.required(&list, &mut part)?;
-        walk.optionals(&list, &mut part, None)?;
-    } else {
-        walk.record(top, &mut part)?;
-        if part.left() != 0 {
-            return part.refuse(18);
+    match table.kind(top) {
+        LIST => {
+            let format = if old { 2 } else { 1 };
+            walk.reading = Reading { first: top as u32, format, ..Reading::default() };
+            let list = table.row(top);
+            walk.required(&list, &mut part)?;
+            if !old {
+                walk.optionals(&list, &mut part, None)?;
+            }
         }
+        _ if old => walk.old_exception(top, &mut part)?,
+        _ => walk.record(top, &mut part)?,
+    }
+    if part.left() != 0 {
+        return part.refuse(18);
     }
     Ok(walk.reading)
 }
@@ -179,6 +189,51 @@ impl<F: FnMut(usize, usize, usize)> Walk<'_, F> {
                 return Ok(());
             }
             due = row.base();
+        }
+    }
+
+    /// An exception of encoding 1.0: a header byte, then type ID and size in pairs, most derived first. The pair
+    /// without a base is last.
+    fn old_exception(&mut self, top: usize, part: &mut Part) -> Result<(), Refusal> {
+        let table = self.table;
+        let header = *part;
+        if part.byte()? != 0 {
+            return header.refuse(25);
+        }
+        self.reading.format = 2;
+        let mut due = None; // after the first known pair, the base of the one before
+        loop {
+            let id_start = *part;
+            let id = part.string()?;
+            let r = match due {
+                Some(base) if table.name(&table.row(base)) == id => base,
+                Some(_) => return id_start.refuse(17),
+                None => match table.records().find(|(_, row)| table.name(row) == id) {
+                    None => {
+                        part.at = part.declared(4, 4)?;
+                        self.reading.slices_skipped += 1;
+                        continue;
+                    }
+                    Some((r, _)) if table.chain(r).any(|base| base == top) => {
+                        self.reading.first = r as u32;
+                        r
+                    }
+                    Some(_) => return id_start.refuse(17),
+                },
+            };
+            let row = table.row(r);
+            let size = *part;
+            let end = part.declared(4, 4)?;
+            let mut data = part.upto(end);
+            self.required(&row, &mut data)?;
+            if data.left() != 0 {
+                return size.refuse(11);
+            }
+            part.at = end;
+            match row.base() {
+                None => return Ok(()),
+                base => due = base,
+            }
         }
     }
 

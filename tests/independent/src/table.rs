@@ -402,6 +402,13 @@ impl<'t> Table<'t> {
         std::iter::successors(Some(r), |&r| self.row(r).base())
     }
 
+    /// Whether the top, a base of it or a record that descends from it has an optional member: encoding 1.0 has none.
+    pub fn has_optionals(&self, top: usize) -> bool {
+        let related = |r: usize| self.chain(top).any(|base| base == r) || self.chain(r).any(|base| base == top);
+        let optional = |r: usize| self.row(r).members().any(|m| !self.member(m).required());
+        (0..self.rows()).any(|r| self.row(r).kind >= EXCEPTION && optional(r) && related(r))
+    }
+
     /// The row of a wanted type: refusal 2 if it is not in the table or below kind 13.
     pub fn wanted(&self, number: u32) -> Result<usize, Refusal> {
         let r = number as usize;

@@ -9,11 +9,13 @@ pub(crate) fn is_text(bytes: &[u8]) -> bool {
     bytes.is_ascii() || core::str::from_utf8(bytes).is_ok()
 }
 
-/// What is left of something that holds items: the message up to the holder's end, and the place reached in it.
+/// What is left of something that holds items: the message up to the holder's end, the place reached in it, and whether
+/// it is of encoding 1.0.
 #[derive(Clone, Copy)]
 pub(crate) struct Part<'m> {
     pub bytes: &'m [u8],
     pub at: usize,
+    pub old: bool,
 }
 
 impl<'m> Part<'m> {
@@ -23,7 +25,7 @@ impl<'m> Part<'m> {
 
     /// The same place, held by what ends at `end`.
     pub fn upto(&self, end: usize) -> Part<'m> {
-        Part { bytes: &self.bytes[..end], at: self.at }
+        Part { bytes: &self.bytes[..end], ..*self }
     }
 
     pub fn refuse<T>(&self, number: u32) -> Result<T, Refusal> {
@@ -66,6 +68,23 @@ impl<'m> Part<'m> {
                 Ok(i32::from_le_bytes(int))
             }
         }
+    }
+
+    /// An enumerator: a size; in encoding 1.0 a byte, short or int by the greatest.
+    fn enumerator(&mut self, greatest: usize) -> Result<usize, Refusal> {
+        if !self.old {
+            return self.size();
+        }
+        let width = match greatest {
+            0..=126 => 1,
+            127..=32_766 => 2,
+            _ => 4,
+        };
+        let mut number = [0; 8];
+        let start = self.at;
+        self.item(width)?;
+        number[..width].copy_from_slice(&self.bytes[start..self.at]);
+        Ok(usize::from_le_bytes(number))
     }
 
     /// A size: below 255 one byte; else 255 and an int.
@@ -145,8 +164,10 @@ impl<'m> Part<'m> {
             return mode.refuse(10);
         }
         self.bool()?;
-        for _protocol_and_encoding in 0..4 {
-            self.byte()?;
+        if !self.old {
+            for _protocol_and_encoding in 0..4 {
+                self.byte()?;
+            }
         }
         let endpoints = self.size()?;
         if endpoints == 0 {
@@ -175,7 +196,7 @@ impl Table<'_> {
             STRING => part.string().map(drop),
             ENUM => {
                 let start = *part;
-                if self.allows(&row, part.size()?) {
+                if self.allows(&row, part.enumerator(row.greatest())?) {
                     Ok(())
                 } else {
                     start.refuse(9)

@@ -17,8 +17,13 @@ pub fn write(
     let mut shapes = [Shape::NONE; 256];
     let table = Table::check(table, &mut shapes)?;
     let of = table.wanted(of)?;
-    if format != 1 {
-        return Err((23, 0));
+    let old = match format {
+        1 => false,
+        2 if table.kind(of) != CLASS => true,
+        _ => return Err((23, 0)),
+    };
+    if old && table.has_optionals(of) {
+        return Err((26, 0));
     }
     if buffer.len() > MOST {
         return Err((3, 0));
@@ -26,7 +31,7 @@ pub fn write(
     let Some(rows) = rows.as_chunks().0.get(..count as usize) else {
         return Err((20, count));
     };
-    let writer = Writer { table: &table, of, rows, buffer };
+    let writer = Writer { table: &table, of, old, rows, buffer };
     let length = writer.length()?;
     if length > MOST || length > out.len() {
         return Err((22, length as u32));
@@ -38,6 +43,8 @@ pub fn write(
 struct Writer<'w> {
     table: &'w Table<'w>,
     of: usize,
+    /// In encoding 1.0.
+    old: bool,
     rows: &'w [[u8; 12]],
     buffer: &'w [u8],
 }
@@ -89,7 +96,7 @@ impl<'w> Writer<'w> {
     fn put(&self, out: &mut Output) {
         let table = self.table;
         out.put(&(out.bytes.len() as u32).to_le_bytes());
-        out.put(&[1, 1]);
+        out.put(&[1, !self.old as u8]);
         out.put(self.marker());
         let mut rows = self.rows;
         for r in table.chain(self.of) {
@@ -101,8 +108,10 @@ impl<'w> Writer<'w> {
             let optionals = slice.last().is_some_and(|row| !required(row));
             let mut size = None;
             if owner.kind != LIST {
-                let last = owner.base().is_none();
-                out.put(&[1 | (optionals as u8) << 2 | 1 << 4 | (last as u8) << 5]);
+                if !self.old {
+                    let last = owner.base().is_none();
+                    out.put(&[1 | (optionals as u8) << 2 | 1 << 4 | (last as u8) << 5]);
+                }
                 out.size(table.name(&owner).len());
                 out.put(table.name(&owner));
                 size = Some(out.at);
@@ -149,22 +158,22 @@ impl<'w> Writer<'w> {
         }
     }
 
-    /// A class instance begins with marker byte 1.
+    /// A class instance begins with marker byte 1, an exception of encoding 1.0 with header byte 0.
     fn marker(&self) -> &'static [u8] {
-        if self.table.kind(self.of) == CLASS {
-            &[1]
-        } else {
-            &[]
+        match self.table.kind(self.of) {
+            CLASS => &[1],
+            EXCEPTION if self.old => &[0],
+            _ => &[],
         }
     }
 
-    /// The bytes of a slice's flags, type ID and size.
+    /// The bytes of a slice's flags, type ID and size; encoding 1.0 has no flags.
     fn frame(&self, owner: &TypeRow) -> usize {
         if owner.kind == LIST {
             return 0;
         }
         let name = self.table.name(owner).len();
-        1 + size_length(name) + name + 4
+        !self.old as usize + size_length(name) + name + 4
     }
 
     /// The member row that a row names.
@@ -178,7 +187,7 @@ impl<'w> Writer<'w> {
         let Some(bytes) = place.checked_add(length).and_then(|end| self.buffer.get(..end)) else {
             return Err((20, row as u32));
         };
-        let mut part = Part { bytes, at: place };
+        let mut part = Part { bytes, at: place, old: self.old };
         match self.table.value(of, &mut part) {
             Ok(()) if part.left() == 0 => Ok(&bytes[place..]),
             _ => Err((21, row as u32)),

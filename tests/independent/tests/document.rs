@@ -83,7 +83,9 @@ fn p4_p5_p8() {
     let (table, top) = list(&[]);
     there_and_back(&table, top, &bytes("06 00 00 00 01 01"), &[]);
     assert_eq!(rows_of(&table, top, &[]), Err((4, 0)));
-    assert_eq!(rows_of(&table, top, &bytes("06 00 00 00 01 00")), Err((6, 4)));
+    let reading = there_and_back(&table, top, &bytes("06 00 00 00 01 00"), &[]);
+    assert_eq!(reading.format, 2);
+    assert_eq!(rows_of(&table, top, &bytes("06 00 00 00 01 02")), Err((6, 4)));
 }
 
 #[test]

@@ -30,13 +30,14 @@ fn conforming_messages_are_read_as_made() {
 
 #[test]
 fn what_is_read_with_nothing_skipped_is_written_again() {
-    let (mut whole, mut converted) = (0, 0);
-    conforming(2, 8_000, |types, top, made| {
+    let (mut whole, mut converted, mut old) = (0, 0, 0);
+    conforming(2, 10_000, |types, top, made| {
         let Message { bytes: buffer, rows, reading, .. } = made;
+        let format = reading.format.max(1);
         let call = Call::Write {
             table: types.spec.bytes(),
             of: reading.first,
-            format: 1,
+            format,
             count: reading.rows,
             rows: rows.iter().flatten().flat_map(|number| number.to_le_bytes()).collect(),
             buffer: buffer.clone(),
@@ -49,9 +50,9 @@ fn what_is_read_with_nothing_skipped_is_written_again() {
         let (table, message) = (types.spec.bytes(), buffer.clone());
         let conversion = Call::Convert { table, top, message, room: out.len() }.answer();
         let is_whole = (reading.optionals_skipped, reading.slices_skipped) == (0, 0);
-        let refusal = if reading.format == 1 { 47 } else { 48 };
-        if is_whole && reading.format == 1 {
-            whole += 1;
+        let refusal = if reading.format == 0 { 48 } else { 47 };
+        if is_whole && reading.format != 0 {
+            *if reading.format == 1 { &mut whole } else { &mut old } += 1;
             assert_eq!(out, buffer);
         }
         if is_whole && reading.format == 0 {
@@ -66,13 +67,13 @@ fn what_is_read_with_nothing_skipped_is_written_again() {
         let Answer::Read { refusal: (0, 0), reading: second, rows: second_rows } = again.answer() else {
             panic!("{}", again.json(&again.answer()));
         };
-        assert_eq!(second, Reading { format: 1, optionals_skipped: 0, slices_skipped: 0, ..reading });
+        assert_eq!(second, Reading { format, optionals_skipped: 0, slices_skipped: 0, ..reading });
         let part = |bytes: &[u8], row: &[u32; 3]| bytes[row[1] as usize..(row[1] + row[2]) as usize].to_vec();
         for (row, second) in rows.iter().zip(&second_rows) {
             assert_eq!((row[0], part(&buffer, row)), (second[0], part(&out, second)));
         }
     });
-    assert!(whole > 3_000 && converted > 1_500, "{whole} {converted}");
+    assert!(whole > 3_000 && converted > 1_500 && old > 1_000, "{whole} {converted} {old}");
 }
 
 #[test]
@@ -111,7 +112,7 @@ fn strings_that_are_no_text_are_refused() {
         let row = |place: usize| rows.iter().position(|row| (row[1]..row[1] + row[2]).contains(&(place as u32)));
         let inside = wrong.clone().find_map(|string| Some((string.what, row(string.place)?)));
         let refusal = inside.map_or((0, 0), |(_, row)| (21, row as u32));
-        let (of, format, count) = (reading.first, 1, reading.rows);
+        let (of, format, count) = (reading.first, reading.format.max(1), reading.rows);
         let list = rows.iter().flatten().flat_map(|number| number.to_le_bytes()).collect();
         let call = Call::Write { table, of, format, count, rows: list, room: 2 * bytes.len() + 65_536, buffer: bytes };
         let Answer::Write { refusal: given, .. } = call.answer() else { panic!() };
@@ -194,7 +195,7 @@ fn generated_calls_reach_every_refusal() {
     }
     println!("{reached:?}\n24 by {:?}: {strings:?}\n37: {names:?}\n39: {lists:?}", Text::ALL);
     // 39 is of version 2 only.
-    let is_number = |version: usize, number: usize| !matches!((version, number), (_, 1 | 25..=30) | (1, 39));
+    let is_number = |version: usize, number: usize| !matches!((version, number), (_, 1 | 27..=30) | (1, 39));
     for version in [1, 2] {
         let reached = reached[version - 1];
         assert!((0..40).all(|number| reached[number] >= 10 || !is_number(version, number)), "{version}: {reached:?}");

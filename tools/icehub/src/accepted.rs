@@ -11,6 +11,7 @@ pub fn write(out: &mut dyn Write, reading: &Reading) -> io::Result<()> {
     let of = reading.table().type_row(reading.first_type);
     let shown = of.map_or_else(String::new, |of| format!(", {}", words::type_words(of)));
     writeln!(out, "  first known type: {}{shown}", reading.first_type)?;
+    writeln!(out, "  encoding:         {}", encoding(reading))?;
     writeln!(out, "  format:           {}", format(reading, of))?;
     writeln!(out, "  skipped:          {}", skipped(reading))?;
     if reading.members().len() == 0 {
@@ -48,12 +49,21 @@ fn write_member(out: &mut dyn Write, member: Member, declared: MemberRow) -> io:
     }
 }
 
-/// The format in a word. A parameter list has no slices, so no format.
+/// The version of the encoding.
+pub fn encoding(reading: &Reading) -> &'static str {
+    match reading.format {
+        Format::Old => "1.0",
+        Format::Compact | Format::Sliced => "1.1",
+    }
+}
+
+/// The format in a word. A parameter list has no slices, so no format; a record of 1.0 has its type IDs and sizes in pairs.
 pub fn format(reading: &Reading, of: Option<TypeRow>) -> &'static str {
     match (of.map(TypeRow::kind), reading.format) {
         (Some(Kind::ParameterList), _) => "parameter list",
         (_, Format::Compact) => "compact",
         (_, Format::Sliced) => "sliced",
+        (_, Format::Old) => "pairs",
     }
 }
 

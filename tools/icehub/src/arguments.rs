@@ -15,7 +15,7 @@ pub enum Command {
 }
 
 const HELP: &str = "\
-icehub: shows messages of Ice encoding 1.1 by their type table
+icehub: shows messages of Ice encodings 1.1 and 1.0 by their type table
 
   icehub show [--json] [--hex] TABLE TOP FILE..   show messages, or why they are refused
   icehub table TABLE                              show a type table, or where it breaks a rule

@@ -13,10 +13,11 @@ pub fn accepted(file: &str, reading: &Reading) -> String {
     let of = reading.table().type_row(reading.first_type);
     let members: Vec<_> = reading.members().map(member).collect();
     format!(
-        r#"{{"file":{file},"accepted":true,"type":{},"kind":{},"name":{},"format":{},"optionals_skipped":{},"slices_skipped":{},"members":[{}]}}"#,
+        r#"{{"file":{file},"accepted":true,"type":{},"kind":{},"name":{},"encoding":{},"format":{},"optionals_skipped":{},"slices_skipped":{},"members":[{}]}}"#,
         reading.first_type,
         or_null(of.map(|of| quoted(of.kind().name()))),
         or_null(of.and_then(TypeRow::name).map(quoted)),
+        quoted(accepted::encoding(reading)),
         quoted(accepted::format(reading, of)),
         reading.optionals_skipped,
         reading.slices_skipped,
@@ -181,8 +182,8 @@ fn proxy(line: &mut String, proxy: &Proxy) {
         or_null(proxy.facet.map(quoted)),
         quoted(mode(proxy.mode)),
         proxy.secure,
-        version(proxy.protocol),
-        version(proxy.encoding)
+        or_null(proxy.protocol.map(version)),
+        or_null(proxy.encoding.map(version))
     );
     list(line, proxy.endpoints.clone(), |line, endpoint| {
         let of = quoted(&endpoint_type(endpoint.of));

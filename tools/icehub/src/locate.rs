@@ -3,7 +3,7 @@
 //! The library has refused the message at that place, so what comes before it follows the rules, and can be walked by
 //! lengths alone. The walk judges nothing, and stops where it does not know how to go on.
 
-use icehub::{Kind, MemberRow, Table, TypeRow, Value};
+use icehub::{Format, Kind, MemberRow, Table, TypeRow, Value};
 
 /// What is at a place of a message.
 #[derive(Debug, Default, PartialEq)]
@@ -58,9 +58,18 @@ impl std::fmt::Display for Step {
     }
 }
 
+/// [`Format::Old`] for a message of encoding 1.0, else [`Format::Sliced`]: how its values are encoded.
+pub fn format_of(message: &[u8]) -> Format {
+    match message.get(4..6) {
+        Some([1, 0]) => Format::Old,
+        _ => Format::Sliced,
+    }
+}
+
 /// What is at a place of a message that is read under a top.
 pub fn locate<'a>(table: Table<'a>, top: u32, message: &'a [u8], place: usize) -> Location<'a> {
-    let mut walk = Walk { table, message, place, found: Location::default() };
+    let format = format_of(message);
+    let mut walk = Walk { table, message, place, format, found: Location::default() };
     walk.message_of(top);
     walk.found
 }
@@ -69,6 +78,8 @@ struct Walk<'a> {
     table: Table<'a>,
     message: &'a [u8],
     place: usize,
+    /// How values are encoded: see [`format_of`].
+    format: Format,
     found: Location<'a>,
 }
 
@@ -105,7 +116,13 @@ impl<'a> Walk<'a> {
         }
         let top = self.table.type_row(top)?;
         match top.kind() {
+            Kind::ParameterList if self.format == Format::Old => {
+                self.members(top, 6, self.message.len(), None)?;
+                self.at("what follows the parameter list")
+            }
             Kind::ParameterList => self.members(top, 6, self.message.len(), Some(Optionals::ToTheEnd)).map(|_| ()),
+            _ if self.format == Format::Old && self.place == 6 => self.at("the header byte"),
+            _ if self.format == Format::Old => self.pairs(7),
             Kind::Class if self.place == 6 => self.at("the class marker"),
             Kind::Class => self.slices(7),
             _ => self.slices(6),
@@ -157,6 +174,38 @@ impl<'a> Walk<'a> {
             }
             if flags & 32 != 0 {
                 return None;
+            }
+        }
+        None
+    }
+
+    /// The pairs of type ID and size of an exception of encoding 1.0, from a place on.
+    fn pairs(&mut self, mut at: usize) -> Option<()> {
+        let mut base = None;
+        for number in 1.. {
+            let mut slice = Slice { number, place: at, id: None, of: base };
+            self.found.slice = Some(slice);
+            let Some((length, width)) = self.size(at) else { return self.at("the slice's type ID") };
+            let size = at + width + length;
+            slice.id = self.message.get(at + width..size);
+            slice.of = base.or_else(|| self.table.named(std::str::from_utf8(slice.id?).ok()?));
+            self.found.slice = Some(slice);
+            if self.place < size || slice.id.is_none() {
+                return self.at("the slice's type ID");
+            }
+            let Some(length) = self.int(size).filter(|_| self.place >= size + 4) else {
+                return self.at("the slice's size");
+            };
+            let end = (size + length).min(self.message.len());
+            at = match slice.of {
+                None if self.place < end => return self.at("the data of a slice that is skipped"),
+                None => end,
+                Some(of) => self.members(of, size + 4, end, None)?,
+            };
+            base = slice.of.and_then(TypeRow::base);
+            if slice.of.is_some() && base.is_none() {
+                self.found.slice = None;
+                return self.at("what follows the record");
             }
         }
         None
@@ -237,7 +286,7 @@ impl<'a> Walk<'a> {
 
     /// The place after a value, if it ends before or at the place that is looked for.
     fn passed(&self, of: TypeRow<'a>, at: usize, end: usize) -> Option<usize> {
-        let (_, length) = Value::at_front(of, self.message.get(at..end)?)?;
+        let (_, length) = Value::at_front_in(self.format, of, self.message.get(at..end)?)?;
         Some(at + length).filter(|next| *next <= self.place)
     }
 
@@ -284,8 +333,11 @@ impl<'a> Walk<'a> {
         }
         let at = self.item(at, 1, "the mode")?;
         let at = self.item(at, 1, "the secure byte")?;
-        let at = self.item(at, 2, "the protocol's version")?;
-        let at = self.item(at, 2, "the encoding's version")?;
+        let mut at = at;
+        if self.format != Format::Old {
+            at = self.item(at, 2, "the protocol's version")?;
+            at = self.item(at, 2, "the encoding's version")?;
+        }
         let Some((endpoints, width)) = self.size(at) else { return self.at("the endpoint count") };
         let mut at = self.item(at, width, "the endpoint count")?;
         for _ in 0..endpoints {

@@ -1,6 +1,6 @@
 //! A refused message for a person: the refusal in words, the slice and member that it is in, and the bytes around it.
 
-use crate::locate::{locate, Location};
+use crate::locate::{format_of, locate, Location};
 use crate::{broken, text, words};
 use icehub::{Allowed, Reason, Refusal, Table, TypeRow, Value};
 use std::io::{self, Write};
@@ -25,7 +25,7 @@ pub fn write(out: &mut dyn Write, bytes: &[u8], top: u32, message: &[u8], refusa
             let location = locate(table, top, message, place);
             write_location(out, &location)?;
             if let (Some(Reason::BadEnumerator), Some(of)) = (refusal.reason(), location.of) {
-                write_allowed(out, of, message.get(place..).unwrap_or_default())?;
+                write_allowed(out, of, message, place)?;
             }
             let shown = match refusal.reason() {
                 Some(Reason::BadText) => write_text(out, message, place)?,
@@ -86,9 +86,10 @@ fn write_location(out: &mut dyn Write, location: &Location) -> io::Result<()> {
 /// Of a list with more runs than these, only the entries next to the number are shown.
 const RUNS: usize = 16;
 
-/// The enumerator at the front of these bytes, and those that its enum allows.
-fn write_allowed(out: &mut dyn Write, of: TypeRow, bytes: &[u8]) -> io::Result<()> {
-    let number = Value::at_front(of, bytes).and_then(|(value, _)| value.as_enumerator());
+/// The enumerator at a place of a message, and those that its enum allows.
+fn write_allowed(out: &mut dyn Write, of: TypeRow, message: &[u8], place: usize) -> io::Result<()> {
+    let bytes = message.get(place..).unwrap_or_default();
+    let number = Value::at_front_in(format_of(message), of, bytes).and_then(|(value, _)| value.as_enumerator());
     let (Some(number), Some(allowed)) = (number, of.allowed()) else { return Ok(()) };
     let allowed = match allowed {
         Allowed::UpTo(greatest) => format!("0 to {greatest}"),

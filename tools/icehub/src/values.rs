@@ -132,9 +132,13 @@ fn proxy_lines(out: &mut dyn Write, proxy: &Proxy, indent: usize) -> io::Result<
         writeln!(out, "{:indent$}facet {}", "", words::quoted(facet))?;
     }
     let secure = if proxy.secure { "secure" } else { "not secure" };
-    let ((major, minor), (encoding, version)) = (proxy.protocol, proxy.encoding);
-    let mode = mode(proxy.mode);
-    writeln!(out, "{:indent$}{mode}, {secure}, protocol {major}.{minor}, encoding {encoding}.{version}", "")?;
+    write!(out, "{:indent$}{}, {secure}", "", mode(proxy.mode))?;
+    for (what, version) in [("protocol", proxy.protocol), ("encoding", proxy.encoding)] {
+        if let Some((major, minor)) = version {
+            write!(out, ", {what} {major}.{minor}")?;
+        }
+    }
+    writeln!(out)?;
     for (number, endpoint) in proxy.endpoints.clone().enumerate() {
         let (major, minor) = endpoint.encoding;
         let inside = endpoint.bytes.get(8..).unwrap_or_default();

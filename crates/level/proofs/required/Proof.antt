@@ -10,10 +10,10 @@ use Rattle.level.proofs.required.Statement.{statement}
 use Rattle.level.proofs.required.Tie as tie
 
 abbrev Inv-loop : tie.InvT-loop
-Inv-loop table begin shapes t s at count out₀ all first m₀ left₀ pos₀ k₀ next₀ out m left pos k next = (at + length s < 2 ^ 63) × (count < 2 ^ 63) × Due table t at count s out₀ m left pos k next out
+Inv-loop table begin shapes t s at count out₀ old all first m₀ left₀ pos₀ k₀ next₀ out m left pos k next = (at + length s < 2 ^ 63) × (count < 2 ^ 63) × Due old table t at count s out₀ m left pos k next out
 
 abbrev μ-loop : tie.MeasureT-loop
-μ-loop table begin shapes t s at count out₀ all first m₀ left₀ pos₀ k₀ next₀ out m left pos k next = left
+μ-loop table begin shapes t s at count out₀ old all first m₀ left₀ pos₀ k₀ next₀ out m left pos k next = left
 
 pub required-spec : {M : Type 1} → statement M
 required-spec =
@@ -35,15 +35,15 @@ required-spec =
     (λ c κs. search (needs, c .before .before .before .before .before .before .before .before .before .before .before .before .before .before .before .pre))  -- put-member-requires
     (λ c. search needs)  -- enum-known-step
     (λ c. omega arith)  -- add-k
-    (λ c. search (due-room _ _ _ _ _ _ _ _ _ _ _ _ (c .before .before .before .before .before .before .before .before .before .before .before .before .before .loop .inv .2), typed, c .before .before .before .before .before .before .before .before .before .before .before .member-row-from .ensures .mark-is, c .before .before .before .before .before .before .before .before .before .before .before .member-row-from .ensures .of-is, c .before .before .before .before .before .before .before .before .before .before .before .before .before .before .before .before .before .members .ensures .0, c .before .before .before .before .before .before .before .before .before .before .before .before .before .loop .inv .0))  -- add-pos
+    (λ c. search (due-room _ _ _ _ _ _ _ _ _ _ _ _ _ (c .before .before .before .before .before .before .before .before .before .before .before .before .before .loop .inv .2), typed, c .before .before .before .before .before .before .before .before .before .before .before .member-row-from .ensures .mark-is, c .before .before .before .before .before .before .before .before .before .before .before .member-row-from .ensures .of-is, c .before .before .before .before .before .before .before .before .before .before .before .before .before .before .before .before .before .members .ensures .0, c .before .before .before .before .before .before .before .before .before .before .before .before .before .loop .inv .0))  -- add-pos
     (λ c. search needs)  -- enum-known-step-2
-    (λ c. search (due-place _ _ _ _ _ _ _ _ _ _ _ _ (c .before .before .before .before .before .before .before .before .before .before .before .before .before .loop .inv .2), typed, c .before .before .before .before .before .before .before .before .before .before .before .member-row-from .ensures .mark-is, c .before .before .before .before .before .before .before .before .before .before .before .member-row-from .ensures .of-is, c .before .before .before .before .before .before .before .before .before .before .before .before .before .before .before .before .before .members .ensures .0, c .before .before .before .before .before .before .before .before .before .before .before .before .before .loop .inv .0))  -- add-t30
+    (λ c. search (due-place _ _ _ _ _ _ _ _ _ _ _ _ _ (c .before .before .before .before .before .before .before .before .before .before .before .before .before .loop .inv .2), typed, c .before .before .before .before .before .before .before .before .before .before .before .member-row-from .ensures .mark-is, c .before .before .before .before .before .before .before .before .before .before .before .member-row-from .ensures .of-is, c .before .before .before .before .before .before .before .before .before .before .before .before .before .before .before .before .before .members .ensures .0, c .before .before .before .before .before .before .before .before .before .before .before .before .before .loop .inv .0))  -- add-t30
     (λ c. search needs)  -- same-length
-    (λ c. (search (due-fault _ _ _ _ _ _ _ _ _ _ _ _ (c .before .before .before .before .before .before .before .before .before .before .before .before .before .loop .inv .2), typed, c .before .before .before .before .before .before .before .before .before .before .before .member-row-from .ensures .mark-is, c .before .before .before .before .before .before .before .before .before .before .before .member-row-from .ensures .of-is, c .before .before .before .before .before .before .before .before .before .before .before .before .before .before .before .before .before .members .ensures .0, c .before .before .before .before .before .before .before .before .before .before .before .before .before .loop .inv .0), (search needs, search (due-never _ _ _ _ _ _ _ _ _ _ _ _ (c .before .before .before .before .before .before .before .before .before .before .before .before .before .loop .inv .2), typed, c .before .before .before .before .before .before .before .before .before .before .before .member-row-from .ensures .mark-is, c .before .before .before .before .before .before .before .before .before .before .before .member-row-from .ensures .of-is, c .before .before .before .before .before .before .before .before .before .before .before .before .before .before .before .before .before .members .ensures .0, c .before .before .before .before .before .before .before .before .before .before .before .before .before .loop .inv .0))))  -- returns
+    (λ c. (search (due-fault _ _ _ _ _ _ _ _ _ _ _ _ _ (c .before .before .before .before .before .before .before .before .before .before .before .before .before .loop .inv .2), typed, c .before .before .before .before .before .before .before .before .before .before .before .member-row-from .ensures .mark-is, c .before .before .before .before .before .before .before .before .before .before .before .member-row-from .ensures .of-is, c .before .before .before .before .before .before .before .before .before .before .before .before .before .before .before .before .before .members .ensures .0, c .before .before .before .before .before .before .before .before .before .before .before .before .before .loop .inv .0), (search needs, search (due-never _ _ _ _ _ _ _ _ _ _ _ _ _ (c .before .before .before .before .before .before .before .before .before .before .before .before .before .loop .inv .2), typed, c .before .before .before .before .before .before .before .before .before .before .before .member-row-from .ensures .mark-is, c .before .before .before .before .before .before .before .before .before .before .before .member-row-from .ensures .of-is, c .before .before .before .before .before .before .before .before .before .before .before .before .before .before .before .before .before .members .ensures .0, c .before .before .before .before .before .before .before .before .before .before .before .before .before .loop .inv .0))))  -- returns
     (λ c κs. search needs)  -- least-requires
     (λ c. omega arith)  -- add-m
     (λ c. omega arith)  -- sub-left
     (λ c. omega arith)  -- loop-less
-    (λ c. (search needs, search needs, ⊎-elim (λ w. search (due-next _ _ _ _ _ _ _ _ _ _ _ _ (c .before .before .before .before .loop .inv .2), typed, c .before .before .member-row-from .ensures .mark-is, c .before .before .member-row-from .ensures .of-is, c .before .before .before .before .before .before .before .before .members .ensures .0, w)) (λ w. search (due-past _ _ _ _ _ _ _ _ _ _ _ _ (c .before .before .before .before .loop .inv .2), c .before .before .member-row-from .ensures .mark-is, w)) (c .if1 .came)))  -- loop-again
+    (λ c. (search needs, search needs, ⊎-elim (λ w. search (due-next _ _ _ _ _ _ _ _ _ _ _ _ _ (c .before .before .before .before .loop .inv .2), typed, c .before .before .member-row-from .ensures .mark-is, c .before .before .member-row-from .ensures .of-is, c .before .before .before .before .before .before .before .before .members .ensures .0, w)) (λ w. search (due-past _ _ _ _ _ _ _ _ _ _ _ _ _ (c .before .before .before .before .loop .inv .2), c .before .before .member-row-from .ensures .mark-is, w)) (c .if1 .came)))  -- loop-again
     (λ c. search needs)  -- same-length-2
     (λ c. (search due-says, (search needs, search due-gives))))  -- returns-2

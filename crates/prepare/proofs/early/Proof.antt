@@ -1,20 +1,8 @@
--- 2, 23 and 3 in turn. Assumes nothing.
+-- 2, 23, 26 and 3 in turn. Assumes nothing.
 use borrow.Author.Needs.{needs}
-use Rattle.prepare.proofs.Checking.{early-top, early-format, early-long, early-none}
+use Rattle.prepare.proofs.Checking.{early-top, early-format, early-old, early-long, early-none}
 use Rattle.prepare.proofs.early.Statement.{statement}
 use Rattle.prepare.proofs.early.Tie as tie
-
-returns : tie.Need-returns
-returns c = search early-top
-
-returns-2 : tie.Need-returns-2
-returns-2 c = search early-format
-
-returns-3 : tie.Need-returns-3
-returns-3 c = search early-long
-
-returns-4 : tie.Need-returns-4
-returns-4 c = search early-none
 
 pub early-spec : {M : Type 1} → statement M
 early-spec =
@@ -22,7 +10,10 @@ early-spec =
     (tie.spec
     (λ c κs. search needs)  -- kind-requires
     (λ c κs. search needs)  -- no-top-requires
-    returns
-    returns-2
-    returns-3
-    returns-4)
+    (λ c. search early-top)  -- returns
+    (λ c κs. search needs)  -- no-format-requires
+    (λ c. search early-format)  -- returns-2
+    (λ c κs. search needs)  -- no-old-requires
+    (λ c. search early-old)  -- returns-3
+    (λ c. search early-long)  -- returns-4
+    (λ c. search early-none))  -- returns-5

@@ -1,4 +1,4 @@
--- The table's rules, then 2, 23 and 3. Assumes nothing.
+-- The table's rules, then 2, 23, 26 and 3. Assumes nothing.
 use borrow.Author.Needs.{needs}
 use Rattle.prepare.proofs.Checking.{broken-checks, early-checks, ready-checks}
 use Rattle.prepare.proofs.prepare.Statement.{statement}

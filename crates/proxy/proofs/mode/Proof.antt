@@ -1,6 +1,6 @@
 -- The mode, judged; then what follows it.
 use borrow.Author.Needs.{needs}
-use Rattle.wire.proofs.Sums.{took-fits, bad-fits}
+use Rattle.wire.proofs.Sums.{any-took-fits, any-bad-fits}
 use Rattle.proxy.specs.Parts.{secured as secured-of}
 use Rattle.proxy.proofs.Laws.{held-secured, mode-none, mode-high, mode-took, mode-bad}
 use Rattle.proxy.proofs.mode.Statement.{statement}
@@ -18,8 +18,8 @@ mode-spec =
     (λ c. search needs)  -- part-secured-end
     (λ c κs. search needs)  -- secured-requires
     (λ c. search needs)  -- enum-known-step
-    (λ c. search (took-fits secured-of held-secured))  -- add-t13
+    (λ c. search (any-took-fits secured-of held-secured))  -- add-t13
     (λ c. search needs)  -- enum-known-step-2
-    (λ c. search (bad-fits secured-of held-secured))  -- add-t14
+    (λ c. search (any-bad-fits secured-of held-secured))  -- add-t14
     (λ c. search mode-took)  -- returns-3
     (λ c. search mode-bad))  -- returns-4

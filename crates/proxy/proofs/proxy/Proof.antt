@@ -1,6 +1,6 @@
 -- An identity; nil ends it, else the reference.
 use borrow.Author.Needs.{needs}
-use Rattle.wire.proofs.Sums.{took-fits, bad-fits}
+use Rattle.wire.proofs.Sums.{any-took-fits, any-bad-fits}
 use Rattle.encoding.specs.Proxy.{reference as reference-of}
 use Rattle.encoding.specs.ValueLaws.{held-reference}
 use Rattle.proxy.proofs.Laws.{identity-end, proxy-nil, proxy-took, proxy-bad, proxy-none}
@@ -19,9 +19,9 @@ proxy-spec =
     (λ c. search needs)  -- part-reference-end
     (λ c κs. search needs)  -- reference-requires
     (λ c. search needs)  -- enum-known-step
-    (λ c. search (took-fits reference-of held-reference, identity-end))  -- add-t17
+    (λ c. search (any-took-fits reference-of held-reference, identity-end))  -- add-t17
     (λ c. search needs)  -- enum-known-step-2
-    (λ c. search (bad-fits reference-of held-reference, identity-end))  -- add-t18
+    (λ c. search (any-bad-fits reference-of held-reference, identity-end))  -- add-t18
     (λ c. search needs)  -- enum-known-z-2
     (λ c. search proxy-took)  -- returns-2
     (λ c. search proxy-bad)  -- returns-3

@@ -1,8 +1,8 @@
 -- Facets, then the mode and the rest.
 use borrow.Author.Needs.{needs}
-use Rattle.wire.proofs.Sums.{took-fits, bad-fits}
-use Rattle.encoding.specs.Proxy.{facets as facets-of}
+use Rattle.wire.proofs.Sums.{any-took-fits, any-bad-fits}
 use Rattle.proxy.specs.Parts.{mode as mode-of}
+use Rattle.encoding.specs.Proxy.{facets as facets-of}
 use Rattle.wire.specs.StepLaws.{took-held}
 use Rattle.proxy.proofs.Laws.{held-facets, held-mode, reference-took, reference-bad, reference-none}
 use Rattle.proxy.proofs.reference.Statement.{statement}
@@ -19,9 +19,9 @@ reference-spec =
     (λ c. search needs)  -- part-mode-end
     (λ c κs. search needs)  -- mode-requires
     (λ c. search needs)  -- enum-known-step
-    (λ c. search (took-fits mode-of held-mode, took-held facets-of held-facets))  -- add-t14
+    (λ c. search (any-took-fits mode-of held-mode, took-held facets-of held-facets))  -- add-t14
     (λ c. search needs)  -- enum-known-step-2
-    (λ c. search (bad-fits mode-of held-mode, took-held facets-of held-facets))  -- add-t15
+    (λ c. search (any-bad-fits mode-of held-mode, took-held facets-of held-facets))  -- add-t15
     (λ c. search needs)  -- enum-known-first-2
     (λ c. search reference-took)  -- returns
     (λ c. search reference-bad)  -- returns-2

@@ -1,8 +1,8 @@
--- Secure and the versions, a case for each way out; then the endpoints.
+-- Secure, judged; then what follows it.
 use borrow.Author.Needs.{needs}
-use Rattle.wire.proofs.Sums.{took-fits, bad-fits}
-use Rattle.encoding.specs.Proxy.{endpoints as endpoints-of}
-use Rattle.proxy.proofs.Laws.{held-endpoints, secured-none, secured-high, secured-short, secured-took, secured-bad}
+use Rattle.wire.proofs.Sums.{any-took-fits, any-bad-fits}
+use Rattle.proxy.specs.Parts.{addressed as addressed-of}
+use Rattle.proxy.proofs.Laws.{held-addressed, secured-none, secured-high, secured-took, secured-bad}
 use Rattle.proxy.proofs.secured.Statement.{statement}
 use Rattle.proxy.proofs.secured.Tie as tie
 
@@ -13,14 +13,13 @@ secured-spec =
     (λ c. search secured-none)  -- returns
     (λ c κs. search needs)  -- byte-at-requires
     (λ c. search secured-high)  -- returns-2
-    (λ c. search secured-short)  -- returns-3
-    (λ c. search needs)  -- sub-endpoints
-    (λ c. search needs)  -- part-endpoints-start
-    (λ c. search needs)  -- part-endpoints-end
-    (λ c κs. search needs)  -- endpoints-requires
+    (λ c. search needs)  -- sub-addressed
+    (λ c. search needs)  -- part-addressed-start
+    (λ c. search needs)  -- part-addressed-end
+    (λ c κs. search needs)  -- addressed-requires
     (λ c. search needs)  -- enum-known-step
-    (λ c. search (took-fits endpoints-of held-endpoints))  -- add-t13
+    (λ c. search (any-took-fits addressed-of held-addressed))  -- add-t13
     (λ c. search needs)  -- enum-known-step-2
-    (λ c. search (bad-fits endpoints-of held-endpoints))  -- add-t14
-    (λ c. search secured-took)  -- returns-4
-    (λ c. search secured-bad))  -- returns-5
+    (λ c. search (any-bad-fits addressed-of held-addressed))  -- add-t14
+    (λ c. search secured-took)  -- returns-3
+    (λ c. search secured-bad))  -- returns-4

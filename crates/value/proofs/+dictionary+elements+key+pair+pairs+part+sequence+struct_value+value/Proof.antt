@@ -9,7 +9,8 @@ use Rattle.encoding.specs.Table.{field, range, memberTys, ownRows, tys, partTy}
 use Rattle.encoding.specs.Value.{value as value-of, values}
 use Rattle.wire.specs.Steps.{stepOf}
 use Rattle.wire.specs.StepLaws.{Left}
-use Rattle.value.specs.Parts.{entry}
+use Rattle.encoding.specs.Old.{typeAs}
+use Rattle.value.specs.Parts.{typesAs, entry}
 use Rattle.wire.proofs.Laws.{size-within}
 use Rattle.wire.proofs.Sums.{part-fits}
 use Rattle.value.proofs.Room.{items-fits, sized-items-fits}
@@ -56,7 +57,7 @@ use Rattle.shapes.proofs.width_below.Reads as width-below-reads
 use Rattle.table.proofs.type_row.Reads as type-row-reads
 use Rattle.value.proofs.is_text_below.Reads as is-text-below-reads
 use Rattle.value.proofs.plain.bool.Reads as bool-reads
-use Rattle.value.proofs.plain.enumerator.Reads as enumerator-reads
+use Rattle.value.proofs.plain.enumerator_as.Reads as enumerator-as-reads
 use Rattle.value.proofs.plain.skip.Reads as skip-reads
 use Rattle.text.proofs.read_text.Reads as read-text-reads
 use Rattle.value.proofs.plain.texts.Reads as texts-reads
@@ -172,25 +173,25 @@ abbrev struct-value-calls : ℕ → struct-value-lts.Claims
 struct-value-calls t = (members-reads.Asked, members-reads.Learnt, members-at-reads.Asked, members-at-reads.Learnt, type-row-reads.Asked, type-row-reads.Learnt, member-row-from-reads.Asked, member-row-from-reads.Learnt, part-below t, part.Post)
 
 abbrev value-calls : ℕ → value-lts.Claims
-value-calls t = (kind-reads.Asked, kind-reads.Learnt, bool-reads.Asked, bool-reads.Learnt, skip-reads.Asked, skip-reads.Learnt, read-text-reads.Asked, read-text-reads.Learnt, enumerator-reads.Asked, enumerator-reads.Learnt, struct-value-below t, struct-value.Post, sequence-below t, sequence.Post, dictionary-below t, dictionary.Post, proxy-reads.Asked, proxy-reads.Learnt)
+value-calls t = (kind-reads.Asked, kind-reads.Learnt, bool-reads.Asked, bool-reads.Learnt, skip-reads.Asked, skip-reads.Learnt, read-text-reads.Asked, read-text-reads.Learnt, enumerator-as-reads.Asked, enumerator-as-reads.Learnt, struct-value-below t, struct-value.Post, sequence-below t, sequence.Post, dictionary-below t, dictionary.Post, proxy-reads.Asked, proxy-reads.Learnt)
 
 abbrev elements-Inv-loop : elements-lts.InvT-loop
-elements-Inv-loop table begin shapes t e n s left₀ at₀ left at = Left s (stepOf (times n (value-of (partTy table t e)) s)) (times left (value-of (partTy table t e))) at
+elements-Inv-loop table begin shapes t e n s old left₀ at₀ left at = Left s (stepOf (times n (value-of (typeAs old (partTy table t e))) s)) (times left (value-of (typeAs old (partTy table t e)))) at
 
 abbrev elements-μ-loop : elements-lts.MeasureT-loop
-elements-μ-loop table begin shapes t e n s left₀ at₀ left at = left
+elements-μ-loop table begin shapes t e n s old left₀ at₀ left at = left
 
 abbrev pairs-Inv-loop : pairs-lts.InvT-loop
-pairs-Inv-loop table begin shapes t n s key val text w left₀ at₀ left at = Left s (stepOf (times n (entry (partTy table t (field table t 0)) (partTy table t (field table t 1))) s)) (times left (entry (partTy table t key) (partTy table t val))) at
+pairs-Inv-loop table begin shapes t n s old key val text w left₀ at₀ left at = Left s (stepOf (times n (entry (typeAs old (partTy table t (field table t 0))) (typeAs old (partTy table t (field table t 1)))) s)) (times left (entry (typeAs old (partTy table t key)) (typeAs old (partTy table t val)))) at
 
 abbrev pairs-μ-loop : pairs-lts.MeasureT-loop
-pairs-μ-loop table begin shapes t n s key val text w left₀ at₀ left at = left
+pairs-μ-loop table begin shapes t n s old key val text w left₀ at₀ left at = left
 
 abbrev struct-value-Inv-loop : struct-value-lts.InvT-loop
-struct-value-Inv-loop table begin shapes t s all first m₀ left₀ at₀ m left at = Left s (stepOf (value-of (struct (memberTys table (tys table t) (ownRows table t))) s)) (values (memberTys table (tys table t) (range m left))) at
+struct-value-Inv-loop table begin shapes t s old all first m₀ left₀ at₀ m left at = Left s (stepOf (value-of (typeAs old (struct (memberTys table (tys table t) (ownRows table t)))) s)) (values (typesAs old (memberTys table (tys table t) (range m left)))) at
 
 abbrev struct-value-μ-loop : struct-value-lts.MeasureT-loop
-struct-value-μ-loop table begin shapes t s all first m₀ left₀ at₀ m left at = left
+struct-value-μ-loop table begin shapes t s old all first m₀ left₀ at₀ m left at = left
 
 pub +dictionary+elements+key+pair+pairs+part+sequence+struct-value+value-spec : {M : Type 1} → statement M
 +dictionary+elements+key+pair+pairs+part+sequence+struct-value+value-spec =
@@ -318,14 +319,14 @@ pub +dictionary+elements+key+pair+pairs+part+sequence+struct-value+value-spec : 
     (λ c. search (value-took-fits, c .before .before .before .before .before .before .before .before .before .before .before .before .before .before .good))  -- add-at
     (λ c. search needs)  -- enum-known-step-2
     (λ c. search (value-bad-fits, c .before .before .before .before .before .before .before .before .before .before .before .before .before .before .good))  -- add-t19
-    (λ c. search (member-fault, member-read))  -- returns-2
+    (λ c. search (member-fault (c .before .before .before .before .before .before .before .before .before .before .before .before .before .before .args .old) _ _ _ _ _ _ _ (c .before .before .before .before .before .before .before .before .loop .inv), member-read))  -- returns-2
     (λ c. search needs)  -- add-m
     (λ c. omega arith)  -- sub-left
     (λ c. omega arith)  -- loop-less
-    (λ c. search (member-next _ _ _ _ _ _ _ (c .before .before .before .before .before .before .before .before .loop .inv), member-read))  -- loop-again
+    (λ c. search (member-next (c .before .before .before .before .before .before .before .before .before .before .before .before .before .before .args .old) _ _ _ _ _ _ _ (c .before .before .before .before .before .before .before .before .loop .inv), member-read))  -- loop-again
     (λ c. search member-done))  -- returns-3
     (λ t. value-lts.spec (value-calls t) (value-at t) value.Post
-    (λ c. row-not _ _ _ _ (omega arith))  -- returns
+    (λ c. row-not (c .before .before .before .args .old) _ _ _ _ (omega arith))  -- returns
     (λ c κs. search needs)  -- kind-requires
     (λ c κs. search needs)  -- bool-requires
     (λ c κs. search needs)  -- skip-requires
@@ -335,7 +336,7 @@ pub +dictionary+elements+key+pair+pairs+part+sequence+struct-value+value-spec : 
     (λ c κs. search needs)  -- skip-requires-5
     (λ c κs. search needs)  -- skip-requires-6
     (λ c κs. search needs)  -- read-text-requires
-    (λ c κs. search needs)  -- enumerator-requires
+    (λ c κs. search needs)  -- enumerator-as-requires
     (λ c κs. search needs)  -- struct-value-requires
     (λ c κs. search needs)  -- sequence-requires
     (λ c κs. search needs)  -- dictionary-requires

@@ -41,6 +41,11 @@ struct Case {
 impl Case {
     /// The case whose members, in message order, have these bytes.
     fn new(name: &'static str, spec: &Spec, top: u16, values: &[(usize, Vec<u8>)]) -> Case {
+        Case::in_format(1, name, spec, top, values)
+    }
+
+    /// The same in a format.
+    fn in_format(format: u32, name: &'static str, spec: &Spec, top: u16, values: &[(usize, Vec<u8>)]) -> Case {
         let (mut rows, mut buffer) = (vec![], vec![]);
         for (member, value) in values {
             for number in [*member, buffer.len(), value.len()] {
@@ -48,7 +53,7 @@ impl Case {
             }
             buffer.extend(value);
         }
-        let (table, top, format) = (spec.bytes(), top.into(), 1);
+        let (table, top) = (spec.bytes(), top.into());
         let mut message = vec![0; 65_536];
         let count = values.len() as u32;
         let length = write(&table, top, format, count, &rows, &buffer, &mut message).expect(name);
@@ -158,6 +163,17 @@ impl Case {
         );
     }
 
+    /// The reader of this message, of 1.0, against that of the same in 1.1.
+    fn run_against(&self, new: &Case) {
+        let (mut lent, mut other) = (vec![0; self.rows.len()], vec![0; new.rows.len()]);
+        report(
+            &format!("{}: icehub_read, against 1.1", self.name),
+            || ffi::read(black_box(&self.table), self.top, black_box(&self.message), &mut lent),
+            || ffi::read(black_box(&new.table), new.top, black_box(&new.message), &mut other),
+            0,
+        );
+    }
+
     /// The reader with its numbers, and the view of the last member listed, against the reader.
     fn run_calls(&self) {
         let Case { name, table, top, message, rows, .. } = self;
@@ -179,6 +195,32 @@ impl Case {
             0,
         );
     }
+}
+
+/// An exception of four slices without optionals, 1 KB: in encoding 1.1, or in format 2 in 1.0.
+fn exception(format: u32) -> Case {
+    let mut spec = Spec::default();
+    let [truth, int, double, text] = [0, 3, 6, 7].map(|kind| spec.basic(kind));
+    let state = spec.enumeration(300);
+    let point = spec.owner(9, &[(double, None), (double, None), (int, None)]);
+    let points = spec.row(10, [point, 0, 0, 0, 0]);
+    let lookup = spec.row(11, [text, int, 0, 0, 0]);
+    let members = [int, truth, text, state, points, lookup, text, double].map(|of| (of, None));
+    let mut chain = vec![];
+    for name in [&b"::Fault"[..], b"::Heating::Fault", b"::Guarded::Fault", b"::Frost::Guarded::Fault"] {
+        chain.push(spec.record(13, chain.last().copied(), name, &members));
+    }
+    let enumerator = if format == 2 { vec![44, 1] } else { vec![255, 44, 1, 0, 0] };
+    let mut values = vec![];
+    for &record in chain.iter().rev() {
+        let first = spec.rows[record as usize].1[0] as usize;
+        let pairs = [&[3][..], &string(5), &[1; 4], &string(9), &[2; 4], &string(7), &[3; 4]].concat();
+        let points = [&[4][..], &[9; 80]].concat();
+        let data = [vec![7; 4], vec![1], string(63), enumerator.clone(), points, pairs, string(20), vec![6; 8]];
+        values.extend(data.into_iter().enumerate().map(|(i, value)| (first + i, value)));
+    }
+    let name = if format == 2 { "exception of 1.0" } else { "exception of 1.1" };
+    Case::in_format(format, name, &spec, chain[3], &values)
 }
 
 /// The compact form of a sliced class instance: no sizes, and no type ID but the first.
@@ -388,6 +430,9 @@ fn all_but_logs() {
     record.run();
     let compact = compact(&record.message);
     record.run_conversion(&compact);
+    let (new, old) = (exception(1), exception(2));
+    new.run();
+    old.run();
 
     let mut spec = Spec::default();
     let text = spec.basic(7);
@@ -459,6 +504,7 @@ fn all_but_logs() {
     println!();
     heads("call", "icehub_read");
     record.run_conversion_call(&compact);
+    old.run_against(&new);
     for case in [p2, record, many] {
         case.run_calls();
     }

@@ -33,20 +33,33 @@ struct Maker<'m> {
     /// Bytes that may still be spent on what need not be there.
     budget: isize,
     wrong: Wrong,
+    /// In encoding 1.0.
+    old: bool,
     made: Message,
 }
 
-/// A message under a top of the table.
+/// A message under a top of the table, in encoding 1.0 or 1.1.
 pub fn message(rng: &mut Rng, types: &Types, top: u16, wrong: Wrong) -> Message {
     let budget = rng.pick(&[0, 30, 100, 100, 300, 300, 2_000]);
-    let reading = Reading { format: 1, ..Reading::default() };
+    let old = match wrong {
+        Wrong::Items(_) if rng.one_in(10) => true,
+        _ => types.kind(top) != 14 && !types.has_optionals(top) && rng.one_in(2),
+    };
+    let reading = Reading { format: if old { 2 } else { 1 }, ..Reading::default() };
     let made = Message { bytes: vec![], rows: vec![], reading, strings: vec![] };
-    let mut maker = Maker { rng, types, out: vec![0, 0, 0, 0, 1, 1], budget, wrong, made };
+    let mut maker = Maker { rng, types, out: vec![0, 0, 0, 0, 1, !old as u8], budget, wrong, old, made };
+    if maker.slips() {
+        maker.out[5] = maker.rng.pick(&[0, 1, 1, 2]);
+    }
     if types.kind(top) == 15 {
         maker.made.reading.first = top.into();
         maker.required(top);
-        let optionals = maker.choose(top);
-        maker.optionals(&optionals);
+        if !old {
+            let optionals = maker.choose(top);
+            maker.optionals(&optionals);
+        }
+    } else if old {
+        maker.pairs(top);
     } else {
         maker.record(top);
     }
@@ -159,7 +172,11 @@ impl Maker<'_> {
             7 => self.string(what),
             8 => {
                 let enumerator = self.enumerator(r);
-                self.size(enumerator as usize);
+                if self.old {
+                    self.old_enumerator(enumerator, types.greatest(r));
+                } else {
+                    self.size(enumerator as usize);
+                }
             }
             9 => types.owned(r).for_each(|m| self.value(types.spec.members[m].0, Text::Part)),
             10 => {
@@ -198,6 +215,20 @@ impl Maker<'_> {
         }
     }
 
+    /// An enumerator of encoding 1.0: a byte, short or int by the greatest. A wrong one has its sign bit set.
+    fn old_enumerator(&mut self, enumerator: u32, greatest: u32) {
+        let width = match greatest {
+            0..=126 => 1,
+            127..=32_766 => 2,
+            _ => 4,
+        };
+        let mut bytes = enumerator.to_le_bytes();
+        if self.slips() {
+            bytes[width - 1] |= 128;
+        }
+        self.put(&bytes[..width]);
+    }
+
     fn proxy(&mut self) {
         if self.budget <= 0 || self.rng.one_in(4) {
             let category = self.slips() as u8;
@@ -213,7 +244,9 @@ impl Maker<'_> {
         let mode = if self.slips() { self.rng.pick(&[5, 6, 255]) } else { self.rng.below(5) as u8 };
         self.put(&[mode]);
         self.bool();
-        self.bytes(4);
+        if !self.old {
+            self.bytes(4);
+        }
         let endpoints = self.rng.pick(&[0, 0, 1, 1, 2, 3]);
         self.size(endpoints);
         for _ in 0..endpoints {
@@ -385,21 +418,58 @@ impl Maker<'_> {
         }
     }
 
+    /// An exception of encoding 1.0: a header byte, then type ID and size in pairs.
+    fn pairs(&mut self, top: u16) {
+        let types = self.types;
+        let below: Vec<u16> = types.records().filter(|&r| types.chain(r).contains(&top)).collect();
+        let first = self.rng.pick(&below);
+        self.made.reading.first = first.into();
+        let header = if self.slips() { self.rng.byte() } else { 0 };
+        self.put(&[header]);
+        for _ in 0..self.rng.pick(&[0, 0, 0, 1, 1, 2, 5]) {
+            let name = types.unknown(self.rng);
+            self.pair(name, Text::UnknownId, |maker| {
+                let data = maker.rng.below(20);
+                maker.bytes(data);
+            });
+            self.made.reading.slices_skipped += 1;
+        }
+        for (i, r) in types.chain(first).into_iter().enumerate() {
+            let name = match self.slips() {
+                true if self.rng.one_in(2) => types.unknown(self.rng),
+                true => types.record_name(self.rng.pick(&types.records().collect::<Vec<_>>())).to_vec(),
+                false => types.record_name(r).to_vec(),
+            };
+            let what = if i == 0 { Text::FirstId } else { Text::LaterId };
+            self.pair(name, what, |maker| maker.required(r));
+        }
+    }
+
+    fn pair(&mut self, name: Vec<u8>, what: Text, data: impl FnOnce(&mut Self)) {
+        self.text(name, what);
+        self.sized(data);
+    }
+
+    /// An int size that counts itself, then the data.
+    fn sized(&mut self, data: impl FnOnce(&mut Self)) {
+        let start = self.out.len();
+        self.put(&[0; 4]);
+        data(self);
+        let length = self.out.len() - start;
+        let size = self.apart(|maker| maker.int(length));
+        self.out[start..start + 4].copy_from_slice(&size);
+    }
+
     fn slice(&mut self, flags: u8, id: Option<(Vec<u8>, Text)>, data: impl FnOnce(&mut Self)) {
         let flags = if self.slips() { flags ^ 1 << self.rng.below(8) } else { flags };
         self.put(&[flags]);
         if let Some((name, what)) = id {
             self.text(name, what);
         }
-        let start = self.out.len();
         if flags >> 4 & 1 == 1 {
-            self.put(&[0; 4]);
-        }
-        data(self);
-        if flags >> 4 & 1 == 1 {
-            let length = self.out.len() - start;
-            let size = self.apart(|maker| maker.int(length));
-            self.out[start..start + 4].copy_from_slice(&size);
+            self.sized(data);
+        } else {
+            data(self);
         }
     }
 }

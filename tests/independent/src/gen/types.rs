@@ -13,6 +13,8 @@ pub struct Types {
     /// For each row the least bytes of a value.
     pub(super) least: Vec<usize>,
     fixed: Vec<bool>,
+    /// No member is optional, so that encoding 1.0 may be used.
+    bare: bool,
 }
 
 /// A list of enumerators of at most `room` entries: with holes or without, near some bound.
@@ -20,7 +22,7 @@ fn list(rng: &mut Rng, room: usize) -> Vec<u32> {
     let mut list: Vec<u32> = match rng.below(8) {
         0 | 1 => (0..=rng.pick(&[0, 1, 2, 3, 254, 255, 300])).collect(),
         2 => vec![1, 3, 4],
-        3 => vec![rng.pick(&[0, 1, 254, 255, 65_535, 65_536, 0x7FFF_FFFF])],
+        3 => vec![rng.pick(&[0, 1, 126, 127, 254, 255, 32_766, 32_767, 65_536, 0x7FFF_FFFF])],
         _ => {
             let entries = if rng.one_in(8) { rng.pick(&[200, 1_000, 1_024]) } else { 1 + rng.below(9) };
             let steps = rng.pick(&[&[1, 1, 1, 2, 3][..], &[1, 2, 100], &[2], &[1, 65_536, 0x1000_0000]]);
@@ -40,7 +42,7 @@ impl Types {
     /// A table that breaks no rule, of version 1 or 2.
     pub fn random(rng: &mut Rng) -> Types {
         let spec = if rng.one_in(2) { Spec::with_lists() } else { Spec::default() };
-        let mut types = Types { spec, least: vec![], fixed: vec![] };
+        let mut types = Types { spec, least: vec![], fixed: vec![], bare: rng.one_in(4) };
         let rows = if rng.one_in(150) { 1 + rng.below(256) } else { 1 + rng.below(14) };
         let most = if rng.one_in(150) { 300 } else { 6 };
         let kinds = [0, 1, 2, 3, 4, 5, 6, 7, 7, 8, 8, 9, 9, 9, 10, 10, 10, 11, 11, 12, 13, 13, 14, 14, 15];
@@ -64,7 +66,8 @@ impl Types {
         let parts: Vec<u16> = (0..self.spec.rows.len() as u16).filter(|&r| self.kind(r) <= 12).collect();
         let (least, fixed) = match kind {
             8 if self.spec.entries.is_none() => {
-                let greatest = rng.pick(&[0, 1, 3, 254, 255, 256, 300, 65_535, 65_536, 0x7FFF_FFFF]);
+                let greatest =
+                    rng.pick(&[0, 1, 3, 126, 127, 254, 255, 300, 32_766, 32_767, 65_535, 65_536, 0x7FFF_FFFF]);
                 self.spec.enumeration(greatest);
                 (1, false)
             }
@@ -178,7 +181,7 @@ impl Types {
         let count = rng.below(most + 1).min(1_024 - self.spec.members.len());
         let mut members: Vec<Member> = vec![];
         while !parts.is_empty() && members.len() < count {
-            let tag = if rng.one_in(2) { None } else { Some(rng.tag()) };
+            let tag = if self.bare || rng.one_in(2) { None } else { Some(rng.tag()) };
             if tag.is_some() && members.iter().any(|member| member.1 == tag) {
                 continue;
             }
@@ -200,6 +203,13 @@ impl Types {
     pub fn greatest(&self, r: u16) -> u32 {
         let [a, b, ..] = self.fields(r).map(u32::from);
         a | b << 16
+    }
+
+    /// Whether the top, a base of it or a record that descends from it has an optional member.
+    pub fn has_optionals(&self, top: u16) -> bool {
+        let related = |r: u16| self.chain(top).contains(&r) || self.chain(r).contains(&top);
+        let optional = |r: u16| self.owned(r).any(|m| self.spec.members[m].1.is_some());
+        (0..self.spec.rows.len() as u16).any(|r| self.kind(r) >= 13 && optional(r) && related(r))
     }
 
     /// The same types in the other version, if every enum allows all numbers up to its greatest and the lists fit.

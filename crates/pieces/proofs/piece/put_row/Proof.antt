@@ -27,8 +27,8 @@ put-row-spec =
     (λ c. search needs)  -- enum-told
     (λ c. search needs)  -- enum-told-2
     (λ c. search needs)  -- same-length
-    (λ c. due-right _ _ _ _ _ (c .before .before .before .before .before .before .before .before .before .before .before .row-at .ensures) _ _ (c .before .before .before .before .before .before .before .before .before .before .reach-in .ensures) _ _ _ _ (c .before .before .before .before .before .before .type-of-member .ensures .0) (c .before .before .before .before .before .part-form .ensures) (c .before .before .before .before .before .before .before .before .r .given .1) (c .before .before .before .before .if1 .left) _ _ _ _ (omega (arith, c .before .before .before .before .before .before .before .before .before .before .before .before .before .before .before .before .pre .1 .1 .3)) (c .before .before .put-content .ensures .0))  -- returns-3
+    (λ c. due-right _ _ _ _ _ _ (c .before .before .before .before .before .before .before .before .before .before .before .row-at .ensures) _ _ (c .before .before .before .before .before .before .before .before .before .before .reach-in .ensures) _ _ _ _ (c .before .before .before .before .before .before .type-of-member .ensures .0) (c .before .before .before .before .before .part-form .ensures) (c .before .before .before .before .before .before .before .before .r .given .1) (c .before .before .before .before .if1 .left) _ _ _ _ (omega (arith, c .before .before .before .before .before .before .before .before .before .before .before .before .before .before .before .before .pre .1 .1 .3)) (c .before .before .put-content .ensures .0))  -- returns-3
     (λ c. search needs)  -- same-length-2
-    (λ c. may-right _ _ _ _ _ (c .before .before .before .before .before .before .before .before .before .before .before .before .before .row-at .ensures) _ _ (c .before .before .before .before .before .before .before .before .before .before .before .before .reach-in .ensures) _ _ _ _ (c .before .before .before .before .before .before .before .before .type-of-member2 .ensures .0) (c .before .before .before .before .before .before .before .part-form2 .ensures) (c .before .before .before .before .before .before .before .before .before .before .r2 .given .1) (c .before .before .before .before .before .before .if2 .left) _ (c .before .before .before .before .before .before .before .before .before .before .before .before .before .before .before .before .before .before .pre .1 .0) _ (c .before .before .before .form .ensures) _ _ _ _ (omega (arith, (c .before .before .before .before .before .before .before .before .before .before .before .before .before .before .before .before .before .before .pre .1 .1 .3), (c .before .before .put-optional .ensures .1))) (c .before .before .put-optional .ensures .0))  -- returns-4
+    (λ c. may-right _ _ _ _ _ _ (c .before .before .before .before .before .before .before .before .before .before .before .before .before .row-at .ensures) _ _ (c .before .before .before .before .before .before .before .before .before .before .before .before .reach-in .ensures) _ _ _ _ (c .before .before .before .before .before .before .before .before .type-of-member2 .ensures .0) (c .before .before .before .before .before .before .before .part-form2 .ensures) (c .before .before .before .before .before .before .before .before .before .before .r2 .given .1) (c .before .before .before .before .before .before .if2 .left) _ (c .before .before .before .before .before .before .before .before .before .before .before .before .before .before .before .before .before .before .pre .1 .0) _ (c .before .before .before .form .ensures) _ _ _ _ (omega (arith, (c .before .before .before .before .before .before .before .before .before .before .before .before .before .before .before .before .before .before .pre .1 .1 .3), (c .before .before .put-optional .ensures .1))) (c .before .before .put-optional .ensures .0))  -- returns-4
     (λ c. (search row-stop, refl))  -- returns-5
     (λ c. (search row-nothing, omega arith)))  -- returns-6

@@ -11,9 +11,10 @@ put-message-spec =
     (λ c κs. search needs)  -- put-contents-requires
     (λ c. search needs)  -- enum-known-put
     (λ c κs. search needs)  -- put-number-requires
+    (λ c κs. search needs)  -- version-requires
     (λ c κs. search needs)  -- put-number-requires-2
     (λ c. search needs)  -- enum-known-put-2
     (λ c. search needs)  -- same-length
-    (λ c. message-made _ _ _ _ _ _ _ _ _ (c .before .before .before .before .before .before .before .before .before .before .before .before .before .put-contents .result) (c .before .before .before .before .before .before .before .before .before .before .before .before .before .put-contents .ensures) _ (c .before .before .before .before .before .before .before .before .before .put .given .1) _ _ (c .before .before .before .before .before .before .put-number .ensures) (c .before .before .put-number2 .ensures))  -- returns
+    (λ c. message-made _ _ _ _ _ _ _ _ _ _ (c .before .before .before .before .before .before .before .before .before .before .before .before .before .before .put-contents .result) (c .before .before .before .before .before .before .before .before .before .before .before .before .before .before .put-contents .ensures) _ (c .before .before .before .before .before .before .before .before .before .before .put .given .1) _ (c .before .before .before .version .ensures) _ _ (c .before .before .before .before .before .before .before .put-number .ensures) (c .before .before .put-number2 .ensures))  -- returns
     (λ c. search needs)  -- same-length-2
-    (λ c. message-wrong _ _ _ _ _ _ _ _ _ (c .before .before .before .before .before .put-contents .result) (c .before .before .before .before .before .put-contents .ensures) _ _ (c .before .put2 .given .1)))  -- returns-2
+    (λ c. message-wrong _ _ _ _ _ _ _ _ _ _ (c .before .before .before .before .before .put-contents .result) (c .before .before .before .before .before .put-contents .ensures) _ _ (c .before .put2 .given .1)))  -- returns-2

@@ -8,10 +8,10 @@ use Rattle.writer.proofs.message.put_slices.Statement.{statement}
 use Rattle.writer.proofs.message.put_slices.Tie as tie
 
 abbrev Inv-loop : tie.InvT-loop
-Inv-loop table begin shapes out₀ start t judged count rows buffer at₀ o₀ i₀ out at o i = (length out ≡ length out₀) × Slicing table rows buffer judged count t start out₀ at o i out
+Inv-loop table begin shapes out₀ start t old judged count rows buffer at₀ o₀ i₀ out at o i = (length out ≡ length out₀) × Slicing table old rows buffer judged count t start out₀ at o i out
 
 abbrev μ-loop : tie.MeasureT-loop
-μ-loop table begin shapes out₀ start t judged count rows buffer at₀ o₀ i₀ out at o i = o
+μ-loop table begin shapes out₀ start t old judged count rows buffer at₀ o₀ i₀ out at o i = o
 
 pub put-slices-spec : {M : Type 1} → statement M
 put-slices-spec =
@@ -23,11 +23,11 @@ put-slices-spec =
     (λ c κs. search needs)  -- base-requires
     (λ c κs. (c .before .before .before .before .before .before .before .pre .0, (c .before .before .before .before .before .before .before .pre .1 .0, (omega (arith, (c .before .before .loop .inv .1 .few), (c .before .before .loop .inv .1 .within), (c .before .before .loop .inv .1 .below)), (c .before .before .loop .inv .1 .within), omega arith, omega arith))))  -- put-slice-requires
     (λ c. search needs)  -- same-length
-    (λ c. slicing-wrong _ _ _ _ _ _ _ _ _ _ _ _ (c .before .before .before .before .before .before .before .loop .inv .1) _ (c .before .before .before .before .before .before .base .ensures .0) _ _ (c .before .before .before .before .put-slice .ensures) (c .if1 .taken))  -- returns
+    (λ c. slicing-wrong _ _ _ _ _ _ _ _ _ _ _ _ _ (c .before .before .before .before .before .before .before .loop .inv .1) _ (c .before .before .before .before .before .before .base .ensures .0) _ _ (c .before .before .before .before .put-slice .ensures) (c .if1 .taken))  -- returns
     (λ c. search needs)  -- same-length-2
-    (λ c. slicing-over _ _ _ _ _ _ _ _ _ _ _ _ (c .before .before .before .before .before .before .before .before .before .before .loop .inv .1) _ (c .before .before .before .before .before .before .before .before .before .base .ensures .0) _ _ (c .before .before .before .before .before .before .before .put-slice .ensures) (c .before .before .before .if1 .left) (c .before .before .if2 .taken) (c .if3 .taken))  -- returns-2
+    (λ c. slicing-over _ _ _ _ _ _ _ _ _ _ _ _ _ (c .before .before .before .before .before .before .before .before .before .before .loop .inv .1) _ (c .before .before .before .before .before .before .before .before .before .base .ensures .0) _ _ (c .before .before .before .before .before .before .before .put-slice .ensures) (c .before .before .before .if1 .left) (c .before .before .if2 .taken) (c .if3 .taken))  -- returns-2
     (λ c. search needs)  -- same-length-3
-    (λ c. slicing-end _ _ _ _ _ _ _ _ _ _ _ _ (c .before .before .before .before .before .before .before .before .before .before .loop .inv .1) _ (c .before .before .before .before .before .before .before .before .before .base .ensures .0) _ _ (c .before .before .before .before .before .before .before .put-slice .ensures) (c .before .before .before .if1 .left) (c .before .before .if2 .taken) (c .if3 .left))  -- returns-3
+    (λ c. slicing-end _ _ _ _ _ _ _ _ _ _ _ _ _ (c .before .before .before .before .before .before .before .before .before .before .loop .inv .1) _ (c .before .before .before .before .before .before .before .before .before .base .ensures .0) _ _ (c .before .before .before .before .before .before .before .put-slice .ensures) (c .before .before .before .if1 .left) (c .before .before .if2 .taken) (c .if3 .left))  -- returns-3
     (λ c. omega arith)  -- sub-o
     (λ c. omega arith)  -- loop-less
-    (λ c. (search needs, slicing-next _ _ _ _ _ _ _ _ _ _ _ _ (c .before .before .before .before .before .before .before .before .loop .inv .1) _ (c .before .before .before .before .before .before .before .base .ensures .0) _ _ (c .before .before .before .before .before .put-slice .ensures) (c .before .if1 .left) (c .if2 .left) (c .before .before .before .before .before .before .before .base .ensures .1))))  -- loop-again
+    (λ c. (search needs, slicing-next _ _ _ _ _ _ _ _ _ _ _ _ _ (c .before .before .before .before .before .before .before .before .loop .inv .1) _ (c .before .before .before .before .before .before .before .base .ensures .0) _ _ (c .before .before .before .before .before .put-slice .ensures) (c .before .if1 .left) (c .if2 .left) (c .before .before .before .before .before .before .before .base .ensures .1))))  -- loop-again

@@ -11,10 +11,10 @@ put-data-spec =
     (tie.spec
     (λ c κs. search needs)  -- put-rows-requires
     (λ c. search needs)  -- same-length
-    (λ c. still-wrong _ _ _ _ _ _ _ _ _ _ (c .before .before .before .before .put-rows .ensures) (c .if1 .taken))  -- returns
+    (λ c. still-wrong _ _ _ _ _ _ _ _ _ _ _ (c .before .before .before .before .put-rows .ensures) (c .if1 .taken))  -- returns
     (λ c κs. search needs)  -- put-number-requires
     (λ c. omega (arith, c .before .before .before .before .before .before .before .before .before .before .put-rows .ensures .right (c .before .before .before .before .before .before .if1 .left) .few, c .before .before .before .before .before .before .before .before .before .before .put-rows .ensures .right (c .before .before .before .before .before .before .if1 .left) .within))  -- add-t17
     (λ c. search needs)  -- same-length-2
-    (λ c. data-marked _ _ _ _ _ _ _ _ _ _ _ (c .before .before .before .before .before .before .before .before .before .before .put-rows .ensures) (c .before .before .before .before .before .before .if1 .left) (c .before .before .before .before .before .if2 .taken) _ (c .before .before .before .put-number .ensures))  -- returns-2
+    (λ c. data-marked _ _ _ _ _ _ _ _ _ _ _ _ (c .before .before .before .before .before .before .before .before .before .before .put-rows .ensures) (c .before .before .before .before .before .before .if1 .left) (c .before .before .before .before .before .if2 .taken) _ (c .before .before .before .put-number .ensures))  -- returns-2
     (λ c. search needs)  -- same-length-3
-    (λ c. data-plain _ _ _ _ _ _ _ _ _ _ _ (c .before .before .before .before .before .put-rows .ensures) (c .before .if1 .left) (c .if2 .left)))  -- returns-3
+    (λ c. data-plain _ _ _ _ _ _ _ _ _ _ _ _ (c .before .before .before .before .before .put-rows .ensures) (c .before .if1 .left) (c .if2 .left)))  -- returns-3

@@ -1,4 +1,4 @@
--- Flags, type ID and size, one after another. Assumes nothing.
+-- Flags, then type ID and size. Assumes nothing.
 use borrow.Author.Needs.{needs}
 use Rattle.writer.proofs.Fronts.{front-put}
 use Rattle.writer.proofs.slice.put_front.Statement.{statement}
@@ -10,10 +10,7 @@ put-front-spec =
     (tie.spec
     (λ c κs. search needs)  -- slice-flags-requires
     (λ c κs. search needs)  -- put-number-requires
-    (λ c. search needs)  -- add-put-id
-    (λ c κs. search needs)  -- put-id-requires
-    (λ c. search needs)  -- add-put-number
-    (λ c κs. search needs)  -- put-number-requires-2
-    (λ c. search needs)  -- add-result
+    (λ c. search needs)  -- add-put-pair
+    (λ c κs. search needs)  -- put-pair-requires
     (λ c. search needs)  -- same-length
     (λ c. (search front-put, search needs)))  -- returns

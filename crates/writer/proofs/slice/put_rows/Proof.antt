@@ -9,10 +9,10 @@ use Rattle.writer.proofs.slice.put_rows.Statement.{statement}
 use Rattle.writer.proofs.slice.put_rows.Tie as tie
 
 abbrev Inv-loop : tie.InvT-loop
-Inv-loop table begin shapes out₀ start o first judged count rows buffer from₀ at₀ i₀ optionals₀ out from at i optionals = (length out ≡ length out₀) × Grouping table rows buffer judged count o first start out₀ from at i optionals out
+Inv-loop table begin shapes out₀ start o first old judged count rows buffer from₀ at₀ i₀ optionals₀ out from at i optionals = (length out ≡ length out₀) × Grouping table old rows buffer judged count o first start out₀ from at i optionals out
 
 abbrev μ-loop : tie.MeasureT-loop
-μ-loop table begin shapes out₀ start o first judged count rows buffer from₀ at₀ i₀ optionals₀ out from at i optionals = count - i
+μ-loop table begin shapes out₀ start o first old judged count rows buffer from₀ at₀ i₀ optionals₀ out from at i optionals = count - i
 
 pub put-rows-spec : {M : Type 1} → statement M
 put-rows-spec =

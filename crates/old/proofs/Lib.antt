@@ -1,0 +1,2 @@
+-- The laws that the proofs of `old` share.
+pub mod Laws
