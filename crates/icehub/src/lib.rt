@@ -1,5 +1,8 @@
 // The calls of the firmware in C, with numbers and byte slices only: 0 or the refusal number comes back, place and other numbers by further calls on the same input.
+// nights.rt has the calls for many messages in one buffer.
 // `room` is the length in bytes of the lent list or output, so that a further call judges what the first one judged.
+pub mod nights;
+
 ghost use mathlib.Core.Path.{_≡_};
 ghost use lib.ListN.{length, getD};
 ghost use Rattle.encoding.specs.Table.{verdictNumbers};

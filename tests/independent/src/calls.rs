@@ -1,6 +1,7 @@
 //! Calls and their answers, as the recorded calls have them: one JSON object a line.
 
 use crate::json::{hex, Json};
+use crate::night::{Night, Walked};
 use crate::{check, member, read, write, Reading, Refusal};
 
 #[derive(Clone, Debug)]
@@ -32,6 +33,7 @@ pub enum Call {
         member: u32,
         fallback: Vec<u8>,
     },
+    Night(Night),
 }
 
 #[derive(Clone, Debug, PartialEq)]
@@ -53,6 +55,7 @@ pub enum Answer {
         from: &'static str,
         bytes: Vec<u8>,
     },
+    Night(Walked),
     /// A lent byte was touched that should have stayed, or more is claimed than was lent.
     Astray,
 }
@@ -67,6 +70,7 @@ impl Call {
             Call::Check { table } | Call::Read { table, .. } | Call::Write { table, .. } | Call::View { table, .. } => {
                 table
             }
+            Call::Night(night) => &night.table,
         }
     }
 
@@ -99,6 +103,7 @@ impl Call {
                 };
                 Answer::View { from, bytes: bytes.to_vec() }
             }
+            Call::Night(night) => night.answer().map_or(Answer::Astray, Answer::Night),
         }
     }
 
@@ -153,6 +158,7 @@ impl Call {
                 let (message, fallback) = (call.bytes("msg")?, call.bytes("fallback")?);
                 (Call::View { table, top, message, member, fallback }, Answer::View { from, bytes })
             }
+            "night" => (Call::Night(Night::parse(&call)?), Answer::Night(Walked::parse(expect)?)),
             _ => return None,
         })
     }
@@ -176,6 +182,7 @@ impl Call {
                 hex(message),
                 hex(fallback)
             ),
+            Call::Night(night) => night.json(),
         };
         format!(r#"{{{fields},"expect":{}}}"#, expect.json())
     }
@@ -209,7 +216,7 @@ impl Answer {
     pub fn refusal(&self) -> u32 {
         match self {
             Answer::Check { refusal } | Answer::Read { refusal, .. } | Answer::Write { refusal, .. } => refusal.0,
-            Answer::View { .. } | Answer::Astray => 0,
+            Answer::View { .. } | Answer::Night(_) | Answer::Astray => 0,
         }
     }
 
@@ -231,6 +238,7 @@ impl Answer {
                 format!(r#"{{"no":{no},"place":{place},"out":"{}"}}"#, hex(out))
             }
             Answer::View { from, bytes } => format!(r#"{{"from":"{from}","bytes":"{}"}}"#, hex(bytes)),
+            Answer::Night(walked) => walked.json(),
             Answer::Astray => r#"{"astray":1}"#.to_string(),
         }
     }
