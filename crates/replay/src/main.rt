@@ -6,7 +6,9 @@
 //   3  a call of the writer: type, format, count, length of the rows, bytes of the output; the bytes are rows and buffer
 //   4  a call of the reader with eight row records: top; the bytes are the message
 //   5  a check of the table: no bytes
-// print.rt prints, reads.rt, writes.rt, records.rt and tables.rt make the calls.
+//   9  a call for many messages: top, bytes of the list of answers, bytes of the list of rows; the bytes are the buffer
+// print.rt prints, reads.rt, writes.rt, records.rt, tables.rt and nights.rt make the calls.
+mod nights;
 mod print;
 mod reads;
 mod records;
@@ -83,6 +85,19 @@ fn call<'a, 't>(head: &[u8; 28], table: &'t [u8], input: &'a [u8], lent: &mut [u
     }
     if kind == 4 {
         records::records_call(table, field(head, 8), input);
+        return;
+    }
+    if kind == 9 {
+        let room = wire::int_at(head, 12);
+        if room <= lent.len() {
+            nights::night_call(
+                table,
+                field(head, 8),
+                input,
+                &mut lent[0..room],
+                wire::int_at(head, 16),
+            );
+        }
         return;
     }
     tables::check_call(table);

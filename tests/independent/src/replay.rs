@@ -69,6 +69,9 @@ impl<'a> Records<'a> {
 /// The bytes of eight rows.
 pub const RECORDS: usize = 96;
 
+/// The most bytes of a list that the program lends.
+pub const MOST_LENT: usize = 65_536;
+
 /// The calls of crates/replay; none if its file is cut off or has a record of another kind.
 pub fn calls(stdin: &[u8]) -> Option<Vec<Recorded>> {
     let (mut records, mut calls, mut table) = (Records(stdin), vec![], vec![]);

@@ -1,7 +1,8 @@
 //! record DIRECTORY REPLAY: puts the recorded calls of a directory into the gate: the files `stdin` and `stdout` of REPLAY,
 //! which is crates/replay. First come the checks, the readings, some of these once more with row records, the views and
 //! the writings of the directory's *.jsonl; then, as they are now, the cases of document 01 and the largest tables, which
-//! REPLAY has after its last writing. Stops where this implementation answers otherwise than recorded.
+//! REPLAY has after its last writing. Of a directory of a request that adds calls (night.jsonl) those replace the calls of
+//! their kind, and all others stay. Stops where this implementation answers otherwise than recorded.
 
 use independent::calls::{Answer, Call};
 use independent::replay::{self, Recorded};
@@ -17,6 +18,9 @@ fn main() {
     let [directory, replay] = &words[..] else { stop("record DIRECTORY REPLAY") };
     let (directory, replay) = (Path::new(directory), Path::new(replay));
 
+    if directory.join("night.jsonl").exists() {
+        return add_nights(directory, replay);
+    }
     let mut calls = vec![];
     for name in ["check", "read", "view", "write"] {
         let made = recorded(&directory.join(name).with_extension("jsonl"));
@@ -44,6 +48,34 @@ fn main() {
         calls.len(),
         calls.iter().filter(|call| call.is_of_records).count()
     );
+    write(&replay.join("stdin"), &replay::stdin(&calls));
+    write(&replay.join("stdout"), lines.as_bytes());
+}
+
+/// Puts the recorded nights at the end of the gate's calls, in place of those that are there. Left out are nights with a
+/// message of encoding 1.0, which are recorded for a library that reads it, and lists that are longer than the program's.
+fn add_nights(directory: &Path, replay: &Path) {
+    let Some(mut calls) = replay::calls(&read(&replay.join("stdin"))) else { stop("REPLAY has no recorded calls") };
+    calls.retain(|recorded| !matches!(recorded.call, Call::Night(_)));
+    let mut left_out = 0;
+    for file in ["night.jsonl", "oversized.jsonl"] {
+        let text = String::from_utf8_lossy(&read(&directory.join(file))).into_owned();
+        for line in text.lines() {
+            let Some((Call::Night(night), expected)) = Call::parse(line) else { stop(&format!("no night: {line}")) };
+            if night.has_1_0() || night.answers.max(night.rows) > replay::MOST_LENT {
+                left_out += 1;
+                continue;
+            }
+            let call = Call::Night(night);
+            if call.answer() != expected {
+                stop(&format!("{file}: {} is not {line}", call.answer().json()));
+            }
+            calls.push(call.into());
+        }
+    }
+    let lines: String = calls.iter().map(|recorded| recorded.line(&recorded.call.answer()) + "\n").collect();
+    let nights = calls.iter().filter(|recorded| matches!(recorded.call, Call::Night(_))).count();
+    println!("{} calls in all, {nights} nights, {left_out} left out", calls.len());
     write(&replay.join("stdin"), &replay::stdin(&calls));
     write(&replay.join("stdout"), lines.as_bytes());
 }
