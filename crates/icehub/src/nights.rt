@@ -21,17 +21,17 @@ pub extern "C" fn icehub_night(
     w.answers
 }
 
-// The place of what stopped the walk, or the buffer's length. It hangs on the buffer and on the room for answers alone; the other arguments are those of `icehub_night`.
+// The place of what stopped the walk, or the buffer's length. It hangs on the buffer and on the room for answers alone; the other arguments are those of `icehub_night`; `space` and `room` are the lengths of its lists in bytes.
 // Wrong and ruled out: the number of answers in its place; a place that is the same for every room.
 #[no_mangle]
 pub extern "C" fn icehub_night_place(
     table: &[u8],
     top: u32,
     buffer: &[u8],
-    answers_length: usize,
-    rows_length: usize,
+    space: usize,
+    room: usize,
 ) -> usize
-    ensures { λ r. ⌜ r ≡ night (now (table .entry)) top (now (buffer .entry)) answers_length rows_length .place ⌝ }
+    ensures { λ r. ⌜ r ≡ night (now (table .entry)) top (now (buffer .entry)) space room .place ⌝ }
 {
-    night::place(buffer, answers_length)
+    night::place(buffer, space)
 }
