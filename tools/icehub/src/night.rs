@@ -24,7 +24,7 @@ const ANSWERS: usize = 256;
 pub fn run(request: &Request, out: &mut impl Write, status: &mut Status) -> io::Result<()> {
     let found = request.table.bytes(MOST_BYTES).and_then(|table| {
         let top = top_row(&request.top, &table)?;
-        Ok((top, table, request.file.bytes(usize::MAX)?))
+        Ok((top, table, request.file.all_bytes()?))
     });
     let (top, table, buffer) = match found {
         Ok(found) => found,
