@@ -8,9 +8,9 @@
  *
  * What a caller owes:
  *   - Bytes are lent as a pointer and a length in bytes. The pointer is not NULL, also where the length is 0,
- *     and that many bytes from it on may be read; those of `rows` of the reader, `numbers` and `out` may be
+ *     and that many bytes from it on may be read; those of `rows` of the reader, `answers`, `numbers` and `out` may be
  *     written too.
- *   - Lent output (`rows` of the reader, `numbers`, `out`) overlaps nothing else that is lent to the same call.
+ *   - Lent output (`rows` of the reader, `answers`, `numbers`, `out`) overlaps nothing else that is lent to the same call.
  *     Inputs may overlap each other.
  *   - Nobody else changes lent bytes, or reads lent output, until the call returns.
  *
@@ -42,6 +42,7 @@ enum {
     ICEHUB_ROW_SIZE = 12,      /* bytes of one row */
     ICEHUB_NUMBERS_SIZE = 20,  /* bytes of the numbers of icehub_read_numbers */
     ICEHUB_VIEW_SIZE = 12,     /* bytes of the numbers of icehub_member */
+    ICEHUB_ANSWER_SIZE = 28,   /* bytes of one answer of icehub_night */
     ICEHUB_MOST_ROWS = 1024,   /* no message has more rows */
     ICEHUB_MOST_BYTES = 65536  /* no message is longer, and no buffer of the writer */
 };
@@ -316,6 +317,34 @@ uint32_t icehub_convert_place(const uint8_t *table, size_t table_len, uint32_t t
 uint32_t icehub_convert_length(const uint8_t *table, size_t table_len, uint32_t top, const uint8_t *message,
                                size_t message_len, size_t out_len);
 
+/* ---- Many messages in one buffer ----
+ *
+ *   table, table_len      the type table; it is checked once for the whole buffer
+ *   top                   the number of the wanted type's row
+ *   buffer, buffer_len    messages, back to back; any length
+ *   answers, answers_len  the list of answers: answers_len / ICEHUB_ANSWER_SIZE have room
+ *   rows, rows_len        the rows of all messages: rows_len / ICEHUB_ROW_SIZE have room
+ */
+
+/* Reads the messages of a buffer, one after another, each as icehub_read does with the room that is left in `rows`. Returns
+ * the number of answers, which are at the start of `answers`. Each is seven numbers of 32 bits, little-endian: the refusal
+ * or ICEHUB_OK, its place, then the first known type, the format, the number of rows, the optionals and the slices skipped
+ * (icehub_number reads one). A refusal's place and the places of rows count from the message's own first byte. The rows of
+ * the messages follow each other at the start of `rows`. Bytes after the answers and after the rows are unchanged.
+ *
+ * A refused message has no rows, and the walk goes on after it; ICEHUB_LIST_TOO_SHORT is the answer of that message alone.
+ * The walk stops where nothing is left, where `answers` is full, and where fewer than four bytes are left or a size is under
+ * 6, negative, above ICEHUB_MOST_BYTES or past the end of the buffer. What stops it has the last answer: the refusal of all
+ * bytes that remain, or ICEHUB_INPUT_TOO_LONG for a size above the limit. Under a table that breaks a rule, or with a wrong
+ * top, that is the answer of every message. */
+size_t icehub_night(const uint8_t *table, size_t table_len, uint32_t top, const uint8_t *buffer, size_t buffer_len,
+                    uint8_t *answers, size_t answers_len, uint8_t *rows, size_t rows_len);
+
+/* The place of what stopped the walk, in the buffer: of the last answer if that is the one that stopped it, of the first
+ * message without an answer if `answers` is full; else buffer_len. Messages are not read for it, only their sizes. */
+size_t icehub_night_place(const uint8_t *table, size_t table_len, uint32_t top, const uint8_t *buffer,
+                          size_t buffer_len, size_t answers_len, size_t rows_len);
+
 /* ---- Rows, numbers and refusals, for C callers ----
  *
  * These functions are C, compiled with the caller: no proof is about them, and they call nothing. They check no length:
@@ -348,7 +377,7 @@ static inline int16_t icehub_i16(const uint8_t *bytes) { return (int16_t)icehub_
 static inline int32_t icehub_i32(const uint8_t *bytes) { return (int32_t)icehub_signed(bytes, 4); }
 static inline int64_t icehub_i64(const uint8_t *bytes) { return icehub_signed(bytes, 8); }
 
-/* Number i of the numbers of icehub_read_numbers or icehub_member. */
+/* Number i of the numbers of icehub_read_numbers or icehub_member, or of an answer of icehub_night. */
 static inline uint32_t icehub_number(const uint8_t *numbers, size_t i)
 {
     return (uint32_t)icehub_unsigned(numbers + 4 * i, 4);

@@ -18,7 +18,7 @@
 enum { LENT = 0xAA, MOST_LINE = 1 << 20, MOST_INPUT = 1 << 18 };
 
 /* The kinds of records, and how many numbers begin one. */
-enum { TABLE, READ, VIEW, WRITE, RECORDS, CHECK, CONVERT, KINDS, HEAD = 7 };
+enum { TABLE, READ, VIEW, WRITE, RECORDS, CHECK, CONVERT, NIGHT = 9, KINDS, HEAD = 7 };
 
 static uint8_t table[ICEHUB_MOST_BYTES], input[MOST_INPUT], rows[ICEHUB_MOST_BYTES], again[ICEHUB_MOST_BYTES],
     out[ICEHUB_MOST_BYTES];
@@ -278,6 +278,43 @@ static void check_call(void)
     put("%" PRIu32 " %" PRIu32 "%s", rule, icehub_table_place(table, table_len), rule == ICEHUB_OK ? " " : "");
 }
 
+/* Puts the numbers of so many bytes. */
+static void put_numbers(const uint8_t *bytes, size_t count)
+{
+    size_t i;
+    for (i = 0; i < count / 4; i++) {
+        put("%" PRIu32 " ", icehub_number(bytes, i));
+    }
+}
+
+static void night_call(uint32_t top, const uint8_t *buffer, size_t buffer_len, size_t answers_len, size_t rows_len)
+{
+    size_t count, i, given = 0;
+    memset(out, LENT, answers_len);
+    memset(rows, LENT, rows_len);
+    count = icehub_night(table, table_len, top, buffer, buffer_len, out, answers_len, rows, rows_len);
+    put("%zu %zu ", count, icehub_night_place(table, table_len, top, buffer, buffer_len, answers_len, rows_len));
+    if (count > answers_len / ICEHUB_ANSWER_SIZE) {
+        put("more answers than room");
+        return;
+    }
+    for (i = 0; i < count; i++) {
+        given += ICEHUB_ROW_SIZE * (size_t)icehub_number(out + ICEHUB_ANSWER_SIZE * i, 4);
+    }
+    if (given > rows_len) {
+        put("more rows than room");
+        return;
+    }
+    put_numbers(out, ICEHUB_ANSWER_SIZE * count);
+    if (!is_kept(out + ICEHUB_ANSWER_SIZE * count, answers_len - ICEHUB_ANSWER_SIZE * count)) {
+        put("touched ");
+    }
+    put_numbers(rows, given);
+    if (!is_kept(rows + given, rows_len - given)) {
+        put("touched ");
+    }
+}
+
 static void replay(FILE *calls, FILE *answers)
 {
     uint8_t head[4 * HEAD];
@@ -321,6 +358,12 @@ static void replay(FILE *calls, FILE *answers)
             }
             convert_call(n[2], input, length, n[3]);
             break;
+        case NIGHT:
+            if (n[3] > sizeof out || n[4] > sizeof rows) {
+                stop("a list is too long");
+            }
+            night_call(n[2], input, length, n[3], n[4]);
+            break;
         default: stop("a record of an unknown kind");
         }
         compare(answers, n[0]);
@@ -343,8 +386,8 @@ int main(int argc, char **argv)
         stop("more answers than calls");
     }
     printf("%lu of %lu recorded calls agree: %lu readings, %lu writings, %lu views, %lu row records, %lu tables, "
-           "%lu conversions\n",
+           "%lu conversions, %lu nights\n",
            lines - differed, lines, agreed[READ], agreed[WRITE], agreed[VIEW], agreed[RECORDS], agreed[CHECK],
-           agreed[CONVERT]);
+           agreed[CONVERT], agreed[NIGHT]);
     return differed > 0 || lines == 0;
 }

@@ -217,3 +217,50 @@ numbers! {
         write_length = icehub_write_length;
     }
 }
+
+extern "C" {
+    fn icehub_night(
+        table: *const u8,
+        table_len: usize,
+        top: u32,
+        buffer: *const u8,
+        buffer_len: usize,
+        answers: *mut u8,
+        answers_len: usize,
+        rows: *mut u8,
+        rows_len: usize,
+    ) -> usize;
+    fn icehub_night_place(
+        table: *const u8,
+        table_len: usize,
+        top: u32,
+        buffer: *const u8,
+        buffer_len: usize,
+        answers_len: usize,
+        rows_len: usize,
+    ) -> usize;
+}
+
+/// Reads the messages of a buffer: the number of answers, which are in `answers`; their rows are in `rows`.
+pub fn night(table: &[u8], top: u32, buffer: &[u8], answers: &mut [u8], rows: &mut [u8]) -> usize {
+    // SAFETY: each pointer comes with the length of its slice; only `answers` and `rows` are written.
+    unsafe {
+        icehub_night(
+            table.as_ptr(),
+            table.len(),
+            top,
+            buffer.as_ptr(),
+            buffer.len(),
+            answers.as_mut_ptr(),
+            answers.len(),
+            rows.as_mut_ptr(),
+            rows.len(),
+        )
+    }
+}
+
+/// The place of what stopped the walk over a buffer, or its length.
+pub fn night_place(table: &[u8], top: u32, buffer: &[u8], answers: usize, rows: usize) -> usize {
+    // SAFETY: as above; nothing is written.
+    unsafe { icehub_night_place(table.as_ptr(), table.len(), top, buffer.as_ptr(), buffer.len(), answers, rows) }
+}

@@ -34,11 +34,13 @@
 mod convert;
 #[allow(unsafe_code)]
 mod ffi;
+mod night;
 mod refusal;
 mod table;
 mod value;
 
 pub use convert::convert;
+pub use night::{night, Answer, Answers, Night, ANSWER_SIZE};
 pub use refusal::{Reason, Refusal};
 pub use table::{Allowed, Enumerators, Kind, MemberRow, Table, TypeRow};
 pub use value::{Elements, Endpoint, Endpoints, Entries, Fields, Proxy, Value};

@@ -1,6 +1,8 @@
 // The public calls, for the layers above: what document 01 says under "What a call gives". No call asks anything of its input.
 pub use convert::convert;
 pub use convert::converted;
+pub use night::night;
+pub use night::place;
 pub use reading::answer;
 pub use reading::read;
 pub use reading::read_numbers;

@@ -7,8 +7,10 @@
 //   4  a call of the reader with eight row records: top; the bytes are the message
 //   5  a check of the table: no bytes
 //   6  a call of the converter: top, bytes of the output; the bytes are the message
-// print.rt prints, reads.rt, writes.rt, records.rt, tables.rt and conversions.rt make the calls.
+//   9  a call for many messages: top, bytes of the list of answers, bytes of the list of rows; the bytes are the buffer
+// print.rt prints, reads.rt, writes.rt, records.rt, tables.rt, conversions.rt and nights.rt make the calls.
 mod conversions;
+mod nights;
 mod print;
 mod reads;
 mod records;
@@ -91,6 +93,19 @@ fn call<'a, 't>(head: &[u8; 28], table: &'t [u8], input: &'a [u8], lent: &mut [u
         let room = wire::int_at(head, 12);
         if room <= lent.len() {
             conversions::convert_call(table, field(head, 8), input, &mut lent[0..room]);
+        }
+        return;
+    }
+    if kind == 9 {
+        let room = wire::int_at(head, 12);
+        if room <= lent.len() {
+            nights::night_call(
+                table,
+                field(head, 8),
+                input,
+                &mut lent[0..room],
+                wire::int_at(head, 16),
+            );
         }
         return;
     }

@@ -1,6 +1,7 @@
 //! Calls and their answers, as the recorded calls have them: one JSON object a line.
 
 use crate::json::{hex, Json};
+use crate::night::{Night, Walked};
 use crate::{check, convert, member, read, write, Reading, Refusal};
 
 #[derive(Clone, Debug)]
@@ -39,6 +40,7 @@ pub enum Call {
         message: Vec<u8>,
         room: usize,
     },
+    Night(Night),
 }
 
 #[derive(Clone, Debug, PartialEq)]
@@ -61,6 +63,7 @@ pub enum Answer {
         from: &'static str,
         bytes: Vec<u8>,
     },
+    Night(Walked),
     /// A lent byte was touched that should have stayed, or more is claimed than was lent.
     Astray,
 }
@@ -77,6 +80,7 @@ impl Call {
             | Call::Write { table, .. }
             | Call::View { table, .. }
             | Call::Convert { table, .. } => table,
+            Call::Night(night) => &night.table,
         }
     }
 
@@ -114,6 +118,7 @@ impl Call {
                 let result = convert(table, *top, message, &mut out);
                 Answer::of_write(result.err().unwrap_or_default(), result.unwrap_or_default(), &out)
             }
+            Call::Night(night) => night.answer().map_or(Answer::Astray, Answer::Night),
         }
     }
 
@@ -184,6 +189,7 @@ impl Call {
                 let call = Call::Convert { table, top, message: call.bytes("msg")?, room };
                 (call, Answer::Write { refusal: refusal()?, out })
             }
+            "night" => (Call::Night(Night::parse(&call)?), Answer::Night(Walked::parse(expect)?)),
             _ => return None,
         })
     }
@@ -210,6 +216,7 @@ impl Call {
             Call::Convert { table, top, message, room } => {
                 format!(r#""op":"convert","table":"{}","top":{top},"msg":"{}","room":{room}"#, hex(table), hex(message))
             }
+            Call::Night(night) => night.json(),
         };
         format!(r#"{{{fields},"expect":{}}}"#, expect.json())
     }
@@ -243,7 +250,7 @@ impl Answer {
     pub fn refusal(&self) -> u32 {
         match self {
             Answer::Check { refusal } | Answer::Read { refusal, .. } | Answer::Write { refusal, .. } => refusal.0,
-            Answer::View { .. } | Answer::Astray => 0,
+            Answer::View { .. } | Answer::Night(_) | Answer::Astray => 0,
         }
     }
 
@@ -265,6 +272,7 @@ impl Answer {
                 format!(r#"{{"no":{no},"place":{place},"out":"{}"}}"#, hex(out))
             }
             Answer::View { from, bytes } => format!(r#"{{"from":"{from}","bytes":"{}"}}"#, hex(bytes)),
+            Answer::Night(walked) => walked.json(),
             Answer::Astray => r#"{"astray":1}"#.to_string(),
         }
     }

@@ -1,6 +1,8 @@
 //! The proved library over C (libicehub.a): a slice is its pointer, then its length; 0 or the refusal number comes
 //! back, the place and the other numbers by further calls on the same input.
 
+pub mod night;
+
 use crate::calls::{Answer, Call, LENT};
 use crate::Reading;
 use std::hint::black_box;
@@ -312,6 +314,15 @@ pub fn each(call: &Call, mut run: impl FnMut(&'static str, &mut dyn FnMut())) {
                 black_box(unsafe { icehub_table_place(table.as_ptr(), table.len()) });
             });
         }
+        Call::Night(call) => {
+            let (mut answers, mut rows) = (vec![LENT; call.answers], vec![LENT; call.rows]);
+            run("icehub_night", &mut || {
+                black_box(night::night(&call.table, call.top, &call.buffer, &mut answers, &mut rows));
+            });
+            run("icehub_night_place", &mut || {
+                black_box(night::place(&call.table, call.top, &call.buffer, call.answers, call.rows));
+            });
+        }
         Call::View { .. } => {}
         Call::Convert { table, top, message, room } => {
             let mut lent = vec![LENT; *room];
@@ -381,5 +392,6 @@ pub fn answer(call: &Call) -> Option<Answer> {
                 unsafe { (icehub_table(table.as_ptr(), table.len()), icehub_table_place(table.as_ptr(), table.len())) };
             Some(Answer::Check { refusal })
         }
+        Call::Night(call) => Some(night::answer(call).map_or(Answer::Astray, Answer::Night)),
     }
 }

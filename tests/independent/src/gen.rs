@@ -3,10 +3,12 @@
 //! right and wrong rows for the writer.
 
 mod message;
+mod night;
 mod text;
 mod types;
 
 pub use message::{message, Message, Wrong};
+pub use night::night;
 pub use text::{Made, Text};
 pub use types::Types;
 

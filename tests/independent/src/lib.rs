@@ -4,6 +4,7 @@
 //! - [`read`]: the rows of a message, [`member`]: the bytes of one member.
 //! - [`write`]: a message from rows and the buffer they point into.
 //! - [`convert`]: the sliced form of a compact record.
+//! - [`night::night`]: the answers to the messages of a buffer.
 //!
 //! A refusal is its number and its place. No call panics on any input, and on a refusal every lent byte stays.
 
@@ -12,6 +13,7 @@ pub mod calls;
 pub mod ffi;
 pub mod gen;
 pub mod json;
+pub mod night;
 pub mod replay;
 pub mod spec;
 

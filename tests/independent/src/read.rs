@@ -74,7 +74,12 @@ pub fn member<'a>(table: &[u8], top: u32, message: &'a [u8], member: u32, fallba
 }
 
 /// Walks over a message and gives every row (member row, place, length) in message order.
-fn walk(table: &Table, top: u32, message: &[u8], give: impl FnMut(usize, usize, usize)) -> Result<Reading, Refusal> {
+pub(crate) fn walk(
+    table: &Table,
+    top: u32,
+    message: &[u8],
+    give: impl FnMut(usize, usize, usize),
+) -> Result<Reading, Refusal> {
     let top = table.wanted(top)?;
     if message.len() > MOST {
         return Err((3, 0));

@@ -2,6 +2,7 @@
 
 use crate::calls::{Answer, Call};
 use crate::json::hex;
+use crate::night::Night;
 use crate::{forms, write, Reading};
 
 /// A recorded call; one of the reader may be made with eight row records in place of the lent list.
@@ -56,6 +57,10 @@ impl<'a> Records<'a> {
             4 => Call::Read { table: held, top: a, message: bytes.to_vec(), room: RECORDS },
             5 => Call::Check { table: held },
             6 => Call::Convert { table: held, top: a, message: bytes.to_vec(), room: b as usize },
+            9 => {
+                let (answers, rows) = (b as usize, c as usize);
+                Call::Night(Night { table: held, top: a, buffer: bytes.to_vec(), answers, rows })
+            }
             _ => return None,
         };
         Some(Some(Recorded { call, is_of_records: kind == 4 }))
@@ -64,6 +69,9 @@ impl<'a> Records<'a> {
 
 /// The bytes of eight rows.
 pub const RECORDS: usize = 96;
+
+/// The most bytes of a list that the program lends.
+pub const MOST_LENT: usize = 65_536;
 
 /// The calls of crates/replay; none if its file is cut off or has a record of another kind.
 pub fn calls(stdin: &[u8]) -> Option<Vec<Recorded>> {
@@ -88,6 +96,9 @@ impl Recorded {
                 ([3, *of, *format, *count, rows.len() as u32, *room as u32], [&rows[..], buffer].concat())
             }
             Call::Convert { top, message, room, .. } => ([6, *top, *room as u32, 0, 0, 0], message.clone()),
+            Call::Night(Night { top, buffer, answers, rows, .. }) => {
+                ([9, *top, *answers as u32, *rows as u32, 0, 0], buffer.clone())
+            }
         };
         let [kind, a, b, c, d, e] = numbers;
         record(kind, [a, b, c, d, e], &bytes)
@@ -114,6 +125,7 @@ impl Recorded {
             }
             (_, Answer::View { bytes, .. }) => hex(bytes),
             (_, Answer::Write { refusal: (no, place), out }) => numbers(&[*no, *place, out.len() as u32]) + &hex(out),
+            (_, Answer::Night(walked)) => walked.line(),
             (_, Answer::Astray) => "touched".to_string(),
         }
     }

@@ -3,7 +3,7 @@
 use std::fs;
 use std::path::{Path, PathBuf};
 
-const PAGES: [&str; 13] = [
+const PAGES: &[&str] = &[
     "README.md",
     "docs/DECISIONS.md",
     "docs/PROVING.md",
@@ -13,7 +13,10 @@ const PAGES: [&str; 13] = [
     "docs/changes/M-100.md",
     "docs/changes/M-101.md",
     "docs/changes/M-102.md",
+    "docs/changes/M-103.md",
+    "docs/changes/M-111.md",
     "docs/changes/M-104.md",
+    "docs/changes/M-107.md",
     "samples/README.md",
     "bindings/rust/README.md",
     "tests/independent/README.md",

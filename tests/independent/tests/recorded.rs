@@ -12,7 +12,7 @@ const ANSWERS: &str = include_str!("../recorded/M-111.answers");
 fn message(call: &Call) -> Option<&[u8]> {
     match call {
         Call::Read { message, .. } | Call::View { message, .. } | Call::Convert { message, .. } => Some(message),
-        Call::Check { .. } | Call::Write { .. } => None,
+        _ => None,
     }
 }
 

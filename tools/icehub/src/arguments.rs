@@ -1,7 +1,7 @@
 //! The command line, and the help.
 
 use crate::input::Source;
-use crate::{convert, show};
+use crate::{convert, night, show};
 use std::ffi::OsString;
 
 /// What is to be done.
@@ -12,6 +12,7 @@ pub enum Command {
     Show(show::Request),
     Table(Source),
     Convert(convert::Request),
+    Night(night::Request),
 }
 
 const HELP: &str = "\
@@ -20,6 +21,7 @@ icehub: shows messages of Ice encodings 1.1 and 1.0 by their type table
   icehub show [--json] [--hex] TABLE TOP FILE..   show messages, or why they are refused
   icehub table TABLE                              show a type table, or where it breaks a rule
   icehub convert TABLE TOP FILE.. --to DIR        convert compact records to sliced ones
+  icehub night [--json] TABLE TOP FILE            read a file of many messages, a line for each
   icehub --version                                print the version
   icehub --help, icehub COMMAND --help            print help
 
@@ -82,6 +84,31 @@ converted is written. A summary comes at the end.
 Exit status: 0 all records converted, 1 some refused, 2 something could not be done (arguments, files).
 ";
 
+const NIGHT_HELP: &str = "\
+icehub night [--json] TABLE TOP FILE
+
+Reads a file of many messages, back to back, as one call of the library reads a whole night. Each message has a line: its
+place in the file and its length, then that it is accepted with so many members, or its refusal. The walk goes on after a
+refused message. It stops where a size is under 6, above 65,536, cut off or past the end of the file; that has the last
+line. A summary comes at the end.
+
+  TABLE    the type table, a file
+  TOP      the wanted type: the number of its row, counted from 0, or the name of an exception or class
+  FILE     the messages; - is standard input
+  --json   one JSON object a line for each message; the summary goes to standard error
+  --       what follows is no option
+
+If it takes more than a second, a bar on standard error says how far it is, where that is a terminal and standard output is
+not.
+
+In JSON, place is the place of the message in the file, and at the place of its refusal, which counts from the message's
+own first byte.
+
+  icehub night --json report.table 3 night.bin | jq -c 'select(.accepted | not) | [.place, .refusal, .at]'
+
+Exit status: 0 all messages accepted, 1 some refused, 2 something could not be done (arguments, files).
+";
+
 /// The command of these words, or what is wrong with them.
 pub fn parse(words: impl IntoIterator<Item = OsString>) -> Result<Command, String> {
     let mut words = words.into_iter();
@@ -94,6 +121,7 @@ pub fn parse(words: impl IntoIterator<Item = OsString>) -> Result<Command, Strin
         Some("show") => parse_show(words),
         Some("table") => parse_table(words),
         Some("convert") => parse_convert(words),
+        Some("night") => parse_night(words),
         _ => Err(format!("{} is no command; see icehub --help", first.to_string_lossy())),
     }
 }
@@ -189,4 +217,22 @@ fn parse_table(words: impl Iterator<Item = OsString>) -> Result<Command, String>
         Ok([table]) => Ok(Command::Table(Source::new(table))),
         Err(_) => Err("table takes one TABLE; see icehub table --help".to_string()),
     }
+}
+
+fn parse_night(words: impl Iterator<Item = OsString>) -> Result<Command, String> {
+    let Some(Words { options, operands, .. }) = split(words, &["--json"], "night")? else {
+        return Ok(Command::Help(NIGHT_HELP));
+    };
+    let Ok([table, top, file]) = <[OsString; 3]>::try_from(operands) else {
+        return Err("night takes TABLE, TOP and one FILE; see icehub night --help".to_string());
+    };
+    let (table, file) = (Source::new(table), Source::new(file));
+    if table == Source::Standard && file == Source::Standard {
+        return Err("- is named twice: standard input can be read only once".to_string());
+    }
+    let top = match top.into_string() {
+        Ok(top) => top,
+        Err(top) => return Err(format!("TOP is no text: {}", top.to_string_lossy())),
+    };
+    Ok(Command::Night(night::Request { json: options.contains(&"--json"), table, top, file }))
 }

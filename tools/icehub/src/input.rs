@@ -44,9 +44,14 @@ impl Source {
         self.read(most as u64 + 1).map_err(|error| format!("cannot read {}: {error}", self.name()))
     }
 
+    /// All its bytes.
+    pub fn all_bytes(&self) -> Result<Vec<u8>, String> {
+        self.read(u64::MAX).map_err(|error| format!("cannot read {}: {error}", self.name()))
+    }
+
     /// The bytes of its hex text.
     pub fn hex_bytes(&self) -> Result<Vec<u8>, String> {
-        let text = self.read(u64::MAX).map_err(|error| format!("cannot read {}: {error}", self.name()))?;
+        let text = self.all_bytes()?;
         unhex(&text).map_err(|wrong| format!("{}: {wrong}", self.name()))
     }
 

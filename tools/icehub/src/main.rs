@@ -6,6 +6,7 @@
 //! - `input`: files, standard input, hex text
 //! - `show`: the command `show`, with its summary and progress line
 //! - `convert`: the command `convert`
+//! - `night`: the command `night`, for a file of many messages
 //! - `table`: the command `table`; `broken`: what is wrong with a table that breaks a rule
 //! - `accepted`, `refused`: a message for a person; `json`: a message as a line of JSON
 //! - `locate`: the slice and the member at a place of a refused message; `text`: the first bad byte of a string
@@ -18,6 +19,7 @@ mod convert;
 mod input;
 mod json;
 mod locate;
+mod night;
 mod refused;
 mod show;
 mod table;
@@ -77,6 +79,7 @@ fn run(out: &mut impl Write, status: &mut Status) -> io::Result<()> {
         Ok(Command::Show(request)) => show::run(&request, out, status),
         Ok(Command::Table(source)) => table::run(&source, out, status),
         Ok(Command::Convert(request)) => convert::run(&request, out, status),
+        Ok(Command::Night(request)) => night::run(&request, out, status),
         Err(wrong) => {
             tell(&wrong);
             status.raise(Status::Failed);

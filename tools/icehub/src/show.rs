@@ -127,21 +127,21 @@ pub fn top_row(top: &str, table: &[u8]) -> Result<u32, String> {
 
 /// What became of the messages so far.
 #[derive(Debug, Default)]
-struct Tally {
+pub struct Tally {
     accepted: usize,
     refused: BTreeMap<u32, usize>,
     unread: usize,
 }
 
 impl Tally {
-    fn count(&mut self, refusal: Option<&Refusal>) {
+    pub fn count(&mut self, refusal: Option<&Refusal>) {
         match refusal {
             None => self.accepted += 1,
             Some(refusal) => *self.refused.entry(refusal.number).or_default() += 1,
         }
     }
 
-    fn status(&self) -> Status {
+    pub fn status(&self) -> Status {
         match (self.unread, self.refused.is_empty()) {
             (0, true) => Status::Accepted,
             (0, false) => Status::Refused,
@@ -150,7 +150,7 @@ impl Tally {
     }
 
     /// `5 messages: 3 accepted, 2 refused (1 by 4, 1 by 12)`, and how many files could not be read.
-    fn summary(&self) -> String {
+    pub fn summary(&self) -> String {
         let refused: usize = self.refused.values().sum();
         let all = words::count(self.accepted + refused + self.unread, "message", "messages");
         let mut summary = format!("{all}: {} accepted, {refused} refused", self.accepted);
@@ -166,7 +166,7 @@ impl Tally {
 }
 
 /// A line on the terminal that says how far the work is, after the first second.
-struct Progress<W> {
+pub struct Progress<W> {
     out: W,
     is_shown: bool,
     start: Instant,
@@ -177,22 +177,27 @@ impl<W: Write> Progress<W> {
     const WAIT: Duration = Duration::from_secs(1);
     const PAUSE: Duration = Duration::from_millis(200);
 
-    fn new(out: W, is_shown: bool, start: Instant) -> Progress<W> {
+    pub fn new(out: W, is_shown: bool, start: Instant) -> Progress<W> {
         Progress { out, is_shown, start, last: None }
     }
 
     /// So many are done.
     fn tell(&mut self, done: usize, all: usize, now: Instant) {
+        self.tell_text(|| format!("{done} of {all} messages"), now);
+    }
+
+    /// Shows a text, where it is due.
+    pub fn tell_text(&mut self, text: impl FnOnce() -> String, now: Instant) {
         let is_due = self.last.is_none_or(|last| now - last >= Self::PAUSE);
         if self.is_shown && is_due && now - self.start >= Self::WAIT {
             self.last = Some(now);
             // If the terminal cannot be written to, the work goes on.
-            let _ = write!(self.out, "\r{done} of {all} messages").and_then(|()| self.out.flush());
+            let _ = write!(self.out, "\r{}", text()).and_then(|()| self.out.flush());
         }
     }
 
     /// Takes the line away.
-    fn clear(&mut self) {
+    pub fn clear(&mut self) {
         if self.last.take().is_some() {
             let _ = write!(self.out, "\r\x1B[K").and_then(|()| self.out.flush());
         }

@@ -4,6 +4,7 @@
 //! 20,000 elements against those of 20. Some ratios have a bar; one that is missed is told at the end, and the exit
 //! status is 1 then. With the argument `logs` only the sequences are timed.
 
+use independent::night::night;
 use independent::spec::Spec;
 use independent::{convert, ffi, read, write};
 use std::cell::RefCell;
@@ -29,6 +30,7 @@ const WRITTEN: f64 = 1.1;
 const BOOLS: f64 = 2.8;
 
 /// A table and a message under it, with the rows that the reader gives.
+#[derive(Clone)]
 struct Case {
     name: &'static str,
     table: Vec<u8>,
@@ -240,6 +242,55 @@ fn compact(message: &[u8]) -> Vec<u8> {
     compact
 }
 
+/// So many messages of a case, back to back.
+struct Night<'a> {
+    name: &'static str,
+    case: &'a Case,
+    buffer: Vec<u8>,
+    count: usize,
+}
+
+impl<'a> Night<'a> {
+    fn new(name: &'static str, case: &'a Case, count: usize) -> Night<'a> {
+        Night { name, case, buffer: case.message.repeat(count), count }
+    }
+
+    /// The lists that hold all answers and rows.
+    fn lists(&self) -> (Vec<u8>, Vec<u8>) {
+        (vec![0; 28 * self.count], vec![0; self.case.rows.len() * self.count])
+    }
+
+    fn run(&self) {
+        let Night { name, case: Case { table, top, .. }, buffer, count } = self;
+        let ((mut answers, mut rows), (mut other, mut other_rows)) = (self.lists(), self.lists());
+        report(
+            &format!("night of {name}"),
+            || ffi::night::night(black_box(table), *top, black_box(buffer), &mut answers, &mut rows) as u32,
+            || night(black_box(table), *top, black_box(buffer), &mut other, &mut other_rows).0 as u32,
+            *count as u32,
+        );
+        assert_eq!((answers, rows), (other, other_rows), "{name}");
+    }
+
+    /// The same messages by as many calls of the reader.
+    fn run_single(&self) {
+        let Night { name, case: Case { table, top, message, rows: list, .. }, buffer, count } = self;
+        let (mut answers, mut rows) = self.lists();
+        let (mut lent, mut numbers) = (vec![0; list.len()], [0; 20]);
+        report(
+            &format!("night of {name}"),
+            || ffi::night::night(black_box(table), *top, black_box(buffer), &mut answers, &mut rows) as u32,
+            || {
+                let read = |message: &[u8]| ffi::read_numbers(black_box(table), *top, message, &mut lent, &mut numbers);
+                let refusals: u32 = buffer.chunks(message.len()).map(read).sum();
+                assert_eq!(refusals, 0);
+                *count as u32
+            },
+            *count as u32,
+        );
+    }
+}
+
 fn number<T>(result: Result<T, (u32, u32)>) -> u32 {
     result.err().map_or(0, |(number, _)| number)
 }
@@ -385,8 +436,8 @@ fn all_but_logs() {
     let mut spec = Spec::default();
     let (short, int, long) = (spec.basic(2), spec.basic(3), spec.basic(4));
     let top = spec.owner(15, &[(short, None), (long, Some(7)), (int, Some(8))]);
-    let p2 = [(0, vec![0x0C, 0xFE]), (1, vec![0, 0, 0, 0, 1, 0, 0, 0]), (2, vec![8, 7, 0, 0])];
-    let p2 = Case::new("P2", &spec, top, &p2);
+    let p2_values = [(0, vec![0x0C, 0xFE]), (1, vec![0, 0, 0, 0, 1, 0, 0, 0]), (2, vec![8, 7, 0, 0])];
+    let p2 = Case::new("P2", &spec, top, &p2_values);
     p2.run();
 
     // 1 KB in four slices, each with required members and optionals.
@@ -501,6 +552,17 @@ fn all_but_logs() {
     let member = spec.members.len() - 1;
     Case::new("65,525 deep bools", &spec, top, &[(member, [size(65_525), vec![1; 65_525]].concat())]).run();
 
+    // P2 under a table of 1,024 members: its own three, and optionals that it lacks.
+    let mut spec = Spec::default();
+    let (short, int, long) = (spec.basic(2), spec.basic(3), spec.basic(4));
+    let members: Vec<_> = [(short, None), (long, Some(7)), (int, Some(8))]
+        .into_iter()
+        .chain((0..1_021).map(|i| (int, Some(9 + i))))
+        .collect();
+    let top = spec.owner(15, &members);
+    let many_night = Case::new("P2 of 1,024", &spec, top, &p2_values);
+    let p2_night = p2.clone();
+
     println!();
     heads("call", "icehub_read");
     record.run_conversion_call(&compact);
@@ -508,6 +570,16 @@ fn all_but_logs() {
     for case in [p2, record, many] {
         case.run_calls();
     }
+
+    // A night of 10,000 messages of P2, under its table and under one of 1,024 members.
+    println!();
+    heads("library", "independent");
+    let nights =
+        [Night::new("10,000 of P2", &p2_night, 10_000), Night::new("under 1,024 members", &many_night, 10_000)];
+    nights.iter().for_each(Night::run);
+    println!();
+    heads("icehub_night", "icehub_read");
+    nights.iter().for_each(Night::run_single);
 
     println!();
     heads("call", "from_utf8");

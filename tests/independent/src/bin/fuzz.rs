@@ -1,11 +1,11 @@
 //! fuzz [CALLS [SEED]]: makes calls (1,000,000 by default) of the reader, the writer and the table check, and a member
-//! view and a conversion of each message read, and compares the proved library with this implementation in every number and every lent
-//! byte. A difference is printed as a line like those of the recorded calls, the library's answer after it as `got`;
+//! view, a conversion and a night of each message read, and compares the proved library with this implementation in every
+//! number and every lent byte. A difference is printed as a line like those of the recorded calls, the library's answer after it as `got`;
 //! with any, the exit status is 1.
 
 use independent::calls::{Answer, Call};
 use independent::ffi;
-use independent::gen::{Calls, Text};
+use independent::gen::{night, Calls, Rng, Text};
 use std::time::{Instant, SystemTime, UNIX_EPOCH};
 use std::{env, process};
 
@@ -39,6 +39,7 @@ fn main() {
     };
     let mut strings = Text::ALL.map(|what| (what, 0));
     let mut made = Calls::new(seed);
+    let (mut nights, mut other, mut walked, mut stops) = (Rng(seed), vec![], 0, [0; 40]);
     for index in 0..calls {
         let Some(call) = made.next() else { break };
         let expected = call.answer();
@@ -63,6 +64,21 @@ fn main() {
                 conversions[tight.answer().refusal() as usize] += 1;
             }
         }
+        if let Some(night) = night(&mut nights, &call, &other) {
+            let expected = night.answer();
+            compare(&night, &expected);
+            if let (Call::Night(night), Answer::Night(walked_over)) = (&night, &expected) {
+                walked += 1;
+                if let Some(last) =
+                    walked_over.answers.last_chunk::<28>().filter(|_| walked_over.place < night.buffer.len())
+                {
+                    stops[usize::from(last[0])] += 1;
+                }
+            }
+        }
+        if let Call::Read { message, .. } = call {
+            other = message;
+        }
     }
     for (version, refusals) in (1..).zip(refusals) {
         let met = refusals.iter().enumerate().filter(|(number, _)| !matches!(number, 1 | 27..=30 | 40..));
@@ -73,6 +89,13 @@ fn main() {
     let reached: Vec<_> = met.map(|(number, calls)| format!("{number}: {calls}")).collect();
     println!("conversions by refusal number: {}", reached.join(", "));
     let strings: Vec<_> = strings.iter().map(|(what, calls)| format!("{what:?} {calls}")).collect();
+    let stops: Vec<_> = stops
+        .iter()
+        .enumerate()
+        .filter(|stop| *stop.1 > 0)
+        .map(|(number, calls)| format!("{number}: {calls}"))
+        .collect();
+    println!("{walked} nights; those that end before their buffer, by the last answer: {}", stops.join(", "));
     println!("refused by 24, by the string: {}", strings.join(", "));
     println!("{differences} differences in {calls} calls from seed {seed}, {:.1} s", start.elapsed().as_secs_f64());
     process::exit(i32::from(differences != 0));

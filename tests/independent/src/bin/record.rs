@@ -1,7 +1,8 @@
-//! record DIRECTORY REPLAY: puts the recorded calls of a directory into the gate: the files `stdin` and `stdout` of REPLAY,
-//! which is crates/replay. First come the checks, the readings, some of these once more with row records, the views,
-//! the conversions and the writings of the directory's *.jsonl; then, as they are now, the cases of document 01 and the largest tables, which
-//! REPLAY has after its last writing. Stops where this implementation answers otherwise than recorded.
+//! record DIRECTORY MORE.. REPLAY: puts recorded calls into the gate: the files `stdin` and `stdout` of REPLAY, which is
+//! crates/replay. First come the checks, the readings, some of these once more with row records, the views, the conversions
+//! and the writings of DIRECTORY's *.jsonl; then, as they are now, the cases of document 01 and the largest tables, which
+//! REPLAY has after its last writing; then the calls of each MORE, a directory of a request that adds calls. Left out are
+//! calls with longer lists than the program lends. Stops where this implementation answers otherwise than recorded.
 
 use independent::calls::{Answer, Call};
 use independent::replay::{self, Recorded};
@@ -14,7 +15,7 @@ const REFUSED: usize = 40;
 
 fn main() {
     let words: Vec<String> = env::args().skip(1).collect();
-    let [directory, replay] = &words[..] else { stop("record DIRECTORY REPLAY") };
+    let [directory, more @ .., replay] = &words[..] else { stop("record DIRECTORY MORE.. REPLAY") };
     let (directory, replay) = (Path::new(directory), Path::new(replay));
 
     let mut calls = vec![];
@@ -28,7 +29,8 @@ fn main() {
         calls.extend(some.map(|(call, _)| with_records(call)));
     }
     let stdin = read(&replay.join("stdin"));
-    let Some(old) = replay::calls(&stdin) else { stop("REPLAY has no recorded calls") };
+    let Some(mut old) = replay::calls(&stdin) else { stop("REPLAY has no recorded calls") };
+    old.retain(|old| !is_more(&old.call));
     let last = old.iter().rposition(|old| matches!(old.call, Call::Write { .. })).map_or(0, |last| last + 1);
     // Readings with row records are kept if they are such a case too.
     let is_case =
@@ -36,6 +38,8 @@ fn main() {
     let kept: Vec<_> = old[last..].iter().filter(|call| is_case(call)).collect();
     println!("kept: {}", kept.len());
     calls.extend(kept.iter().map(|&kept| (kept.clone(), kept.call.answer())));
+    let added = more.iter().flat_map(|directory| all(Path::new(directory)));
+    calls.extend(added.map(|(call, answer)| (Recorded::from(call), answer)));
 
     let lines: String = calls.iter().map(|(recorded, answer)| recorded.line(answer) + "\n").collect();
     let calls: Vec<_> = calls.into_iter().map(|(recorded, _)| recorded).collect();
@@ -46,6 +50,31 @@ fn main() {
     );
     write(&replay.join("stdin"), &replay::stdin(&calls));
     write(&replay.join("stdout"), lines.as_bytes());
+}
+
+/// Whether a call is of a request that adds calls; these are after all others.
+fn is_more(call: &Call) -> bool {
+    matches!(call, Call::Night(_))
+}
+
+/// Whether the program lends lists as long as this call's.
+fn is_lent(call: &Call) -> bool {
+    match call {
+        Call::Night(night) => night.answers.max(night.rows) <= replay::MOST_LENT,
+        _ => true,
+    }
+}
+
+/// The recorded calls of a directory, file by file, of those that the program can make.
+fn all(directory: &Path) -> Vec<(Call, Answer)> {
+    let entries = fs::read_dir(directory).unwrap_or_else(|error| stop(&format!("{}: {error}", directory.display())));
+    let mut files: Vec<_> = entries.flatten().map(|entry| entry.path()).collect();
+    files.retain(|file| file.extension().is_some_and(|extension| extension == "jsonl"));
+    files.sort();
+    let (made, left_out): (Vec<_>, Vec<_>) =
+        files.iter().flat_map(|file| recorded(file)).partition(|(call, _)| is_lent(call));
+    println!("{}: {}, left out {}", directory.display(), made.len(), left_out.len());
+    made
 }
 
 /// The recorded calls of a file with their answers.
