@@ -1,0 +1,113 @@
+-- What is promised of opening and writing an endpoint (M-106), each promise in full, to be read without its proof.
+--
+--   Dials            TCP, SSL or UDP
+--   Proper           an address: its type is opened, its host is text, its port 1 to 65,535, its numbers have their widths, UDP has timeout 0
+--   EndpointExact    bytes are opened exactly if they are the writing of a proper address, within 65,536 bytes
+--   OtherExact       bytes are answered as unopened exactly if they are another type and an encapsulation, nothing after it
+--   HostThere        the host is in the bytes at the place and with the length that are answered
+--   EndpointBack     what is written is opened as what was given
+--   EndpointAgain    what is opened and written again is the same bytes
+--   OpenRefused      each refusal of opening, and its place, by what the bytes begin with
+--   OpenWithin       there is no other: 3, 4, 6, 7, 8, 11, 18, 24, 27, and the place is within the bytes
+--   WriteRefused     when 2, 3, 24, 27 and 22 come, and when it is written
+use mathlib.Core.Path.{_≡_}
+use mathlib.Core.List.{List, [], _∷_, _++_}
+use Prim.Native.Nat.{ℕ, _+_, _^_, _≤_, _<_}
+use lib.ListN.{length, take, drop}
+use Rattle.encoding.specs.Result.{ok, bad}
+use Rattle.encoding.specs.Utf8.{Utf8}
+use Rattle.encoding.specs.Number.{Bytes, leBytes, stringBytes}
+use Rattle.encoding.specs.Message.{limit}
+use Rattle.encoding.specs.Write.{out, stop}
+use Rattle.endpoint.specs.Endpoint.{Address, opened, unopened, endpointBytes, openEndpoint, hostPlace, addressOf, endpointWriting}
+
+-- the types that are opened
+pub data Dials : ℕ → Type 0 where
+  tcp : Dials 1
+  ssl : Dials 2
+  udp : Dials 3
+
+-- an address that may be written
+pub record Proper (e : Address) : Type 0 where
+  pub dials : Dials (e .kind)
+  pub host-bytes : Bytes (e .host)
+  pub host-text : Utf8 (e .host)
+  pub port-least : 0 < e .port
+  pub port-most : e .port < 2 ^ 16
+  pub timeout-int : e .timeout < 2 ^ 32
+  pub timeout-none : e .kind ≡ 3 → e .timeout ≡ 0
+  pub compress-bool : e .compress < 2
+
+-- Rules out an opener that only refuses, and one that answers a host that is not there: both directions speak of every list of bytes.
+abbrev pub EndpointExact : Type 0
+EndpointExact =
+    (b : List ℕ) (e : Address) (n : ℕ) → Bytes b
+    → (openEndpoint b ≡ ok (opened e) n → Proper e × (b ≡ endpointBytes e) × (length b ≤ limit) × (n ≡ length b))
+    × (Proper e → b ≡ endpointBytes e → length b ≤ limit → openEndpoint b ≡ ok (opened e) (length b))
+
+-- another type, an encapsulation of any content, nothing after it
+pub record Other (b : List ℕ) (k : ℕ) : Type 0 where
+  pub kind-pattern : k < 2 ^ 16
+  pub kind-other : Dials k → ⊥
+  pub content : List ℕ
+  pub enough : 2 ≤ length content
+  pub whole : b ≡ leBytes 2 k ++ (leBytes 4 (4 + length content) ++ content)
+  pub short : length b ≤ limit
+
+abbrev pub OtherExact : Type 0
+OtherExact =
+    (b : List ℕ) (k n : ℕ) → Bytes b
+    → (openEndpoint b ≡ ok (unopened k) n → Other b k × (n ≡ length b)) × (Other b k → openEndpoint b ≡ ok (unopened k) (length b))
+
+abbrev pub HostThere : Type 0
+HostThere =
+    (b : List ℕ) (e : Address) (n : ℕ) → Bytes b → openEndpoint b ≡ ok (opened e) n
+    → (hostPlace (length (e .host)) + length (e .host) ≤ length b) × (take (length (e .host)) (drop (hostPlace (length (e .host))) b) ≡ e .host)
+
+-- The timeout of UDP comes back as 0. Rules out a writer that touches nothing, or leaves out the timeout.
+abbrev pub EndpointBack : Type 0
+EndpointBack =
+    (k : ℕ) (h : List ℕ) (p t c room : ℕ) (b : List ℕ) → Bytes h → t < 2 ^ 32 → c < 2
+    → endpointWriting k h p t c room ≡ out b → openEndpoint b ≡ ok (opened (addressOf k h p t c)) (length b)
+
+abbrev pub EndpointAgain : Type 0
+EndpointAgain =
+    (b : List ℕ) (e : Address) (n room : ℕ) → Bytes b → openEndpoint b ≡ ok (opened e) n → length b ≤ room
+    → endpointWriting (e .kind) (e .host) (e .port) (e .timeout) (e .compress) room ≡ out b
+
+-- a port
+abbrev pub Port : ℕ → Type 0
+Port p = (0 < p) × (p < 2 ^ 16)
+
+-- the bytes that the writer makes if it refuses nothing
+abbrev pub Needed : ℕ → List ℕ → ℕ → ℕ → ℕ → List ℕ
+Needed k h p t c = endpointBytes (addressOf k h p t c)
+
+pub record WriteRefusals (k : ℕ) (h : List ℕ) (p t c room : ℕ) : Type 0 where
+  pub no-type : (Dials k → ⊥) → endpointWriting k h p t c room ≡ stop 2 0
+  pub too-long : Dials k → limit < length h → endpointWriting k h p t c room ≡ stop 3 0
+  pub no-text : Dials k → length h ≤ limit → (Utf8 h → ⊥) → endpointWriting k h p t c room ≡ stop 24 0
+  pub no-port : Dials k → length h ≤ limit → Utf8 h → (Port p → ⊥) → endpointWriting k h p t c room ≡ stop 27 0
+  pub no-room : Dials k → length h ≤ limit → Utf8 h → Port p
+      → ((length (Needed k h p t c) ≤ limit) × (length (Needed k h p t c) ≤ room) → ⊥)
+      → endpointWriting k h p t c room ≡ stop 22 (length (Needed k h p t c))
+  pub written : Dials k → Utf8 h → Port p → length (Needed k h p t c) ≤ limit → length (Needed k h p t c) ≤ room
+      → endpointWriting k h p t c room ≡ out (Needed k h p t c)
+
+abbrev pub WriteRefused : Type 0
+WriteRefused = (k : ℕ) (h : List ℕ) (p t c room : ℕ) → WriteRefusals k h p t c room
+
+-- the numbers by which opening refuses
+pub data OpenNumber : ℕ → Type 0 where
+  too-long : OpenNumber 3
+  cut : OpenNumber 4
+  version : OpenNumber 6
+  size : OpenNumber 7
+  bool : OpenNumber 8
+  left-over : OpenNumber 11
+  behind : OpenNumber 18
+  text : OpenNumber 24
+  port : OpenNumber 27
+
+abbrev pub OpenWithin : Type 0
+OpenWithin = (b : List ℕ) (c p : ℕ) → openEndpoint b ≡ bad c p → OpenNumber c × (p ≤ length b)

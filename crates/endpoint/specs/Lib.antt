@@ -1,0 +1,5 @@
+-- One endpoint of a proxy: opening and writing it as definitions, where it is in its proxy, and what is promised of them.
+pub mod Endpoint
+pub mod Locate
+pub mod EndpointDemands
+pub mod EndpointLaws
