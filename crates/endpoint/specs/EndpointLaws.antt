@@ -301,9 +301,8 @@ versioned-canonical k xs y {e} h = go (bind-ok (must versionForm (number 2)) (λ
         )
 
 -- what an encapsulation of type k was, z its bytes
-record Opens (k : ℕ) (z : List ℕ) (n : ℕ) (e : Address) : Type 0 where
+record Encloses (k : ℕ) (z : List ℕ) (n : ℕ) (e : Address) : Type 0 where
   size : length z ≡ n
-  dials : Dials k
   held : List ℕ
   whole : z ≡ encapsulate held
   reads : Reads k held e
@@ -321,22 +320,26 @@ declared-size : (d : List ℕ) (z : List ℕ) (n : ℕ) → z ≡ leBytes 4 (4 +
 declared-size d z n e h = let q = ap length e in omega (arith, q, h, length-append (leBytes 4 (4 + length d)) d, length-leBytes 4 (4 + length d))
 
 module _ (k : ℕ) (xs : List ℕ) (y : Bytes xs) where
-  opened-canonical : {e : Address} {n : ℕ} → encapsulated k xs ≡ ok (opened e) n → Opens k (take n xs) n e
-  unfolding encapsulated encapsulate
-  opened-canonical {e} {n} h = go (opens k) refl h
+  enclosed-canonical : {e : Address} {n : ℕ} → inside (declared 6 4) (versioned k) xs ≡ ok e n → Encloses k (take n xs) n e
+  unfolding encapsulate
+  enclosed-canonical {e} {n} h = go (inside-ok (declared 6 4) (versioned k) xs h)
     where
-      inner : opens k ≡ true → Entered (declared 6 4) (versioned k) xs e n → Opens k (take n xs) n e
-      inner o E =
+      go : Entered (declared 6 4) (versioned k) xs e n → Encloses k (take n xs) n e
+      go E =
           let D = declared-canonical 6 4 xs y (omega arith) (E .outer) in
           let yp = bytes-end (leBytes 4 (4 + length (E .part))) (E .part) (subst Bytes (D .0) (bytes-take n xs y)) in
           let W = versioned-canonical k (E .part) yp (E .inner) in
           let l : 4 + length (E .part) ≡ 6 + length (W .0) = let q = ap length (W .1) in omega (arith, q) in
-          record { size = declared-size (E .part) (take n xs) n (D .0) (D .3); dials = opens-ok k o; held = W .0; whole = D .0 ∙ ap₂ (λ (a : ℕ) (b : List ℕ). leBytes 4 a ++ b) l (W .1); reads = W .2 }
+          record { size = declared-size (E .part) (take n xs) n (D .0) (D .3); held = W .0; whole = D .0 ∙ ap₂ (λ (a : ℕ) (b : List ℕ). leBytes 4 a ++ b) l (W .1); reads = W .2 }
 
-      go : (b : Bool) → opens k ≡ b → pick b (mapc (λ e _. opened e) (inside (declared 6 4) (versioned k))) (mapc (λ _ _. unopened k) (declared 6 4)) xs ≡ ok (opened e) n → Opens k (take n xs) n e
+  opened-canonical : {e : Address} {n : ℕ} → encapsulated k xs ≡ ok (opened e) n → Dials k × Encloses k (take n xs) n e
+  unfolding encapsulated
+  opened-canonical {e} {n} h = go (opens k) refl h
+    where
+      go : (b : Bool) → opens k ≡ b → pick b (mapc (λ e _. opened e) (inside (declared 6 4) (versioned k))) (mapc (λ _ _. unopened k) (declared 6 4)) xs ≡ ok (opened e) n → Dials k × Encloses k (take n xs) n e
       go true o w =
           let M = mapc-ok (inside (declared 6 4) (versioned k)) xs (λ e _. opened e) w in
-          inner o (subst (λ (x : Address). Entered (declared 6 4) (versioned k) xs x n) (opened-same {s = opened e} (M .2) refl) (inside-ok (declared 6 4) (versioned k) xs (M .1)))
+          (opens-ok k o, subst (λ (x : Address). Encloses k (take n xs) n x) (opened-same {s = opened e} (M .2) refl) (enclosed-canonical (M .1)))
       go false o w = let M = mapc-ok (declared 6 4) xs (λ _ _. unopened k) w in absurd (opened≢unopened refl (M .2))
 
   unopened-canonical : {j n : ℕ} → encapsulated k xs ≡ ok (unopened j) n → Closed k (take n xs) n j
@@ -349,6 +352,30 @@ module _ (k : ℕ) (xs : List ℕ) (y : Bytes xs) where
           let M = mapc-ok (declared 6 4) xs (λ _ _. unopened k) w in
           let D = declared-canonical 6 4 xs y (omega arith) (M .1) in
           record { size = declared-size (M .0) (take n xs) n (D .0) (D .3); kind-is = unopened-same refl (M .2); other = λ d. true≢false (sym (opens-step d) ∙ o); held = M .0; enough = omega (arith, D .1); whole = D .0 }
+
+-- the numbers of what was read fit 32 bits
+pub record Narrow (k n : ℕ) (e : Address) : Type 0 where
+  pub kind-is : e .kind ≡ k
+  pub host-short : length (e .host) ≤ n
+  pub port-most : e .port < 2 ^ 32
+  pub timeout-most : e .timeout < 2 ^ 32
+  pub compress-most : e .compress < 2 ^ 32
+
+pub enclosed-narrow : (k : ℕ) (xs : List ℕ) → Bytes xs → (e : Address) (n : ℕ) → inside (declared 6 4) (versioned k) xs ≡ ok e n → Narrow k n e
+enclosed-narrow k xs y e n h = go (enclosed-canonical k xs y h)
+  where
+    go : Encloses k (take n xs) n e → Narrow k n e
+    go E =
+        let R = E .reads in
+        let w = ap length (E .whole) in
+        let v = ap length (R .same) in
+        record {
+          kind-is = R .kind-is;
+          host-short = omega (arith, E .size, w, v, length-encapsulate (E .held), host-within e);
+          port-most = omega (arith, R .port-most);
+          timeout-most = omega (arith, R .timeout-int);
+          compress-most = omega (arith, R .compress-bool);
+        }
 
 -- the type, its encapsulation, and nothing after them
 record Whole (b : List ℕ) (s : Endpoint) (n : ℕ) : Type 0 where
@@ -402,12 +429,13 @@ opened-proper : (b : List ℕ) → Bytes b → {e : Address} {n : ℕ} → typed
 unfolding endpointBytes
 opened-proper b y {e} {n} h = go (typed-whole b y h)
   where
-    inner : (W : Whole b (opened e) n) → Opens (W .kind) (take (W .taken) (W .inner)) (W .taken) e → Proper e × (b ≡ leBytes 2 (e .kind) ++ encapsulate (addressBytes e)) × (n ≡ length b)
-    inner W O =
+    inner : (W : Whole b (opened e) n) → Dials (W .kind) × Encloses (W .kind) (take (W .taken) (W .inner)) (W .taken) e → Proper e × (b ≡ leBytes 2 (e .kind) ++ encapsulate (addressBytes e)) × (n ≡ length b)
+    inner W D =
+        let O = D .1 in
         let R = O .reads in
         let sum = whole-length (W .kind) (W .taken) b (take (W .taken) (W .inner)) (W .whole) (O .size) in (
           record {
-            dials = subst Dials (sym (R .kind-is)) (O .dials);
+            dials = subst Dials (sym (R .kind-is)) (D .0);
             host-bytes = R .host-bytes;
             host-text = R .host-text;
             port-least = R .port-least;

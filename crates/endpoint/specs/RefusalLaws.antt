@@ -1,0 +1,274 @@
+-- Every refusal of opening is one of those that M-106 lists, within the bytes: each way of joining readers keeps this. Assumes nothing.
+--
+--   held-..        what the readers take, and where they refuse, lies within the input
+--   refuses-..     each refusal of a reader is one of the list
+--   open-within    both of opening
+use mathlib.Core.Path.{_≡_, refl, sym, ap, _∙_, subst}
+use mathlib.Core.Bool.{Bool, true, false}
+use mathlib.Core.List.{List, [], _∷_}
+use Prim.Native.Nat.{ℕ, zero, suc, _+_, _≤_, _<_}
+use native.Mathlib.Omega.{arith}
+use lib.ListN.{length, take, drop}
+use lib.Dec.{eqb, leb, ltb}
+use borrow.Author.Tests.{ne-eqb}
+use Rattle.encoding.specs.Result.{Res, ok, bad, Parser, pick, shift, after, _>>=_, pure, chunk, skip, atFirst, item, judged, must, made, mapc, leave, enter, inside, firstOf}
+use Rattle.encoding.specs.ResultLaws.{Lies, Held, held-bind, held-pure, held-pick, held-chunk, held-must, held-mapc, held-inside}
+use Rattle.encoding.specs.Utf8.{isUtf8}
+use Rattle.encoding.specs.Number.{negative, number, byte, boolForm, sizeForm, sizeTail, size, lengthForm, Content, string, declared}
+use Rattle.encoding.specs.NumberLaws.{held-byte, held-string, held-declared, ends-declared}
+use Rattle.encoding.specs.Proxy.{endpoint}
+use Rattle.encoding.specs.Message.{ended, limit, refusedFirst, versionForm}
+use Rattle.endpoint.specs.Endpoint.{Endpoint, opened, unopened, opens, timed, noPort, portForm, port, timeout, flag, address, versioned, encapsulated, typed, openEndpoint}
+use Rattle.endpoint.specs.Parts.{settings, tail}
+use Rattle.endpoint.specs.EndpointDemands.{OpenNumber, too-long, cut, version, size as size-number, bool, left-over, behind, text, port as port-number, OpenWithin}
+
+-- ---- within the input
+
+held-number : (k : ℕ) → Held (number k)
+unfolding number
+held-number k = held-chunk k _
+
+pub held-port : Held port
+unfolding port
+held-port = held-must _ (held-number 4) portForm
+
+pub held-timeout : (k : ℕ) → Held (timeout k)
+unfolding timeout
+held-timeout k = held-pick (timed k) (number 4) (pure 0) (held-number 4) (held-pure 0)
+
+pub held-flag : Held flag
+unfolding flag
+held-flag = held-must _ held-byte boolForm
+
+pub held-settings : (k : ℕ) → Held (settings k)
+unfolding settings
+held-settings k = held-bind _ _ (held-timeout k) λ t. held-mapc flag held-flag (λ c _. (t, c))
+
+pub held-tail : (k : ℕ) → Held (tail k)
+unfolding tail
+held-tail k = held-bind _ _ held-port λ p. held-mapc (settings k) (held-settings k) (λ s _. (p, s))
+
+pub held-address : (k : ℕ) → Held (address k)
+unfolding address
+held-address k =
+    held-bind _ _ held-string λ h. held-bind _ _ held-port λ p. held-bind _ _ (held-timeout k) λ t.
+    held-mapc flag held-flag (λ c _. record { kind = k; host = h; port = p; timeout = t; compress = c })
+
+pub held-versioned : (k : ℕ) → Held (versioned k)
+unfolding versioned
+held-versioned k = held-bind _ _ (held-must _ (held-number 2) versionForm) λ _. held-address k
+
+pub held-enclosed : (k : ℕ) → Held (inside (declared 6 4) (versioned k))
+held-enclosed k = held-inside (declared 6 4) (versioned k) (held-declared 6 4) (ends-declared 6 4) (held-versioned k)
+
+held-encapsulated : (k : ℕ) → Held (encapsulated k)
+unfolding encapsulated
+held-encapsulated k =
+    held-pick (opens k) (mapc (λ e _. opened e) (inside (declared 6 4) (versioned k))) (mapc (λ _ _. unopened k) (declared 6 4))
+    (held-mapc (inside (declared 6 4) (versioned k)) (held-enclosed k) (λ e _. opened e)) (held-mapc (declared 6 4) (held-declared 6 4) (λ _ _. unopened k))
+
+held-ended : {A : Type 0} (a : A) → Held (ended a)
+unfolding ended
+held-ended a [] = omega arith
+held-ended a (x ∷ xs) = omega arith
+
+held-typed : Held typed
+unfolding typed
+held-typed = held-bind _ _ (held-bind _ _ (held-number 2) held-encapsulated) held-ended
+
+-- ---- the numbers
+
+abbrev pub Told : {A : Type 0} → Res A → Type 0
+Told (ok a n) = Unit {0}
+Told (bad c p) = OpenNumber c
+
+-- each refusal is one of the list
+abbrev pub Refuses : {A : Type 0} → Parser A → Type 0
+Refuses p = (xs : List ℕ) → Told (p xs)
+
+pub told-bad : {A : Type 0} (p : Parser A) → Refuses p → (xs : List ℕ) {c q : ℕ} → p xs ≡ bad c q → OpenNumber c
+told-bad {A} p P xs h = subst (λ (r : Res A). Told r) h (P xs)
+
+told-shift : {A : Type 0} (n : ℕ) (r : Res A) → Told r → Told (shift n r)
+unfolding shift
+told-shift n (ok a m) h = tt
+told-shift n (bad c p) h = h
+
+refuses-bind : {A B : Type 0} (p : Parser A) (f : A → Parser B) → Refuses p → ((a : A) → Refuses (f a)) → Refuses (p >>= f)
+unfolding _>>=_ after
+refuses-bind {A} p f P F xs = go (p xs) (P xs)
+  where
+    go : (r : Res A) → Told r → Told (after r f xs)
+    go (ok a n) h = told-shift n (f a (drop n xs)) (F a (drop n xs))
+    go (bad c q) h = h
+
+refuses-pure : {A : Type 0} (a : A) → Refuses (pure a)
+unfolding pure
+refuses-pure a xs = tt
+
+refuses-pick : {A : Type 0} (b : Bool) (p q : Parser A) → Refuses p → Refuses q → Refuses (pick b p q)
+refuses-pick true p q P Q = P
+refuses-pick false p q P Q = Q
+
+refuses-chunk : {A : Type 0} (k : ℕ) (f : List ℕ → A) → Refuses (chunk k f)
+unfolding chunk
+refuses-chunk k f xs = go (leb k (length xs))
+  where
+    go : (t : Bool) → Told (pick t (ok (f (take k xs)) k) (bad 4 0))
+    go true = tt
+    go false = cut
+
+refuses-number : (k : ℕ) → Refuses (number k)
+unfolding number
+refuses-number k = refuses-chunk k _
+
+-- 0, or a number of the list
+abbrev Judged : ℕ → Type 0
+Judged zero = Unit {0}
+Judged (suc n) = OpenNumber (suc n)
+
+module _ {A : Type 0} (p : Parser A) (P : Refuses p) where
+  refuses-item : Refuses (item p)
+  unfolding item atFirst
+  refuses-item xs = go (p xs) (P xs)
+    where
+      go : (r : Res A) → Told r → Told (atFirst r)
+      go (ok a n) h = tt
+      go (bad c q) h = h
+
+  refuses-must : (f : A → ℕ) → ((a : A) → Judged (f a)) → Refuses (must f p)
+  unfolding must judged
+  refuses-must f judges xs = go (p xs) (P xs)
+    where
+      go₂ : (a : A) (n c : ℕ) → Judged c → Told (pick (eqb c 0) (ok a n) (bad c 0))
+      go₂ a n zero h = tt
+      go₂ a n (suc c) h = rw (ne-eqb (suc c) 0 (λ e. omega arith)) h
+
+      go : (r : Res A) → Told r → Told (judged f r)
+      go (ok a n) h = go₂ a n (f a) (judges a)
+      go (bad c q) h = h
+
+  refuses-mapc : {B : Type 0} (f : A → ℕ → B) → Refuses (mapc f p)
+  unfolding mapc made
+  refuses-mapc {B} f xs = go (p xs) (P xs)
+    where
+      go : (r : Res A) → Told r → Told (made f r)
+      go (ok a n) h = tt
+      go (bad c q) h = h
+
+refuses-inside : {B : Type 0} (p : Parser (List ℕ)) (q : Parser B) → Refuses p → Refuses q → Refuses (inside p q)
+unfolding inside enter leave
+refuses-inside {B} p q P Q xs = go (p xs) (P xs)
+  where
+    go₃ : (b : B) (n : ℕ) (t : Bool) → Told (pick t (ok b n) (bad 11 0))
+    go₃ b n true = tt
+    go₃ b n false = left-over
+
+    go₂ : (l n : ℕ) (r : Res B) → Told r → Told (leave l n r)
+    go₂ l n (ok b m) h = go₃ b n (eqb m l)
+    go₂ l n (bad c m) h = h
+
+    go : (r : Res (List ℕ)) → Told r → Told (enter q r)
+    go (ok d n) h = go₂ (length d) n (q d) (Q d)
+    go (bad c m) h = h
+
+-- judgements
+pick-judges : (b : Bool) (n m : ℕ) → Judged n → Judged m → Judged (pick b n m)
+pick-judges true n m h k = h
+pick-judges false n m h k = k
+
+size-judges : (n : ℕ) → Judged (sizeForm n)
+unfolding sizeForm firstOf
+size-judges n = pick-judges (ltb n 255) 7 (pick (negative 4 n) 7 0) size-number (pick-judges (negative 4 n) 7 0 size-number tt)
+
+length-judges : (least n : ℕ) → Judged (lengthForm least n)
+unfolding lengthForm firstOf
+length-judges least n = pick-judges (ltb n least) 11 (pick (negative 4 n) 11 0) left-over (pick-judges (negative 4 n) 11 0 left-over tt)
+
+content-judges : (b : List ℕ) → Judged (Content b)
+unfolding Content
+content-judges b = pick-judges (isUtf8 b) 0 24 tt text
+
+port-judges : (p : ℕ) → Judged (portForm p)
+unfolding portForm
+port-judges p = pick-judges (noPort p) 27 0 port-number tt
+
+bool-judges : (b : ℕ) → Judged (boolForm b)
+unfolding boolForm
+bool-judges b = pick-judges (ltb b 2) 0 8 tt bool
+
+version-judges : (v : ℕ) → Judged (versionForm v)
+unfolding versionForm
+version-judges v = pick-judges (eqb v 257) 0 6 tt version
+
+-- readers
+refuses-size : Refuses size
+unfolding size byte sizeTail
+refuses-size =
+    refuses-item _ (refuses-bind _ _ (refuses-number 1) λ b. refuses-pick (ltb b 255) (pure b) (must sizeForm (number 4)) (refuses-pure b) (refuses-must _ (refuses-number 4) sizeForm size-judges))
+
+refuses-string : Refuses string
+unfolding string
+refuses-string = refuses-must _ (refuses-item _ (refuses-bind _ _ refuses-size λ n. refuses-chunk n (λ b. b))) Content content-judges
+
+refuses-declared : Refuses (declared 6 4)
+unfolding declared
+refuses-declared = refuses-item _ (refuses-bind _ _ (refuses-must _ (refuses-number 4) (lengthForm 6) (length-judges 6)) λ n. refuses-chunk _ (λ b. b))
+
+refuses-address : (k : ℕ) → Refuses (address k)
+unfolding address port timeout flag byte
+refuses-address k =
+    refuses-bind _ _ refuses-string λ h. refuses-bind _ _ (refuses-must _ (refuses-number 4) portForm port-judges) λ p.
+    refuses-bind _ _ (refuses-pick (timed k) (number 4) (pure 0) (refuses-number 4) (refuses-pure 0)) λ t.
+    refuses-mapc _ (refuses-must _ (refuses-number 1) boolForm bool-judges) (λ c _. record { kind = k; host = h; port = p; timeout = t; compress = c })
+
+pub refuses-enclosed : (k : ℕ) → Refuses (inside (declared 6 4) (versioned k))
+unfolding versioned
+refuses-enclosed k = refuses-inside _ _ refuses-declared (refuses-bind _ _ (refuses-must _ (refuses-number 2) versionForm version-judges) λ _. refuses-address k)
+
+-- one endpoint as the proxy reader takes it
+pub refuses-endpoint : Refuses endpoint
+unfolding endpoint skip
+refuses-endpoint = refuses-bind _ _ (refuses-chunk 2 (λ _. tt)) λ _. refuses-mapc (declared 6 4) refuses-declared (λ _ _. tt)
+
+refuses-encapsulated : (k : ℕ) → Refuses (encapsulated k)
+unfolding encapsulated
+refuses-encapsulated k =
+    refuses-pick (opens k) (mapc (λ e _. opened e) (inside (declared 6 4) (versioned k))) (mapc (λ _ _. unopened k) (declared 6 4))
+    (refuses-mapc _ (refuses-enclosed k) (λ e _. opened e)) (refuses-mapc _ refuses-declared (λ _ _. unopened k))
+
+refuses-ended : {A : Type 0} (a : A) → Refuses (ended a)
+unfolding ended
+refuses-ended a [] = tt
+refuses-ended a (x ∷ xs) = behind
+
+refuses-typed : Refuses typed
+unfolding typed
+refuses-typed = refuses-bind _ _ (refuses-bind _ _ (refuses-number 2) refuses-encapsulated) refuses-ended
+
+-- ---- both
+
+pub open-within : OpenWithin
+unfolding openEndpoint refusedFirst firstOf
+open-within b c p h = go (ltb limit (length b)) h
+  where
+    read : (r : Res Endpoint) → Told r → Lies (length b) r → r ≡ bad c p → OpenNumber c × (p ≤ length b)
+    read r t l e = subst (λ (x : Res Endpoint). Told x → Lies (length b) x → OpenNumber c × (p ≤ length b)) (sym e) (λ x y. (x, y)) t l
+
+    long : _≡_ {A = Res Endpoint} (bad 3 0) (bad c p) → OpenNumber c × (p ≤ length b)
+    long e = let i : 3 ≡ c = cc in let j : 0 ≡ p = cc in (subst OpenNumber i too-long, omega arith)
+
+    go : (t : Bool) → refusedFirst (pick t 3 0) (typed b) ≡ bad c p → OpenNumber c × (p ≤ length b)
+    go true e = long e
+    go false e = read (typed b) (refuses-typed b) (held-typed b) e
+
+pub few-numbers : {c : ℕ} → OpenNumber c → c ≤ 27
+few-numbers too-long = omega arith
+few-numbers cut = omega arith
+few-numbers version = omega arith
+few-numbers size-number = omega arith
+few-numbers bool = omega arith
+few-numbers left-over = omega arith
+few-numbers behind = omega arith
+few-numbers text = omega arith
+few-numbers port-number = omega arith
