@@ -1,3 +1,5 @@
 -- Laws that several proofs cite.
 pub mod Laws
 pub mod Openings
+pub mod Writings
+pub mod Locating

@@ -37,20 +37,20 @@ use Rattle.endpoint.specs.declared.fields.Fields.{Fields}
 use Rattle.endpoint.specs.declared.fields.Fields.the-variants.{Are, Arent}
 use Rattle.endpoint.specs.Endpoint.{Address, Endpoint, opened, unopened, opens, versioned, encapsulated, typed, openEndpoint, hostPlace, openedOf, sevenBytes, openedWithin, withOpened}
 use Rattle.endpoint.specs.Parts.{fieldsOf, addressFields, anyInside, addressInside, whole, Roomy}
-use Rattle.endpoint.specs.EndpointDemands.{Dials, tcp, ssl, udp}
+use Rattle.endpoint.specs.EndpointDemands.{Dials, tcp, ssl, udp, OpenNumber}
 use Rattle.endpoint.specs.EndpointLaws.{opens-step, opens-not, Narrow, enclosed-narrow}
 use Rattle.endpoint.specs.RefusalLaws.{held-enclosed, refuses-enclosed, refuses-endpoint, told-bad, few-numbers}
 use Rattle.endpoint.proofs.Laws.{fields-are, fields-arent}
 
 -- ---- nothing after it
 
-ended-more : {A : Type 0} (a : A) (n : ℕ) (s : List ℕ) → n < length s → ended a (drop n s) ≡ bad 18 0
+pub ended-more : {A : Type 0} (a : A) (n : ℕ) (s : List ℕ) → n < length s → ended a (drop n s) ≡ bad 18 0
 unfolding ended
 ended-more a n [] h = absurd (omega arith)
 ended-more a zero (x ∷ s) h = refl
 ended-more a (suc n) (x ∷ s) h = ended-more a n s (omega arith)
 
-ended-done : {A : Type 0} (a : A) (n : ℕ) (s : List ℕ) → length s ≤ n → ended a (drop n s) ≡ ok a 0
+pub ended-done : {A : Type 0} (a : A) (n : ℕ) (s : List ℕ) → length s ≤ n → ended a (drop n s) ≡ ok a 0
 unfolding ended
 ended-done a zero [] h = refl
 ended-done a (suc n) [] h = refl
@@ -104,7 +104,7 @@ module _ (s : List ℕ) (k : ℕ) (r : Step) (e : r ≡ stepOf (endpoint s)) whe
 
   module _ (c q : ℕ) (h : r ≡ Fault c q) where
     pub unopened-number : c < 2 ^ 32
-    unopened-number = omega (arith, few-numbers (told-bad endpoint refuses-endpoint s (step-fault (endpoint s) c q (sym h ∙ e))))
+    unopened-number = omega (arith, told-bad (λ c. c ≤ 27) endpoint (refuses-endpoint (λ c. c ≤ 27) (omega arith) (omega arith)) s (step-fault (endpoint s) c q (sym h ∙ e)))
 
     pub unopened-place : length s ≤ 65536 → q < 2 ^ 32
     unopened-place l = omega (arith, held-refused endpoint held-endpoint s (step-fault (endpoint s) c q (sym h ∙ e)))
@@ -194,7 +194,7 @@ module _ (s : List ℕ) (k : ℕ) (y : Bytes s) (two : 2 ≤ length s) (short : 
     missed = omega (arith, held-refused (inside (declared 6 4) (versioned k)) (held-enclosed k) (drop 2 s) lost, length-drop 2 s)
 
     pub dialled-number : c < 2 ^ 32
-    dialled-number = omega (arith, few-numbers (told-bad (inside (declared 6 4) (versioned k)) (refuses-enclosed k) (drop 2 s) lost))
+    dialled-number = omega (arith, few-numbers (told-bad OpenNumber (inside (declared 6 4) (versioned k)) (refuses-enclosed k) (drop 2 s) lost))
 
     pub dialled-bad-sum : Fits w64 (2 + q)
     dialled-bad-sum = record { fits = omega (arith, missed) }
@@ -208,12 +208,12 @@ module _ (s : List ℕ) (k : ℕ) (y : Bytes s) (two : 2 ≤ length s) (short : 
 
 -- ---- by the type
 
-not-dialled : (k : ℕ) → 3 < k → Dials k → ⊥
+pub not-dialled : (k : ℕ) → 3 < k → Dials k → ⊥
 not-dialled k l tcp = omega arith
 not-dialled k l ssl = omega arith
 not-dialled k l udp = omega arith
 
-one-of : (k : ℕ) → (k ≡ 0 → ⊥) → k ≤ 3 → Dials k
+pub one-of : (k : ℕ) → (k ≡ 0 → ⊥) → k ≤ 3 → Dials k
 one-of zero z l = absurd (z refl)
 one-of (suc zero) z l = tcp
 one-of (suc (suc zero)) z l = ssl

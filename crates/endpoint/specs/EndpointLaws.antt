@@ -513,12 +513,12 @@ out≢stop e h = let z : _≡_ {A = ℕ} 0 1 = cc in omega arith
 out-same : {o : Out (List ℕ)} {a b : List ℕ} → o ≡ out a → o ≡ out b → a ≡ b
 out-same e h = cc
 
-written-ok : (f : ℕ) (o : Out (List ℕ)) (b : List ℕ) → next (stoppedFirst f) (λ _. o) ≡ out b → (f ≡ 0) × (o ≡ out b)
+pub written-ok : (f : ℕ) (o : Out (List ℕ)) (b : List ℕ) → next (stoppedFirst f) (λ _. o) ≡ out b → (f ≡ 0) × (o ≡ out b)
 unfolding next stoppedFirst
 written-ok zero o b h = (refl, h)
 written-ok (suc f) o b h = absurd (out≢stop h refl)
 
-bounded-ok : (room : ℕ) (z b : List ℕ) → bounded room z ≡ out b → (z ≡ b) × (length z ≤ limit) × (length z ≤ room)
+pub bounded-ok : (room : ℕ) (z b : List ℕ) → bounded room z ≡ out b → (z ≡ b) × (length z ≤ limit) × (length z ≤ room)
 unfolding bounded
 bounded-ok room z b h = go (leb (length z) limit && leb (length z) room) refl h
   where

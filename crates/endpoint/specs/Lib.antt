@@ -5,3 +5,5 @@ pub mod Locate
 pub mod EndpointDemands
 pub mod EndpointLaws
 pub mod RefusalLaws
+pub mod Layout
+pub mod ProxyRefusals

@@ -3,20 +3,22 @@
 --   Spot             how many endpoints there are; place and length of one
 --   generals         a proxy up to its endpoint count, which is read; nil has none
 --   started, apart   the count with the bytes before the first endpoint; where endpoint i is among the endpoints
---   spotAt i         where endpoint i is in the proxy, counted from 0
+--   placed, spotAt   where endpoint i is in the proxy, counted from 0
 --   locating i       3, the proxy's own refusals, 18 for what is after it; then where endpoint i is
 --   locatedOf        the answer as the call returns it; locatedNumbers: its five numbers
 --   locatedWithin    22 where too few bytes are lent for the three numbers; withLocated: the lent bytes after the call
+--   RoomyAt          so many lent bytes hold the three numbers of an answer that has some
 use mathlib.Core.List.{List, [], _∷_, _++_}
-use Prim.Native.Nat.{ℕ, _+_}
+use Prim.Native.Nat.{ℕ, _+_, _≤_}
 use lib.ListN.{length, drop}
 use lib.Dec.{eqb, leb, ltb}
-use Rattle.encoding.specs.Result.{Res, ok, bad, Parser, pick, _>>=_, pure, must, mapc, times, firstOf}
-use Rattle.encoding.specs.Number.{byte, bool, size, leBytes}
-use Rattle.encoding.specs.Proxy.{identity, facets, modeForm, versions, endpoint, proxy}
+use Rattle.encoding.specs.Result.{Res, ok, bad, Parser, pick, _>>=_, pure, skip, mapc, times, firstOf}
+use Rattle.encoding.specs.Number.{size, leBytes}
+use Rattle.encoding.specs.Proxy.{facets, endpoint, proxy}
+use Rattle.proxy.specs.Parts.{named}
 use Rattle.encoding.specs.Message.{ended, limit, refusedFirst}
-use Rattle.endpoint.specs.declared.Located.{Located}
-use Rattle.endpoint.specs.declared.Located.the-variants.{At, Refused}
+use Rattle.endpoint.specs.declared.spots.Located.{Located}
+use Rattle.endpoint.specs.declared.spots.Located.the-variants.{At, Refused}
 
 -- how many, where, how long
 pub record Spot : Type 0 where
@@ -24,18 +26,17 @@ pub record Spot : Type 0 where
   pub place : ℕ
   pub len : ℕ
 
--- facets, mode, secure, protocol and encoding, then how many endpoints there are
+-- mode, secure, protocol and encoding, six bytes that the proxy reader judges, then how many endpoints there are
+unfoldable pub counted : Parser ℕ
+counted = skip 6 >>= λ _. size
+
+-- the facets, then those
 unfoldable pub referenced : Parser ℕ
-referenced = do
-  _ ← facets
-  _ ← must modeForm byte
-  _ ← bool
-  _ ← versions
-  size
+referenced = facets >>= λ _. counted
 
 -- nil has none
 unfoldable pub generals : Parser ℕ
-generals = identity >>= λ (l : ℕ × ℕ). pick (eqb (l .0) 0) (pure 0) referenced
+generals = named >>= λ n. pick (eqb n 0) (pure 0) referenced
 
 -- how many endpoints there are, and the bytes before the first
 unfoldable pub started : Parser (ℕ × ℕ)
@@ -45,12 +46,13 @@ started = mapc (λ n h. (n, h)) generals
 unfoldable pub apart : ℕ → Parser (ℕ × ℕ)
 apart i = mapc (λ _ m. m) (times i endpoint) >>= λ m. mapc (λ _ l. (m, l)) endpoint
 
+-- endpoint i of the n that follow the first h bytes
+unfoldable pub placed : ℕ → ℕ → ℕ → Parser Spot
+placed i n h = mapc (λ (e : ℕ × ℕ) _. record { count = n; place = h + e .0; len = e .1 }) (apart i)
+
 -- where endpoint i is; 0, 0 if there is none
 unfoldable pub spotAt : ℕ → Parser Spot
-spotAt i = started >>= λ (s : ℕ × ℕ).
-    pick (ltb i (s .0))
-    (mapc (λ (e : ℕ × ℕ) _. record { count = s .0; place = s .1 + e .0; len = e .1 }) (apart i))
-    (pure (record { count = s .0; place = 0; len = 0 }))
+spotAt i = started >>= λ (s : ℕ × ℕ). pick (ltb i (s .0)) (placed i (s .0) (s .1)) (pure (record { count = s .0; place = 0; len = 0 }))
 
 -- one reading judges, another answers
 unfoldable pub unlessBad : {A B : Type 0} → Res A → Res B → Res B
@@ -78,7 +80,16 @@ unfoldable pub locatedWithin : ℕ → Located → Located
 locatedWithin lent (At n a l) = pick (leb 12 lent) (At n a l) (Refused 22 12)
 locatedWithin lent (Refused c p) = Refused c p
 
+-- the three numbers, 32 bits each
+unfoldable pub threeBytes : ℕ → ℕ → ℕ → List ℕ
+threeBytes n a l = leBytes 4 n ++ leBytes 4 a ++ leBytes 4 l
+
 -- the lent bytes after the call: bytes beyond the numbers stay, on a refusal all
 unfoldable pub withLocated : Located → List ℕ → List ℕ
-withLocated (At n a l) lent = leBytes 4 n ++ leBytes 4 a ++ leBytes 4 l ++ drop 12 lent
+withLocated (At n a l) lent = threeBytes n a l ++ drop 12 lent
 withLocated (Refused c p) lent = lent
+
+-- there is room for the numbers of an answer that has some
+unfoldable pub RoomyAt : Located → ℕ → Type 0
+RoomyAt (At n a l) room = 12 ≤ room
+RoomyAt (Refused c p) room = Unit {0}

@@ -1,7 +1,14 @@
 // One endpoint of a proxy, opened and written (document 02, M-106); and where it is in its proxy. No public call asks anything of its input.
 // fields.rt reads what an endpoint of TCP, SSL and UDP holds, writes.rt puts it, spots.rt finds it in its proxy.
 pub mod fields;
+pub mod spots;
+pub mod writes;
 
+pub use spots::endpoint_at;
+pub use spots::endpoint_at_answer;
+pub use spots::endpoint_at_numbers;
+pub use writes::endpoint_written;
+pub use writes::write_endpoint;
 ghost use mathlib.Core.Path.{_≡_};
 ghost use Prim.Native.Nat.{_≤_, _<_};
 ghost use mathlib.Core.List.{_++_};
@@ -16,12 +23,6 @@ use wire::Step;
 pub enum Opened {
     Is(u32, u32, u32, u32, u32, u32),
     Unopened(u32),
-    Refused(u32, u32),
-}
-
-// How many endpoints a proxy has, and place and length of the wanted one, both 0 if there is none; or a refusal's number and place.
-pub enum Located {
-    At(u32, u32, u32),
     Refused(u32, u32),
 }
 

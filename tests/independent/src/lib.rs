@@ -3,10 +3,12 @@
 //! - [`check`]: the rules of a type table, [`forms`]: how its types are written as optionals.
 //! - [`read`]: the rows of a message, [`member`]: the bytes of one member.
 //! - [`write`]: a message from rows and the buffer they point into.
+//! - [`endpoint`]: one endpoint of a proxy, opened, written, and found in its proxy.
 //!
 //! A refusal is its number and its place. No call panics on any input, and on a refusal every lent byte stays.
 
 pub mod calls;
+pub mod endpoint;
 #[cfg(feature = "library")]
 pub mod ffi;
 pub mod gen;
