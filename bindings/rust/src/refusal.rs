@@ -131,6 +131,7 @@ reasons! {
         "the number of bytes needed";
     BadFormat = 23, "BAD_FORMAT": "the format is not 0 or 1, or is 0 for a parameter list", "0";
     BadText = 24, "BAD_TEXT": "a string is not well-formed UTF-8", "its size";
+    BadPort = 27, "BAD_PORT": "an endpoint's port is not 1 to 65,535", "the port; 0 for the writer of an endpoint";
     BadTableHeader = 31, "BAD_TABLE_HEADER": "the table's header is wrong, or its length is not what the header says",
         "0";
     BadTableZeros = 32, "BAD_TABLE_ZEROS":
@@ -223,7 +224,7 @@ mod tests {
     fn numbers() {
         assert_eq!(
             Reason::ALL.iter().map(|reason| reason.number()).collect::<Vec<_>>(),
-            (2..=24).chain(31..=39).collect::<Vec<_>>()
+            (2..=24).chain([27]).chain(31..=39).collect::<Vec<_>>()
         );
         for reason in Reason::ALL {
             assert_eq!(Reason::from_number(reason.number()), Some(*reason));

@@ -36,31 +36,12 @@ use Rattle.wire.specs.SizeLaws.{size-below}
 use Rattle.wire.specs.Put.{put}
 use Rattle.wire.specs.PutLaws.{put-front}
 use Rattle.proxy.specs.Parts.{named}
-use Rattle.proxy.proofs.Laws.{held-facets}
 use Rattle.endpoint.specs.declared.spots.Located.{Located}
 use Rattle.endpoint.specs.declared.spots.Located.the-variants.{At, Refused}
 use Rattle.endpoint.specs.Locate.{Spot, counted, referenced, generals, started, apart, placed, spotAt, unlessBad, locating, locatedOf, threeBytes, locatedWithin, withLocated, RoomyAt}
-use Rattle.endpoint.specs.RefusalLaws.{told-bad}
-use Rattle.endpoint.specs.ProxyRefusals.{Few, few-endpoint, few-endpoint-list, few-proxy, few-generals}
-use Rattle.endpoint.proofs.Openings.{ended-more, ended-done, next-put}
-
--- ---- within the input
-
-held-counted : Held counted
-unfolding counted
-held-counted = held-bind (skip 6) (λ _. size) (held-skip 6) λ _. held-size
-
-held-referenced : Held referenced
-unfolding referenced
-held-referenced = held-bind facets (λ _. counted) held-facets λ _. held-counted
-
-held-named : Held named
-unfolding named
-held-named = held-mapc identity held-identity (λ (l : ℕ × ℕ) _. l .0)
-
-held-generals : Held generals
-unfolding generals
-held-generals = held-bind named (λ n. pick (eqb n 0) (pure 0) referenced) held-named λ n. held-pick (eqb n 0) (pure 0) referenced (held-pure 0) held-referenced
+use Rattle.endpoint.specs.RefusalLaws.{ended-more, ended-done, told-bad}
+use Rattle.endpoint.specs.ProxyRefusals.{held-facets, held-counted, held-referenced, held-named, held-generals, Few, few-endpoint, few-endpoint-list, few-proxy, few-generals}
+use Rattle.endpoint.proofs.Openings.{next-put}
 
 -- ---- one reader, then another that gives a number
 

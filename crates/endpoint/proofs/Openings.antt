@@ -39,23 +39,10 @@ use Rattle.endpoint.specs.Endpoint.{Address, Endpoint, opened, unopened,
 use Rattle.endpoint.specs.Parts.{fieldsOf, addressFields, anyInside, addressInside, whole, Roomy}
 use Rattle.endpoint.specs.EndpointDemands.{Dials, tcp, ssl, udp, OpenNumber}
 use Rattle.endpoint.specs.EndpointLaws.{opens-step, opens-not, Narrow, enclosed-narrow}
-use Rattle.endpoint.specs.RefusalLaws.{held-enclosed, refuses-enclosed, refuses-endpoint, told-bad, few-numbers}
+use Rattle.endpoint.specs.RefusalLaws.{ended-more, ended-done, held-enclosed, refuses-enclosed, refuses-endpoint, told-bad, few-numbers}
 use Rattle.endpoint.proofs.Laws.{fields-are, fields-arent}
 
 -- ---- nothing after it
-
-pub ended-more : {A : Type 0} (a : A) (n : ℕ) (s : List ℕ) → n < length s → ended a (drop n s) ≡ bad 18 0
-unfolding ended
-ended-more a n [] h = absurd (omega arith)
-ended-more a zero (x ∷ s) h = refl
-ended-more a (suc n) (x ∷ s) h = ended-more a n s (omega arith)
-
-pub ended-done : {A : Type 0} (a : A) (n : ℕ) (s : List ℕ) → length s ≤ n → ended a (drop n s) ≡ ok a 0
-unfolding ended
-ended-done a zero [] h = refl
-ended-done a (suc n) [] h = refl
-ended-done a zero (x ∷ s) h = absurd (omega arith)
-ended-done a (suc n) (x ∷ s) h = ended-done a n s (omega arith)
 
 module _ (p : Parser Endpoint) (s : List ℕ) where
   whole-more : (e : Endpoint) (n : ℕ) → (skip 2 >>= λ _. p) s ≡ ok e n → n < length s → whole p s ≡ bad 18 n

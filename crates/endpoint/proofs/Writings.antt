@@ -25,7 +25,7 @@ use Rattle.encoding.specs.declared.Writing.the-variants.{Written, Rejected}
 use Rattle.wire.specs.Put.{put}
 use Rattle.wire.specs.PutLaws.{put-put, put-front, put-length}
 use Rattle.endpoint.specs.Endpoint.{opens, timed, noPort, timeoutBytes, endpointBytes, addressOf, argumentForm, endpointWriting}
-use Rattle.endpoint.specs.EndpointLaws.{opens-step, opens-not, written-ok, bounded-ok}
+use Rattle.endpoint.specs.EndpointLaws.{opens-step, opens-not, is-timed, written-ok, bounded-ok}
 use Rattle.endpoint.specs.Layout.{bit, neededLength, headBytes, tailBytes, length-head, needed-is, layout}
 use Rattle.endpoint.proofs.Openings.{not-dialled, one-of, next-put}
 
@@ -155,10 +155,6 @@ tail-layout k p t c e = rw e (sym (append-assoc (leBytes 4 p) (leBytes 4 t) (c �
 tail-udp : (k p t c : ℕ) → timed k ≡ false → tailBytes k p t c ≡ leBytes 4 p ++ (c ∷ [])
 unfolding tailBytes timeoutBytes
 tail-udp k p t c e = rw e
-
-is-timed : (k : ℕ) → (k ≡ 3 → ⊥) → timed k ≡ true
-unfolding timed
-is-timed k z = rw (ne-eqb k 3 z)
 
 is-udp : (k : ℕ) → k ≡ 3 → timed k ≡ false
 unfolding timed

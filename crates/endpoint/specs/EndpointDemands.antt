@@ -7,19 +7,23 @@
 --   HostThere        the host is in the bytes at the place and with the length that are answered
 --   EndpointBack     what is written is opened as what was given
 --   EndpointAgain    what is opened and written again is the same bytes
---   OpenRefused      each refusal of opening, and its place, by what the bytes begin with
---   OpenWithin       there is no other: 3, 4, 6, 7, 8, 11, 18, 24, 27, and the place is within the bytes
 --   WriteRefused     when 2, 3, 24, 27 and 22 come, and when it is written
+--   OpenWithin       opening refuses by 3, 4, 6, 7, 8, 11, 18, 24 and 27 alone, and the place is within the bytes
+--   OpenRefused      when each comes, and where, by what the bytes begin with
+--   LocateRefused    a proxy is refused as the reader refuses it
+--   LocateThere      of an accepted proxy each endpoint is found
 use mathlib.Core.Path.{_≡_}
 use mathlib.Core.List.{List, [], _∷_, _++_}
 use Prim.Native.Nat.{ℕ, _+_, _^_, _≤_, _<_}
 use lib.ListN.{length, take, drop}
 use Rattle.encoding.specs.Result.{ok, bad}
 use Rattle.encoding.specs.Utf8.{Utf8}
-use Rattle.encoding.specs.Number.{Bytes, leBytes, stringBytes}
+use Rattle.encoding.specs.Number.{Bytes, leBytes, string, stringBytes}
+use Rattle.encoding.specs.Proxy.{endpoint, proxy}
 use Rattle.encoding.specs.Message.{limit}
 use Rattle.encoding.specs.Write.{out, stop}
-use Rattle.endpoint.specs.Endpoint.{Address, opened, unopened, endpointBytes, openEndpoint, hostPlace, addressOf, endpointWriting}
+use Rattle.endpoint.specs.Endpoint.{Address, opened, unopened, addressBytes, endpointBytes, openEndpoint, hostPlace, addressOf, endpointWriting}
+use Rattle.endpoint.specs.Locate.{Spot, locating}
 
 -- the types that are opened
 pub data Dials : ℕ → Type 0 where
@@ -111,3 +115,62 @@ pub data OpenNumber : ℕ → Type 0 where
 
 abbrev pub OpenWithin : Type 0
 OpenWithin = (b : List ℕ) (c p : ℕ) → openEndpoint b ≡ bad c p → OpenNumber c × (p ≤ length b)
+
+-- ---- refusals of opening
+
+-- an endpoint of type k that declares the bytes d, then whatever follows
+abbrev pub Framed : ℕ → List ℕ → List ℕ → List ℕ
+Framed k d w = leBytes 2 k ++ (leBytes 4 (4 + length d) ++ d ++ w)
+
+-- where the fields begin, and where the port is
+abbrev pub portPlace : List ℕ → ℕ
+portPlace h = 8 + length (stringBytes h)
+
+-- Whatever follows the endpoint, `w`, what it holds is judged before it. Each list of bytes is within the limit.
+pub record OpenRefusals : Type 0 where
+  pub too-long : (b : List ℕ) → limit < length b → openEndpoint b ≡ bad 3 0
+  pub no-type : (b : List ℕ) → length b < 2 → openEndpoint b ≡ bad 4 0
+  pub no-size : (b : List ℕ) → 2 ≤ length b → length b < 6 → openEndpoint b ≡ bad 4 2
+  pub size-low : (k n : ℕ) (w : List ℕ) → k < 2 ^ 16 → n < 6 → length w + 6 ≤ limit → openEndpoint (leBytes 2 k ++ (leBytes 4 n ++ w)) ≡ bad 11 2
+  pub size-negative : (k n : ℕ) (w : List ℕ) → k < 2 ^ 16 → 2 ^ 31 ≤ n → n < 2 ^ 32 → length w + 6 ≤ limit → openEndpoint (leBytes 2 k ++ (leBytes 4 n ++ w)) ≡ bad 11 2
+  pub size-far : (k n : ℕ) (w : List ℕ) → k < 2 ^ 16 → 6 ≤ n → n < 2 ^ 31 → length w + 4 < n → length w + 6 ≤ limit → openEndpoint (leBytes 2 k ++ (leBytes 4 n ++ w)) ≡ bad 4 2
+  pub other-version : (k x y : ℕ) (r w : List ℕ) → Dials k → x < 256 → y < 256 → ((x ≡ 1) × (y ≡ 1) → ⊥) → length (Framed k (x ∷ y ∷ r) w) ≤ limit
+      → openEndpoint (Framed k (x ∷ y ∷ r) w) ≡ bad 6 6
+  pub bad-host : (k : ℕ) (r w : List ℕ) (c q : ℕ) → Dials k → string r ≡ bad c q → length (Framed k (1 ∷ 1 ∷ r) w) ≤ limit
+      → openEndpoint (Framed k (1 ∷ 1 ∷ r) w) ≡ bad c (8 + q)
+  pub no-port : (k : ℕ) (h u w : List ℕ) → Dials k → Utf8 h → length u < 4 → length (Framed k (1 ∷ 1 ∷ (stringBytes h ++ u)) w) ≤ limit
+      → openEndpoint (Framed k (1 ∷ 1 ∷ (stringBytes h ++ u)) w) ≡ bad 4 (portPlace h)
+  pub bad-port : (k : ℕ) (h : List ℕ) (p : ℕ) (u w : List ℕ) → Dials k → Utf8 h → p < 2 ^ 32 → (Port p → ⊥) → length (Framed k (1 ∷ 1 ∷ (stringBytes h ++ (leBytes 4 p ++ u))) w) ≤ limit
+      → openEndpoint (Framed k (1 ∷ 1 ∷ (stringBytes h ++ (leBytes 4 p ++ u))) w) ≡ bad 27 (portPlace h)
+  pub no-timeout : (k : ℕ) (h : List ℕ) (p : ℕ) (u w : List ℕ) → Dials k → (k ≡ 3 → ⊥) → Utf8 h → Port p → length u < 4 → length (Framed k (1 ∷ 1 ∷ (stringBytes h ++ (leBytes 4 p ++ u))) w) ≤ limit
+      → openEndpoint (Framed k (1 ∷ 1 ∷ (stringBytes h ++ (leBytes 4 p ++ u))) w) ≡ bad 4 (portPlace h + 4)
+  pub left-over : (e : Address) (x : ℕ) (r w : List ℕ) → Proper e → length (Framed (e .kind) (1 ∷ 1 ∷ (addressBytes e ++ (x ∷ r))) w) ≤ limit
+      → openEndpoint (Framed (e .kind) (1 ∷ 1 ∷ (addressBytes e ++ (x ∷ r))) w) ≡ bad 11 2
+  pub behind : (e : Address) (x : ℕ) (r : List ℕ) → Proper e → length (endpointBytes e ++ (x ∷ r)) ≤ limit
+      → openEndpoint (endpointBytes e ++ (x ∷ r)) ≡ bad 18 (length (endpointBytes e))
+  pub behind-other : (k : ℕ) (d : List ℕ) (x : ℕ) (r : List ℕ) → k < 2 ^ 16 → (Dials k → ⊥) → 2 ≤ length d → length (Framed k d (x ∷ r)) ≤ limit
+      → openEndpoint (Framed k d (x ∷ r)) ≡ bad 18 (6 + length d)
+
+abbrev pub OpenRefused : Type 0
+OpenRefused = OpenRefusals
+
+-- ---- an endpoint in its proxy
+
+-- A proxy that the reader refuses is refused with the same number and place; bytes after a proxy are 18.
+pub record LocateRefusals (i : ℕ) (p : List ℕ) : Type 0 where
+  pub too-long : limit < length p → locating i p ≡ bad 3 0
+  pub refused : (c q : ℕ) → length p ≤ limit → proxy p ≡ bad c q → locating i p ≡ bad c q
+  pub behind : (n : ℕ) → length p ≤ limit → proxy p ≡ ok tt n → n < length p → locating i p ≡ bad 18 n
+
+abbrev pub LocateRefused : Type 0
+LocateRefused = (i : ℕ) (p : List ℕ) → LocateRefusals i p
+
+-- what is found: endpoint i is there, or there are no more than i
+pub record Found (i : ℕ) (p : List ℕ) (s : Spot) : Type 0 where
+  pub is-there : i < s .count → endpoint (drop (s .place) p) ≡ ok tt (s .len)
+  pub within : s .place + s .len ≤ length p
+  pub is-none : s .count ≤ i → (s .place ≡ 0) × (s .len ≡ 0)
+
+-- Of an accepted proxy each endpoint is found. Rules out a call that refuses it or that gives another part of it.
+abbrev pub LocateThere : Type 0
+LocateThere = (i : ℕ) (p : List ℕ) → length p ≤ limit → proxy p ≡ ok tt (length p) → (s : Spot) × (n : ℕ) × (locating i p ≡ ok s n) × Found i p s

@@ -50,7 +50,7 @@ opens-not k n = go (opens k) refl
     go true e = absurd (n (opens-ok k e))
     go false e = e
 
-dials-few : {k : ℕ} → Dials k → k ≤ 3
+pub dials-few : {k : ℕ} → Dials k → k ≤ 3
 dials-few tcp = omega arith
 dials-few ssl = omega arith
 dials-few udp = omega arith
@@ -59,6 +59,10 @@ dials-few udp = omega arith
 timed-ok : (k : ℕ) → timed k ≡ false → k ≡ 3
 unfolding timed
 timed-ok k h = eqb-true k 3 (not-false (eqb k 3) h)
+
+pub is-timed : (k : ℕ) → (k ≡ 3 → ⊥) → timed k ≡ true
+unfolding timed
+is-timed k z = rw (ne-eqb k 3 z)
 
 timed-step : (k : ℕ) → k ≡ 3 → timed k ≡ false
 unfolding timed

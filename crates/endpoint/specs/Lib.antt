@@ -7,3 +7,7 @@ pub mod EndpointLaws
 pub mod RefusalLaws
 pub mod Layout
 pub mod ProxyRefusals
+pub mod OpenRefusals
+pub mod LocateLaws
+pub mod EndpointCases
+pub mod Promises

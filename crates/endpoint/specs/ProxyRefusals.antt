@@ -1,5 +1,6 @@
--- Every refusal of a proxy has a small number. Assumes nothing.
+-- What is read of a proxy lies within it, and every refusal of it has a small number. Assumes nothing.
 --
+--   held-..          what is read before the endpoints
 --   Few              at most 27
 --   refuses-..       of a proxy, of what is read before its endpoints, of its endpoints
 use mathlib.Core.Bool.{_&&_}
@@ -8,11 +9,38 @@ use native.Mathlib.Omega.{arith}
 use lib.ListN.{length}
 use lib.Dec.{eqb, ltb}
 use Rattle.encoding.specs.Result.{Parser, pick, _>>=_, pure, skip, must, mapc, times}
+use Rattle.encoding.specs.ResultLaws.{Held, held-bind, held-pure, held-pick, held-skip, held-must, held-mapc, held-times}
 use Rattle.encoding.specs.Number.{byte, bool, boolForm, size, string}
+use Rattle.encoding.specs.NumberLaws.{held-size}
+use Rattle.encoding.specs.ValueLaws.{held-text, held-identity}
 use Rattle.encoding.specs.Proxy.{identityForm, identity, facetForm, text, facets, modeForm, endpoint, endpoints, versions, reference, proxy}
 use Rattle.proxy.specs.Parts.{named}
 use Rattle.endpoint.specs.Locate.{counted, referenced, generals}
 use Rattle.endpoint.specs.RefusalLaws.{Refuses, Judged, refuses-bind, refuses-pure, refuses-pick, pick-judges, refuses-must, refuses-mapc, refuses-chunk, refuses-number, refuses-bool, refuses-size, refuses-string, refuses-endpoint}
+
+-- ---- within the input
+
+pub held-facets : Held facets
+unfolding facets
+held-facets = held-bind (must facetForm size) (λ n. times n text) (held-must size held-size facetForm) λ n. held-times n text held-text
+
+pub held-counted : Held counted
+unfolding counted
+held-counted = held-bind (skip 6) (λ _. size) (held-skip 6) λ _. held-size
+
+pub held-referenced : Held referenced
+unfolding referenced
+held-referenced = held-bind facets (λ _. counted) held-facets λ _. held-counted
+
+pub held-named : Held named
+unfolding named
+held-named = held-mapc identity held-identity (λ (l : ℕ × ℕ) _. l .0)
+
+pub held-generals : Held generals
+unfolding generals
+held-generals = held-bind named (λ n. pick (eqb n 0) (pure 0) referenced) held-named λ n. held-pick (eqb n 0) (pure 0) referenced (held-pure 0) held-referenced
+
+-- ---- the numbers
 
 abbrev pub Few : ℕ → Type 0
 Few c = c ≤ 27

@@ -1,5 +1,6 @@
 -- Every refusal of opening is one of those that M-106 lists, within the bytes: each way of joining readers keeps this. Assumes nothing.
 --
+--   ended-more, ended-done   bytes left, or none, after what was read
 --   held-..        what the readers take, and where they refuse, lies within the input
 --   Refuses Q p    each refusal number of p has the property Q; refuses-..: each way of joining readers keeps this
 --   open-within    both of opening
@@ -75,6 +76,21 @@ held-ended a (x ∷ xs) = omega arith
 held-typed : Held typed
 unfolding typed
 held-typed = held-bind _ _ (held-bind _ _ (held-number 2) held-encapsulated) held-ended
+
+-- ---- nothing after it
+
+pub ended-more : {A : Type 0} (a : A) (n : ℕ) (s : List ℕ) → n < length s → ended a (drop n s) ≡ bad 18 0
+unfolding ended
+ended-more a n [] h = absurd (omega arith)
+ended-more a zero (x ∷ s) h = refl
+ended-more a (suc n) (x ∷ s) h = ended-more a n s (omega arith)
+
+pub ended-done : {A : Type 0} (a : A) (n : ℕ) (s : List ℕ) → length s ≤ n → ended a (drop n s) ≡ ok a 0
+unfolding ended
+ended-done a zero [] h = refl
+ended-done a (suc n) [] h = refl
+ended-done a zero (x ∷ s) h = absurd (omega arith)
+ended-done a (suc n) (x ∷ s) h = ended-done a n s (omega arith)
 
 -- ---- the numbers
 

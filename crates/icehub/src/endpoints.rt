@@ -1,12 +1,12 @@
 // The calls on one endpoint of a proxy, and where it is in its proxy.
 ghost use mathlib.Core.Path.{_≡_};
 ghost use lib.ListN.{length, getD};
-ghost use Rattle.encoding.specs.Write.{output, writingOf, writingNumbers};
+ghost use Rattle.encoding.specs.Write.{output};
 ghost use Rattle.endpoint.specs.Endpoint.{openEndpoint, openedOf, openedNumbers, openedWithin, withOpened, endpointWriting};
 ghost use Rattle.endpoint.specs.Locate.{locating, locatedOf, locatedNumbers, locatedWithin, withLocated};
 ghost use Rattle.endpoint.specs.Layout.{bit};
 ghost use Rattle.icehub.specs.EndpointNumbers.{openNumber, locateNumber, endpointWriteNumber};
-use encoding::Writing;
+use crate::written_number;
 use endpoint::Opened;
 use endpoint::spots::Located;
 
@@ -51,23 +51,6 @@ pub extern "C" fn icehub_endpoint_place(bytes: &[u8], room: usize) -> u32
     place(endpoint::answer(bytes, room))
 }
 
-// Number i of the writer's answer.
-fn written(a: Writing, i: usize) -> u32
-    ensures { λ r. ⌜ r ≡ getD (writingNumbers a) i 0 ⌝ }
-{
-    match a {
-        Writing::Written(n) => match i {
-            2 => n,
-            _ => 0,
-        },
-        Writing::Rejected(c, p) => match i {
-            0 => c,
-            1 => p,
-            _ => 0,
-        },
-    }
-}
-
 // The writer of one endpoint: 0 or the refusal number, and the endpoint at the output's start.
 // Wrong and ruled out: the refusal's place in place of its number; a call that leaves the output as it was.
 #[no_mangle]
@@ -82,7 +65,7 @@ pub extern "C" fn icehub_endpoint_write(
     ensures { λ r. ⌜ r ≡ endpointWriteNumber kind (now (host .entry)) port timeout (bit compress) (length (now (out .entry))) 0 ⌝ }
     ensures { λ _. ⌜ now (out .exit) ≡ output (endpointWriting kind (now (host .entry)) port timeout (bit compress) (length (now (out .entry)))) (now (out .entry)) ⌝ }
 {
-    written(
+    written_number(
         endpoint::write_endpoint(kind, host, port, timeout, compress, out),
         0,
     )
@@ -101,7 +84,7 @@ pub extern "C" fn icehub_endpoint_write_place(
 ) -> u32
     ensures { λ r. ⌜ r ≡ endpointWriteNumber kind (now (host .entry)) port timeout (bit compress) room 1 ⌝ }
 {
-    written(
+    written_number(
         endpoint::endpoint_written(kind, host, port, timeout, compress, room),
         1,
     )
@@ -120,7 +103,7 @@ pub extern "C" fn icehub_endpoint_write_length(
 ) -> u32
     ensures { λ r. ⌜ r ≡ endpointWriteNumber kind (now (host .entry)) port timeout (bit compress) room 2 ⌝ }
 {
-    written(
+    written_number(
         endpoint::endpoint_written(kind, host, port, timeout, compress, room),
         2,
     )

@@ -6,7 +6,10 @@
 //   3  a call of the writer: type, format, count, length of the rows, bytes of the output; the bytes are rows and buffer
 //   4  a call of the reader with eight row records: top; the bytes are the message
 //   5  a check of the table: no bytes
-// print.rt prints, reads.rt, writes.rt, records.rt and tables.rt make the calls.
+//   12 an endpoint opened: bytes lent for its numbers, 0; the bytes are the endpoint. Or found: bytes lent for its numbers, 1, its number; the bytes are the proxy
+//   13 an endpoint written: type, port, timeout, compress, bytes of the output; the bytes are the host
+// print.rt prints, reads.rt, writes.rt, records.rt, tables.rt and endpoints.rt make the calls.
+mod endpoints;
 mod print;
 mod reads;
 mod records;
@@ -53,6 +56,32 @@ fn split_call<'a, 't>(
     );
 }
 
+// A call on an endpoint.
+fn endpoint_call(head: &[u8; 28], kind: usize, input: &[u8], lent: &mut [u8]) {
+    if kind == 13 {
+        let room = wire::int_at(head, 24);
+        if room <= lent.len() {
+            endpoints::write_call(
+                field(head, 8),
+                input,
+                field(head, 12),
+                field(head, 16),
+                field(head, 20) == 1,
+                &mut lent[0..room],
+            );
+        }
+        return;
+    }
+    let room = wire::int_at(head, 8);
+    if room <= lent.len() {
+        if wire::int_at(head, 12) == 0 {
+            endpoints::open_call(input, &mut lent[0..room]);
+            return;
+        }
+        endpoints::find_call(input, field(head, 16), &mut lent[0..room]);
+    }
+}
+
 // A call with its bytes, and `lent` to be its list or output.
 fn call<'a, 't>(head: &[u8; 28], table: &'t [u8], input: &'a [u8], lent: &mut [u8]) {
     let kind = wire::int_at(head, 0);
@@ -83,6 +112,10 @@ fn call<'a, 't>(head: &[u8; 28], table: &'t [u8], input: &'a [u8], lent: &mut [u
     }
     if kind == 4 {
         records::records_call(table, field(head, 8), input);
+        return;
+    }
+    if 12 <= kind {
+        endpoint_call(head, kind, input, lent);
         return;
     }
     tables::check_call(table);

@@ -1,6 +1,8 @@
 //! The proved library over C (libicehub.a): a slice is its pointer, then its length; 0 or the refusal number comes
 //! back, the place and the other numbers by further calls on the same input.
 
+pub mod endpoint;
+
 use crate::calls::{Answer, Call, LENT};
 use crate::Reading;
 use std::hint::black_box;
@@ -292,6 +294,7 @@ pub fn each(call: &Call, mut run: impl FnMut(&'static str, &mut dyn FnMut())) {
             });
         }
         Call::View { .. } => {}
+        Call::Endpoint(call) => endpoint::each(call, run),
     }
 }
 
@@ -337,5 +340,6 @@ pub fn answer(call: &Call) -> Option<Answer> {
                 unsafe { (icehub_table(table.as_ptr(), table.len()), icehub_table_place(table.as_ptr(), table.len())) };
             Some(Answer::Check { refusal })
         }
+        Call::Endpoint(call) => Some(endpoint::answer(call)),
     }
 }

@@ -2,10 +2,12 @@
 //! unknown optionals and slices in them, conforming, with wrong items in them, with strings that are no text, or damaged;
 //! right and wrong rows for the writer.
 
+mod endpoints;
 mod message;
 mod text;
 mod types;
 
+pub use endpoints::endpoint_calls;
 pub use message::{message, Message, Wrong};
 pub use text::{Made, Text};
 pub use types::Types;

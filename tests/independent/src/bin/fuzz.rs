@@ -1,11 +1,11 @@
 //! fuzz [CALLS [SEED]]: makes calls (1,000,000 by default) of the reader, the writer and the table check, and a member
-//! view of each message read, and compares the proved library with this implementation in every number and every lent
+//! view of each message read, and as many calls that open, write and find an endpoint, and compares the proved library with this implementation in every number and every lent
 //! byte. A difference is printed as a line like those of the recorded calls, the library's answer after it as `got`;
 //! with any, the exit status is 1.
 
 use independent::calls::{Answer, Call};
 use independent::ffi;
-use independent::gen::{Calls, Text};
+use independent::gen::{endpoint_calls, Calls, Rng, Text};
 use std::time::{Instant, SystemTime, UNIX_EPOCH};
 use std::{env, process};
 
@@ -39,6 +39,7 @@ fn main() {
     };
     let mut strings = Text::ALL.map(|what| (what, 0));
     let mut made = Calls::new(seed);
+    let (mut endpoints, mut endpoint_refusals) = (Rng(!seed), [[0; 40]; 3]);
     for index in 0..calls {
         let Some(call) = made.next() else { break };
         let expected = call.answer();
@@ -51,6 +52,11 @@ fn main() {
         if let Some(view) = call.view(index as u32 % 8) {
             compare(&view, &view.answer());
         }
+        for (which, call) in endpoint_calls(&mut endpoints).into_iter().enumerate() {
+            let expected = call.answer();
+            endpoint_refusals[which][expected.refusal() as usize] += 1;
+            compare(&call, &expected);
+        }
     }
     for (version, refusals) in (1..).zip(refusals) {
         let met = refusals.iter().enumerate().filter(|(number, _)| !matches!(number, 1 | 25..=30));
@@ -59,6 +65,11 @@ fn main() {
     }
     let strings: Vec<_> = strings.iter().map(|(what, calls)| format!("{what:?} {calls}")).collect();
     println!("refused by 24, by the string: {}", strings.join(", "));
+    for (what, refusals) in ["opened", "written", "found in a proxy"].into_iter().zip(endpoint_refusals) {
+        let met = refusals.iter().enumerate().filter(|(_, &calls)| calls > 0);
+        let reached: Vec<_> = met.map(|(number, calls)| format!("{number}: {calls}")).collect();
+        println!("answers by refusal number, endpoints {what}: {}", reached.join(", "));
+    }
     println!("{differences} differences in {calls} calls from seed {seed}, {:.1} s", start.elapsed().as_secs_f64());
     process::exit(i32::from(differences != 0));
 }
