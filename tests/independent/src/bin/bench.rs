@@ -2,6 +2,8 @@
 //! of several rounds, the rounds of the two in turn. Then times two calls of C against the reader's in the same way, and
 //! the reader of a message that is one long string against the standard library's check of that string.
 
+use independent::endpoint::{self, Given};
+use independent::ffi::endpoint as endpoint_ffi;
 use independent::spec::Spec;
 use independent::{ffi, read, write};
 use std::hint::black_box;
@@ -153,6 +155,32 @@ fn size(size: u32) -> Vec<u8> {
     [&[255][..], &size.to_le_bytes()].concat()
 }
 
+/// An endpoint opened and written, and found as the last of eight in its proxy.
+fn endpoints() {
+    let given = Given { kind: 1, host: b"guard.cabins.local".to_vec(), port: 4_061, timeout: 60_000, compress: false };
+    let mut out = [0; 64];
+    let length = endpoint::write_endpoint(&given, &mut out).unwrap_or_default() as usize;
+    let bytes = &out[..length].to_vec();
+    let mut numbers = [0; endpoint::OPENED];
+    let opened = || number(endpoint::open(black_box(bytes)).map(black_box));
+    report(
+        &format!("endpoint: open, {length} bytes"),
+        || endpoint_ffi::open(black_box(bytes), &mut numbers),
+        opened,
+        0,
+    );
+    let mut other = out;
+    report(
+        &format!("endpoint: write, {length} bytes"),
+        || endpoint_ffi::write(black_box(&given), &mut out),
+        || number(endpoint::write_endpoint(black_box(&given), &mut other)),
+        0,
+    );
+    let proxy = [&b"\x05guard\0\0\0\0\x01\0\x01\x01\x08"[..], &bytes.repeat(8)].concat();
+    let found = || number(endpoint::endpoint_at(black_box(&proxy), 7).map(black_box));
+    report("proxy: last of 8 endpoints", || endpoint_ffi::locate(black_box(&proxy), 7, &mut numbers), found, 0);
+}
+
 /// The heads of the columns.
 fn heads(call: &str, other: &str) {
     println!("{:<46} {call:>12} {other:>12} {:>8}", "ns a call", "ratio");
@@ -281,6 +309,10 @@ fn main() {
     let top = spec.owner(15, &[(parts, None)]);
     let member = spec.members.len() - 1;
     Case::new("65,525 deep bools", &spec, top, &[(member, [size(65_525), vec![1; 65_525]].concat())]).run();
+
+    println!();
+    heads("library", "independent");
+    endpoints();
 
     println!();
     heads("call", "icehub_read");
