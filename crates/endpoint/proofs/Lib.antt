@@ -2,4 +2,3 @@
 pub mod Laws
 pub mod Openings
 pub mod Writings
-pub mod Locating

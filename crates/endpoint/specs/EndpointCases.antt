@@ -1,18 +1,14 @@
--- Endpoints byte by byte: two of document 004's layouts opened and written, each refusal of opening by a call on a few bytes, and endpoints found in a proxy.
+-- Endpoints byte by byte: two of document 004's layouts opened and written, and each refusal of opening by a call on a few bytes.
 --
 --   tcp, udp                 TCP and UDP to port 4061 of host `hub`, timeout 60,000, compressed
 --   opened-right, -refused   their numbers; each refusal with its place, also where what follows is wrong too
 --   written-right            the writer makes just these bytes; a timeout given for UDP is not written
---   full, adapted            a proxy with both endpoints; one with an adapter
---   found                    how many endpoints there are, place and length of one
 use mathlib.Core.Path.{_≡_, refl}
 use mathlib.Core.List.{List, [], _∷_, _++_, map}
 use Prim.Native.Nat.{ℕ}
 use Rattle.encoding.specs.Write
 use Rattle.encoding.specs.Cases.{computed}
-use Rattle.proxy.specs.Parts
 use Rattle.endpoint.specs.Endpoint
-use Rattle.endpoint.specs.Locate
 
 abbrev pub tcp : List ℕ
 tcp = 1 ∷ 0 ∷ 19 ∷ 0 ∷ 0 ∷ 0 ∷ 1 ∷ 1 ∷ 3 ∷ 104 ∷ 117 ∷ 98 ∷ 221 ∷ 15 ∷ 0 ∷ 0 ∷ 96 ∷ 234 ∷ 0 ∷ 0 ∷ 1 ∷ []
@@ -26,7 +22,7 @@ unfolding Endpoint.openedNumbers Endpoint.openedOf
 numbersOf b = Endpoint.openedNumbers (Endpoint.openedOf (Endpoint.openEndpoint b))
 
 unfoldable all-open : ℕ
-unfolding computed numbersOf Endpoint.opens Endpoint.timed Endpoint.noPort Endpoint.timeoutBytes Endpoint.addressBytes Endpoint.endpointBytes Endpoint.portForm Endpoint.port Endpoint.timeout Endpoint.flag Endpoint.address Endpoint.versioned Endpoint.encapsulated Endpoint.typed Endpoint.openEndpoint Endpoint.hostPlace Endpoint.openedOf Endpoint.openedNumbers Endpoint.addressOf Endpoint.argumentForm Endpoint.endpointWriting Write.next Write.stoppedFirst Write.bounded Parts.named Locate.counted Locate.referenced Locate.generals Locate.started Locate.apart Locate.placed Locate.spotAt Locate.unlessBad Locate.locating Locate.locatedOf Locate.locatedNumbers
+unfolding computed numbersOf Endpoint.opens Endpoint.timed Endpoint.noPort Endpoint.timeoutBytes Endpoint.addressBytes Endpoint.endpointBytes Endpoint.portForm Endpoint.port Endpoint.timeout Endpoint.flag Endpoint.address Endpoint.versioned Endpoint.encapsulated Endpoint.typed Endpoint.openEndpoint Endpoint.hostPlace Endpoint.openedOf Endpoint.openedNumbers Endpoint.addressOf Endpoint.argumentForm Endpoint.endpointWriting Write.next Write.stoppedFirst Write.bounded
 all-open = 0
 
 pub opened-right : map numbersOf (tcp ∷ udp ∷ (4 ∷ 0 ∷ 6 ∷ 0 ∷ 0 ∷ 0 ∷ 9 ∷ 9 ∷ []) ∷ [])
@@ -63,24 +59,3 @@ pub written-right : Endpoint.endpointWriting 1 (104 ∷ 117 ∷ 98 ∷ []) 4061 
     ≡ Write.out tcp ∷ Write.out udp ∷ []
 unfolding all-open
 written-right = refl
-
--- identity `n`, no category, no facet, twoway, not secure, protocol 1.0, encoding 1.1
-abbrev pub general : List ℕ
-general = 1 ∷ 110 ∷ 0 ∷ 0 ∷ 0 ∷ 0 ∷ 1 ∷ 0 ∷ 1 ∷ 1 ∷ []
-
-abbrev pub full : List ℕ
-full = general ++ (2 ∷ []) ++ tcp ++ udp
-
-abbrev pub adapted : List ℕ
-adapted = general ++ (0 ∷ 1 ∷ 97 ∷ [])
-
--- what finding answers, as numbers
-unfoldable pub spotOf : ℕ → List ℕ → List ℕ
-unfolding Locate.locatedNumbers Locate.locatedOf
-spotOf i p = Locate.locatedNumbers (Locate.locatedOf (Locate.locating i p))
-
-pub found : spotOf 0 full ∷ spotOf 1 full ∷ spotOf 2 full ∷ spotOf 0 adapted ∷ spotOf 0 (0 ∷ 0 ∷ []) ∷ spotOf 0 (full ++ (7 ∷ [])) ∷ spotOf 0 (0 ∷ 1 ∷ 97 ∷ []) ∷ []
-    ≡ (0 ∷ 0 ∷ 2 ∷ 11 ∷ 21 ∷ []) ∷ (0 ∷ 0 ∷ 2 ∷ 32 ∷ 17 ∷ []) ∷ (0 ∷ 0 ∷ 2 ∷ 0 ∷ 0 ∷ []) ∷ (0 ∷ 0 ∷ 0 ∷ 0 ∷ 0 ∷ []) ∷ (0 ∷ 0 ∷ 0 ∷ 0 ∷ 0 ∷ [])
-    ∷ (18 ∷ 49 ∷ 0 ∷ 0 ∷ 0 ∷ []) ∷ (10 ∷ 0 ∷ 0 ∷ 0 ∷ 0 ∷ []) ∷ []
-unfolding all-open spotOf
-found = refl

@@ -1,9 +1,8 @@
 -- Every promise of `EndpointDemands`, with its proof.
-use Rattle.endpoint.specs.EndpointDemands.{EndpointExact, OtherExact, HostThere, EndpointBack, EndpointAgain, WriteRefused, OpenWithin, OpenRefused, LocateRefused, LocateThere}
+use Rattle.endpoint.specs.EndpointDemands.{EndpointExact, OtherExact, HostThere, EndpointBack, EndpointAgain, WriteRefused, OpenWithin, OpenRefused}
 use Rattle.endpoint.specs.EndpointLaws.{endpoint-exact, other-exact, host-there, endpoint-back, endpoint-again, write-refused}
 use Rattle.endpoint.specs.RefusalLaws.{open-within}
 use Rattle.endpoint.specs.OpenRefusals.{open-refused}
-use Rattle.endpoint.specs.LocateLaws.{locate-refused, locate-there}
 
 pub record Promises : Type 0 where
   pub exact : EndpointExact
@@ -14,8 +13,6 @@ pub record Promises : Type 0 where
   pub writer-refuses : WriteRefused
   pub within : OpenWithin
   pub refuses : OpenRefused
-  pub locate-refuses : LocateRefused
-  pub located : LocateThere
 
 pub promises : Promises
 promises = record {
@@ -27,6 +24,4 @@ promises = record {
   writer-refuses = write-refused;
   within = open-within;
   refuses = open-refused;
-  locate-refuses = locate-refused;
-  located = locate-there;
 }

@@ -1,12 +1,8 @@
-// One endpoint of a proxy, opened and written (document 02, M-106); and where it is in its proxy. No public call asks anything of its input.
-// fields.rt reads what an endpoint of TCP, SSL and UDP holds, writes.rt puts it, spots.rt finds it in its proxy.
+// One endpoint of a proxy, opened and written (document 02, M-106). No public call asks anything of its input.
+// fields.rt reads what an endpoint of TCP, SSL and UDP holds, writes.rt puts it.
 pub mod fields;
-pub mod spots;
 pub mod writes;
 
-pub use spots::endpoint_at;
-pub use spots::endpoint_at_answer;
-pub use spots::endpoint_at_numbers;
 pub use writes::endpoint_written;
 pub use writes::write_endpoint;
 ghost use mathlib.Core.Path.{_≡_};

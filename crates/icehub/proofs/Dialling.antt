@@ -6,11 +6,11 @@ use mathlib.Core.Path.{_≡_, sym, ap, _∙_}
 use Prim.Native.Nat.{ℕ}
 use lib.ListN.{getD}
 use Rattle.endpoint.specs.Endpoint.{openedNumbers}
-use Rattle.endpoint.specs.Locate.{locatedNumbers}
+use Rattle.locate.specs.Locate.{locatedNumbers}
 use Rattle.endpoint.specs.declared.Opened.{Opened}
 use Rattle.endpoint.specs.declared.Opened.the-variants.{Is, Unopened, Refused}
-use Rattle.endpoint.specs.declared.spots.Located.{Located}
-use Rattle.endpoint.specs.declared.spots.Located.the-variants.{At, Refused as Lost}
+use Rattle.locate.specs.declared.Located.{Located}
+use Rattle.locate.specs.declared.Located.the-variants.{At, Refused as Lost}
 
 module _ (o : Opened) where
   module _ (k a n p t c : ℕ) (e : o ≡ Is k a n p t c) where

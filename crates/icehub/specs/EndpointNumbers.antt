@@ -8,7 +8,7 @@ use Prim.Native.Nat.{ℕ}
 use lib.ListN.{getD}
 use Rattle.encoding.specs.Write.{writingOf, writingNumbers}
 use Rattle.endpoint.specs.Endpoint.{openEndpoint, openedOf, openedNumbers, openedWithin, endpointWriting}
-use Rattle.endpoint.specs.Locate.{locating, locatedOf, locatedNumbers, locatedWithin}
+use Rattle.locate.specs.Locate.{locating, locatedOf, locatedNumbers, locatedWithin}
 
 abbrev pub openNumber : List ℕ → ℕ → ℕ → ℕ
 openNumber b room i = getD (openedNumbers (openedWithin room (openedOf (openEndpoint b)))) i 0

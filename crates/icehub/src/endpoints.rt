@@ -3,12 +3,12 @@ ghost use mathlib.Core.Path.{_≡_};
 ghost use lib.ListN.{length, getD};
 ghost use Rattle.encoding.specs.Write.{output};
 ghost use Rattle.endpoint.specs.Endpoint.{openEndpoint, openedOf, openedNumbers, openedWithin, withOpened, endpointWriting};
-ghost use Rattle.endpoint.specs.Locate.{locating, locatedOf, locatedNumbers, locatedWithin, withLocated};
+ghost use Rattle.locate.specs.Locate.{locating, locatedOf, locatedNumbers, locatedWithin, withLocated};
 ghost use Rattle.endpoint.specs.Layout.{bit};
 ghost use Rattle.icehub.specs.EndpointNumbers.{openNumber, locateNumber, endpointWriteNumber};
 use crate::written_number;
 use endpoint::Opened;
-use endpoint::spots::Located;
+use locate::Located;
 
 // The refusal number of an answer; 0 if it refuses nothing.
 fn refusal(o: Opened) -> u32
@@ -136,7 +136,7 @@ pub extern "C" fn icehub_proxy_endpoint(proxy: &[u8], n: u32, numbers: &mut [u8]
     ensures { λ r. ⌜ r ≡ locateNumber (now (proxy .entry)) n (length (now (numbers .entry))) 0 ⌝ }
     ensures { λ _. ⌜ now (numbers .exit) ≡ withLocated (locatedWithin (length (now (numbers .entry))) (locatedOf (locating n (now (proxy .entry))))) (now (numbers .entry)) ⌝ }
 {
-    located_refusal(endpoint::endpoint_at_numbers(proxy, n, numbers))
+    located_refusal(locate::endpoint_at_numbers(proxy, n, numbers))
 }
 
 // The refusal's place; 0 if the proxy is accepted.
@@ -145,5 +145,5 @@ pub extern "C" fn icehub_proxy_endpoint(proxy: &[u8], n: u32, numbers: &mut [u8]
 pub extern "C" fn icehub_proxy_endpoint_place(proxy: &[u8], n: u32, room: usize) -> u32
     ensures { λ r. ⌜ r ≡ locateNumber (now (proxy .entry)) n room 1 ⌝ }
 {
-    located_place(endpoint::endpoint_at_answer(proxy, n, room))
+    located_place(locate::endpoint_at_answer(proxy, n, room))
 }

@@ -3,8 +3,8 @@
 use crate::print;
 use crate::writes;
 use endpoint::Opened;
-use endpoint::spots::Located;
 use libc::STDOUT_FILENO;
+use locate::Located;
 
 // Prints a refusal of a call with n numbers.
 fn refused(c: u32, p: u32, n: usize) {
@@ -59,7 +59,7 @@ pub fn open_call(bytes: &[u8], numbers: &mut [u8]) {
 // Finds an endpoint in its proxy.
 pub fn find_call(proxy: &[u8], n: u32, numbers: &mut [u8]) {
     print::mark(numbers);
-    let o = endpoint::endpoint_at_numbers(proxy, n, numbers);
+    let o = locate::endpoint_at_numbers(proxy, n, numbers);
     match o {
         Located::At(count, place, length) => {
             given(numbers, 3);
