@@ -3,7 +3,7 @@
 use std::fs;
 use std::path::{Path, PathBuf};
 
-const PAGES: [&str; 12] = [
+const PAGES: [&str; 13] = [
     "README.md",
     "docs/DECISIONS.md",
     "docs/PROVING.md",
@@ -13,6 +13,7 @@ const PAGES: [&str; 12] = [
     "docs/changes/M-100.md",
     "docs/changes/M-101.md",
     "docs/changes/M-102.md",
+    "docs/changes/M-106.md",
     "samples/README.md",
     "bindings/rust/README.md",
     "tests/independent/README.md",
