@@ -27,6 +27,9 @@
 
 #include <stddef.h>
 #include <stdint.h>
+#ifndef __cplusplus
+#include <stdbool.h>
+#endif
 
 #ifdef __cplusplus
 extern "C" {
@@ -43,6 +46,8 @@ enum {
     ICEHUB_NUMBERS_SIZE = 20,  /* bytes of the numbers of icehub_read_numbers */
     ICEHUB_VIEW_SIZE = 12,     /* bytes of the numbers of icehub_member */
     ICEHUB_ANSWER_SIZE = 28,   /* bytes of one answer of icehub_night */
+    ICEHUB_ENDPOINT_SIZE = 28, /* bytes of the numbers of icehub_endpoint */
+    ICEHUB_PROXY_ENDPOINT_SIZE = 12, /* bytes of the numbers of icehub_proxy_endpoint */
     ICEHUB_MOST_ROWS = 1024,   /* no message has more rows */
     ICEHUB_MOST_BYTES = 65536  /* no message is longer, and no buffer of the writer */
 };
@@ -55,7 +60,8 @@ enum {
 /* Every string of an accepted message is text: well-formed UTF-8 as RFC 3629 has it, with the shortest form of each
  * character, no surrogates, nothing above U+10FFFF. So are type IDs, and the names of a table's records. A string may be
  * empty, may hold U+0000 and has no zero byte at its end: its length is its size. What is skipped is not judged:
- * optionals and slices that the table does not know. Nor are the bytes of an endpoint. */
+ * optionals and slices that the table does not know. Nor are the bytes of an endpoint, until
+ * icehub_endpoint opens it. */
 
 /* The format of a message. A parameter list of encoding 1.1 has ICEHUB_SLICED. */
 enum icehub_format {
@@ -124,6 +130,8 @@ enum icehub_refusal {
     ICEHUB_BAD_OLD_HEADER = 25,
     /* encoding 1.0 where the type, a base of it or a record that descends from it has optionals. Place: 0. */
     ICEHUB_OLD_OPTIONALS = 26,
+    /* an endpoint's port is not 1 to 65,535. Place: the port; 0 for the writer of an endpoint. */
+    ICEHUB_BAD_PORT = 27,
     /* 31 to 39: the table breaks a rule, the first of this order that its first broken row breaks. Lists of enumerators
      * (39) are judged after all type rows. */
     /* the table's header is wrong, or its length is not what the header says. Place: 0. */
@@ -345,6 +353,56 @@ size_t icehub_night(const uint8_t *table, size_t table_len, uint32_t top, const 
 size_t icehub_night_place(const uint8_t *table, size_t table_len, uint32_t top, const uint8_t *buffer,
                           size_t buffer_len, size_t answers_len, size_t rows_len);
 
+/* ---- One endpoint of a proxy ----
+ *
+ * An endpoint is a type of two bytes and an encapsulation. Endpoints of TCP, SSL and UDP hold an address; what another
+ * type holds is not read. A place counts bytes from the endpoint's first byte, or from the proxy's. In these calls 6 is at
+ * the endpoint's version (place 6), and 24 of the writer is at 0. */
+
+/* The types of endpoints that are opened. */
+enum icehub_endpoint_type {
+    ICEHUB_TCP = 1,
+    ICEHUB_SSL = 2,
+    ICEHUB_UDP = 3
+};
+
+/* Finds an endpoint of a proxy. `proxy` is the bytes of one proxy of encoding 1.1, all of them and nothing else, as the
+ * row of a member of that type has them; the endpoints count from 0. Returns ICEHUB_OK: `numbers` begins with three numbers
+ * of 32 bits, little-endian: how many endpoints the proxy has, then place and length of endpoint n, 0 and 0 if there is
+ * none. Bytes beyond ICEHUB_PROXY_ENDPOINT_SIZE are unchanged. Or returns the refusal of the proxy, ICEHUB_LEFT_OVER for
+ * bytes after it, or last ICEHUB_OUTPUT_TOO_LONG if numbers_len is below ICEHUB_PROXY_ENDPOINT_SIZE: `numbers` is
+ * unchanged. */
+uint32_t icehub_proxy_endpoint(const uint8_t *proxy, size_t proxy_len, uint32_t n, uint8_t *numbers, size_t numbers_len);
+
+/* The place of the refusal; 0 where the proxy is accepted. */
+uint32_t icehub_proxy_endpoint_place(const uint8_t *proxy, size_t proxy_len, uint32_t n, size_t numbers_len);
+
+/* Opens an endpoint. `bytes` is one endpoint, all of it and nothing else. Returns ICEHUB_OK: `numbers` begins with seven
+ * numbers of 32 bits, little-endian: 1 if it was opened and else 0; the type; place and length of the host's bytes, without
+ * their size; port; timeout; compress. The timeout is any int (as an unsigned number), and 0 in UDP, which has none. Of a
+ * type that is not opened only the type is told, and the rest is 0. Bytes beyond ICEHUB_ENDPOINT_SIZE are unchanged. Or
+ * returns a refusal, last ICEHUB_OUTPUT_TOO_LONG if numbers_len is below ICEHUB_ENDPOINT_SIZE: `numbers` is unchanged. */
+uint32_t icehub_endpoint(const uint8_t *bytes, size_t bytes_len, uint8_t *numbers, size_t numbers_len);
+
+/* The place of the refusal; 0 where there is none. */
+uint32_t icehub_endpoint_place(const uint8_t *bytes, size_t bytes_len, size_t numbers_len);
+
+/* Writes an endpoint of ICEHUB_TCP, ICEHUB_SSL or ICEHUB_UDP. The host is text without a size. A timeout given for UDP is
+ * ignored. Returns ICEHUB_OK: the endpoint is at the start of `out`, as long as icehub_endpoint_write_length says, and the
+ * bytes after it are unchanged. Or returns a refusal, `out` is unchanged: ICEHUB_BAD_TYPE for another type,
+ * ICEHUB_INPUT_TOO_LONG for a host over 65,536 bytes, ICEHUB_BAD_TEXT, ICEHUB_BAD_PORT, ICEHUB_OUTPUT_TOO_LONG, the first
+ * of this order. */
+uint32_t icehub_endpoint_write(uint32_t type, const uint8_t *host, size_t host_len, uint32_t port, uint32_t timeout,
+                               bool compress, uint8_t *out, size_t out_len);
+
+/* The place of the refusal: the length needed for ICEHUB_OUTPUT_TOO_LONG, else 0. */
+uint32_t icehub_endpoint_write_place(uint32_t type, const uint8_t *host, size_t host_len, uint32_t port,
+                                     uint32_t timeout, bool compress, size_t out_len);
+
+/* The length of the endpoint that icehub_endpoint_write makes; 0 where it refuses. */
+uint32_t icehub_endpoint_write_length(uint32_t type, const uint8_t *host, size_t host_len, uint32_t port,
+                                      uint32_t timeout, bool compress, size_t out_len);
+
 /* ---- Rows, numbers and refusals, for C callers ----
  *
  * These functions are C, compiled with the caller: no proof is about them, and they call nothing. They check no length:
@@ -449,6 +507,7 @@ static inline const char *icehub_refusal_name(uint32_t refusal)
     case ICEHUB_BAD_TEXT: return "BAD_TEXT";
     case ICEHUB_BAD_OLD_HEADER: return "BAD_OLD_HEADER";
     case ICEHUB_OLD_OPTIONALS: return "OLD_OPTIONALS";
+    case ICEHUB_BAD_PORT: return "BAD_PORT";
     case ICEHUB_BAD_TABLE_HEADER: return "BAD_TABLE_HEADER";
     case ICEHUB_BAD_TABLE_ZEROS: return "BAD_TABLE_ZEROS";
     case ICEHUB_BAD_TABLE_KIND: return "BAD_TABLE_KIND";
@@ -505,6 +564,7 @@ static inline const char *icehub_refusal_text(uint32_t refusal)
     case ICEHUB_OLD_OPTIONALS:
         return "encoding 1.0 where the type, a base of it or a record that descends from it has "
                "optionals";
+    case ICEHUB_BAD_PORT: return "an endpoint's port is not 1 to 65,535";
     case ICEHUB_BAD_TABLE_HEADER: return "the table's header is wrong, or its length is not what the header says";
     case ICEHUB_BAD_TABLE_ZEROS:
         return "in a row of the table a zero byte or an unused field is not 0, or a required member has a "

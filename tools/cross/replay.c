@@ -18,7 +18,7 @@
 enum { LENT = 0xAA, MOST_LINE = 1 << 20, MOST_INPUT = 1 << 18 };
 
 /* The kinds of records, and how many numbers begin one. */
-enum { TABLE, READ, VIEW, WRITE, RECORDS, CHECK, CONVERT, NIGHT = 9, KINDS, HEAD = 7 };
+enum { TABLE, READ, VIEW, WRITE, RECORDS, CHECK, CONVERT, NIGHT = 9, ENDPOINT = 12, ENDPOINT_WRITE, KINDS, HEAD = 7 };
 
 static uint8_t table[ICEHUB_MOST_BYTES], input[MOST_INPUT], rows[ICEHUB_MOST_BYTES], again[ICEHUB_MOST_BYTES],
     out[ICEHUB_MOST_BYTES];
@@ -315,6 +315,47 @@ static void night_call(uint32_t top, const uint8_t *buffer, size_t buffer_len, s
     }
 }
 
+/* Opens an endpoint, or finds one in its proxy. */
+static void endpoint_call(size_t room, uint32_t is_found, uint32_t wanted, const uint8_t *bytes, size_t bytes_len)
+{
+    const size_t count = is_found ? 3 : 7;
+    uint32_t refusal, place;
+    size_t i, given;
+    memset(rows, LENT, sizeof rows);
+    if (is_found) {
+        refusal = icehub_proxy_endpoint(bytes, bytes_len, wanted, rows, room);
+        place = icehub_proxy_endpoint_place(bytes, bytes_len, wanted, room);
+    } else {
+        refusal = icehub_endpoint(bytes, bytes_len, rows, room);
+        place = icehub_endpoint_place(bytes, bytes_len, room);
+    }
+    given = refusal == ICEHUB_OK ? count : 0;
+    put("%" PRIu32 " %" PRIu32 " ", refusal, place);
+    for (i = 0; i < count; i++) {
+        put("%" PRIu32 " ", i < given ? icehub_number(rows, i) : 0);
+    }
+    if (!is_kept(rows + 4 * given, room - 4 * given)) {
+        put("touched");
+    }
+}
+
+static void endpoint_write_call(const uint32_t *n, const uint8_t *host, size_t host_len)
+{
+    const uint32_t type = n[2], port = n[3], timeout = n[4];
+    const bool compress = n[5] == 1;
+    const size_t room = n[6];
+    uint32_t refusal, length;
+    memset(out, LENT, sizeof out);
+    refusal = icehub_endpoint_write(type, host, host_len, port, timeout, compress, out, room);
+    length = icehub_endpoint_write_length(type, host, host_len, port, timeout, compress, room);
+    put("%" PRIu32 " %" PRIu32 " %" PRIu32 " ", refusal,
+        icehub_endpoint_write_place(type, host, host_len, port, timeout, compress, room), length);
+    put_hex(out, length);
+    if (!is_kept(out + length, room - length)) {
+        put(" touched");
+    }
+}
+
 static void replay(FILE *calls, FILE *answers)
 {
     uint8_t head[4 * HEAD];
@@ -364,6 +405,18 @@ static void replay(FILE *calls, FILE *answers)
             }
             night_call(n[2], input, length, n[3], n[4]);
             break;
+        case ENDPOINT:
+            if (n[2] > sizeof rows) {
+                stop("a call is too long");
+            }
+            endpoint_call(n[2], n[3], n[4], input, length);
+            break;
+        case ENDPOINT_WRITE:
+            if (n[6] > sizeof out) {
+                stop("a call is too long");
+            }
+            endpoint_write_call(n, input, length);
+            break;
         default: stop("a record of an unknown kind");
         }
         compare(answers, n[0]);
@@ -386,8 +439,8 @@ int main(int argc, char **argv)
         stop("more answers than calls");
     }
     printf("%lu of %lu recorded calls agree: %lu readings, %lu writings, %lu views, %lu row records, %lu tables, "
-           "%lu conversions, %lu nights\n",
+           "%lu conversions, %lu nights, %lu endpoints\n",
            lines - differed, lines, agreed[READ], agreed[WRITE], agreed[VIEW], agreed[RECORDS], agreed[CHECK],
-           agreed[CONVERT], agreed[NIGHT]);
+           agreed[CONVERT], agreed[NIGHT], agreed[ENDPOINT] + agreed[ENDPOINT_WRITE]);
     return differed > 0 || lines == 0;
 }

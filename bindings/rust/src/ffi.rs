@@ -264,3 +264,78 @@ pub fn night_place(table: &[u8], top: u32, buffer: &[u8], answers: usize, rows: 
     // SAFETY: as above; nothing is written.
     unsafe { icehub_night_place(table.as_ptr(), table.len(), top, buffer.as_ptr(), buffer.len(), answers, rows) }
 }
+
+extern "C" {
+    fn icehub_proxy_endpoint(proxy: *const u8, proxy_len: usize, n: u32, numbers: *mut u8, numbers_len: usize) -> u32;
+    fn icehub_proxy_endpoint_place(proxy: *const u8, proxy_len: usize, n: u32, numbers_len: usize) -> u32;
+    fn icehub_endpoint(bytes: *const u8, bytes_len: usize, numbers: *mut u8, numbers_len: usize) -> u32;
+    fn icehub_endpoint_place(bytes: *const u8, bytes_len: usize, numbers_len: usize) -> u32;
+    fn icehub_endpoint_write(
+        of: u32,
+        host: *const u8,
+        host_len: usize,
+        port: u32,
+        timeout: u32,
+        compress: bool,
+        out: *mut u8,
+        out_len: usize,
+    ) -> u32;
+    fn icehub_endpoint_write_place(
+        of: u32,
+        host: *const u8,
+        host_len: usize,
+        port: u32,
+        timeout: u32,
+        compress: bool,
+        out_len: usize,
+    ) -> u32;
+    fn icehub_endpoint_write_length(
+        of: u32,
+        host: *const u8,
+        host_len: usize,
+        port: u32,
+        timeout: u32,
+        compress: bool,
+        out_len: usize,
+    ) -> u32;
+}
+
+/// Finds an endpoint of a proxy: how many there are, place and length; or the number and the place of a refusal.
+pub fn proxy_endpoint(proxy: &[u8], n: u32) -> Result<[u32; 3], (u32, u32)> {
+    let mut numbers = [0; 12];
+    // SAFETY: each pointer comes with the length of its slice; only `numbers` is written.
+    let refusal = unsafe { icehub_proxy_endpoint(proxy.as_ptr(), proxy.len(), n, numbers.as_mut_ptr(), numbers.len()) };
+    match refusal {
+        0 => Ok([0, 1, 2].map(|i| number(&numbers, i))),
+        // SAFETY: as above; nothing is written.
+        _ => Err((refusal, unsafe { icehub_proxy_endpoint_place(proxy.as_ptr(), proxy.len(), n, numbers.len()) })),
+    }
+}
+
+/// Opens an endpoint: its seven numbers, or the number and the place of a refusal.
+pub fn endpoint(bytes: &[u8]) -> Result<[u32; 7], (u32, u32)> {
+    let mut numbers = [0; 28];
+    // SAFETY: each pointer comes with the length of its slice; only `numbers` is written.
+    let refusal = unsafe { icehub_endpoint(bytes.as_ptr(), bytes.len(), numbers.as_mut_ptr(), numbers.len()) };
+    match refusal {
+        0 => Ok([0, 1, 2, 3, 4, 5, 6].map(|i| number(&numbers, i))),
+        // SAFETY: as above; nothing is written.
+        _ => Err((refusal, unsafe { icehub_endpoint_place(bytes.as_ptr(), bytes.len(), numbers.len()) })),
+    }
+}
+
+/// What the writer of an endpoint is given besides its output: type, host, port, timeout, compress.
+pub type GivenEndpoint<'a> = (u32, &'a [u8], u32, u32, bool);
+
+/// Writes an endpoint: its length, or the number and the place of a refusal.
+pub fn endpoint_write(given: GivenEndpoint, out: &mut [u8]) -> Result<u32, (u32, u32)> {
+    let (of, host, port, timeout, compress) = given;
+    let (host, host_len) = (host.as_ptr(), host.len());
+    // SAFETY: each pointer comes with the length of its slice; only `out` is written.
+    unsafe {
+        match icehub_endpoint_write(of, host, host_len, port, timeout, compress, out.as_mut_ptr(), out.len()) {
+            0 => Ok(icehub_endpoint_write_length(of, host, host_len, port, timeout, compress, out.len())),
+            no => Err((no, icehub_endpoint_write_place(of, host, host_len, port, timeout, compress, out.len()))),
+        }
+    }
+}

@@ -32,6 +32,7 @@
 #![deny(missing_docs)]
 
 mod convert;
+mod endpoint;
 #[allow(unsafe_code)]
 mod ffi;
 mod night;
@@ -41,6 +42,7 @@ mod value;
 
 pub use convert::convert;
 pub use night::{night, Answer, Answers, Night, ANSWER_SIZE};
+pub use endpoint::{endpoint_at, open_endpoint, write_endpoint, Address, Opened};
 pub use refusal::{Reason, Refusal};
 pub use table::{Allowed, Enumerators, Kind, MemberRow, Table, TypeRow};
 pub use value::{Elements, Endpoint, Endpoints, Entries, Fields, Proxy, Value};

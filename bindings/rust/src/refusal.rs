@@ -136,6 +136,7 @@ reasons! {
     BadOldHeader = 25, "BAD_OLD_HEADER": "the header byte of a 1.0 exception is not 0", "the header byte";
     OldOptionals = 26, "OLD_OPTIONALS":
         "encoding 1.0 where the type, a base of it or a record that descends from it has optionals", "0";
+    BadPort = 27, "BAD_PORT": "an endpoint's port is not 1 to 65,535", "the port; 0 for the writer of an endpoint";
     BadTableHeader = 31, "BAD_TABLE_HEADER": "the table's header is wrong, or its length is not what the header says",
         "0";
     BadTableZeros = 32, "BAD_TABLE_ZEROS":
@@ -230,12 +231,12 @@ mod tests {
     fn numbers() {
         assert_eq!(
             Reason::ALL.iter().map(|reason| reason.number()).collect::<Vec<_>>(),
-            (2..=26).chain(31..=39).chain([47, 48]).collect::<Vec<_>>()
+            (2..=27).chain(31..=39).chain([47, 48]).collect::<Vec<_>>()
         );
         for reason in Reason::ALL {
             assert_eq!(Reason::from_number(reason.number()), Some(*reason));
         }
-        assert!([0, 1, 27, 30, 40, 46, 49].into_iter().all(|number| Reason::from_number(number).is_none()));
+        assert!([0, 1, 28, 30, 40, 46, 49].into_iter().all(|number| Reason::from_number(number).is_none()));
     }
 
     #[test]

@@ -4,3 +4,4 @@ pub mod Numbering
 pub mod Numbered
 pub mod Viewed
 pub mod Counted
+pub mod Dialling

@@ -3,3 +3,4 @@ pub mod TableNumbers
 pub mod Numbers
 pub mod WriteNumbers
 pub mod ConvertNumbers
+pub mod EndpointNumbers

@@ -8,7 +8,7 @@ use wire::Sized;
 use wire::Step;
 
 // An identity: its name, then its category; a category without a name is refused. Gives the length of the name.
-fn identity(s: &[u8]) -> Sized
+pub fn identity(s: &[u8]) -> Sized
     ensures { λ r. ⌜ r ≡ sizedOf (named (now (s .entry))) ⌝ }
 {
     let z = text::read_string(s);
@@ -33,7 +33,7 @@ fn identity(s: &[u8]) -> Sized
 }
 
 // Facets: a sequence of at most one string.
-fn facets(s: &[u8]) -> Step
+pub fn facets(s: &[u8]) -> Step
     ensures { λ r. ⌜ r ≡ stepOf (facets (now (s .entry))) ⌝ }
 {
     let z = wire::read_size(s);
@@ -70,7 +70,7 @@ pub fn endpoint(s: &[u8]) -> Step
 }
 
 // n endpoints.
-fn endpoint_list(s: &[u8], n: usize) -> Step
+pub fn endpoint_list(s: &[u8], n: usize) -> Step
     ensures { λ r. ⌜ r ≡ stepOf (times n endpoint (now (s .entry))) ⌝ }
 {
     let mut left = n;

@@ -8,8 +8,11 @@
 //   5  a check of the table: no bytes
 //   6  a call of the converter: top, bytes of the output; the bytes are the message
 //   9  a call for many messages: top, bytes of the list of answers, bytes of the list of rows; the bytes are the buffer
-// print.rt prints, reads.rt, writes.rt, records.rt, tables.rt, conversions.rt and nights.rt make the calls.
+//   12 an endpoint opened: bytes lent for its numbers, 0; the bytes are the endpoint. Or found: bytes lent for its numbers, 1, its number; the bytes are the proxy
+//   13 an endpoint written: type, port, timeout, compress, bytes of the output; the bytes are the host
+// print.rt prints, reads.rt, writes.rt, records.rt, tables.rt, conversions.rt, nights.rt and endpoints.rt make the calls.
 mod conversions;
+mod endpoints;
 mod nights;
 mod print;
 mod reads;
@@ -55,6 +58,33 @@ fn split_call<'a, 't>(
         &input[n..],
         lent,
     );
+}
+
+// A call that writes an endpoint.
+fn endpoint_write_call(head: &[u8; 28], input: &[u8], lent: &mut [u8]) {
+    let room = wire::int_at(head, 24);
+    if room <= lent.len() {
+        endpoints::write_call(
+            field(head, 8),
+            input,
+            field(head, 12),
+            field(head, 16),
+            field(head, 20) == 1,
+            &mut lent[0..room],
+        );
+    }
+}
+
+// A call that opens an endpoint, or finds one.
+fn endpoint_call(head: &[u8; 28], input: &[u8], lent: &mut [u8]) {
+    let room = wire::int_at(head, 8);
+    if room <= lent.len() {
+        if wire::int_at(head, 12) == 0 {
+            endpoints::open_call(input, &mut lent[0..room]);
+            return;
+        }
+        endpoints::find_call(input, field(head, 16), &mut lent[0..room]);
+    }
 }
 
 // A call with its bytes, and `lent` to be its list or output.
@@ -107,6 +137,14 @@ fn call<'a, 't>(head: &[u8; 28], table: &'t [u8], input: &'a [u8], lent: &mut [u
                 wire::int_at(head, 16),
             );
         }
+        return;
+    }
+    if kind == 12 {
+        endpoint_call(head, input, lent);
+        return;
+    }
+    if kind == 13 {
+        endpoint_write_call(head, input, lent);
         return;
     }
     tables::check_call(table);

@@ -1,5 +1,6 @@
 //! Calls and their answers, as the recorded calls have them: one JSON object a line.
 
+use crate::endpoint::{EndpointAnswer, EndpointCall};
 use crate::json::{hex, Json};
 use crate::night::{Night, Walked};
 use crate::{check, convert, member, read, write, Reading, Refusal};
@@ -41,6 +42,7 @@ pub enum Call {
         room: usize,
     },
     Night(Night),
+    Endpoint(EndpointCall),
 }
 
 #[derive(Clone, Debug, PartialEq)]
@@ -64,6 +66,7 @@ pub enum Answer {
         bytes: Vec<u8>,
     },
     Night(Walked),
+    Endpoint(EndpointAnswer),
     /// A lent byte was touched that should have stayed, or more is claimed than was lent.
     Astray,
 }
@@ -72,7 +75,7 @@ pub enum Answer {
 pub const LENT: u8 = 0xA5;
 
 impl Call {
-    /// The table that the call is made under.
+    /// The table that the call is made under; empty for a call without one.
     pub fn table(&self) -> &[u8] {
         match self {
             Call::Check { table }
@@ -81,6 +84,7 @@ impl Call {
             | Call::View { table, .. }
             | Call::Convert { table, .. } => table,
             Call::Night(night) => &night.table,
+            Call::Endpoint(_) => &[],
         }
     }
 
@@ -119,6 +123,7 @@ impl Call {
                 Answer::of_write(result.err().unwrap_or_default(), result.unwrap_or_default(), &out)
             }
             Call::Night(night) => night.answer().map_or(Answer::Astray, Answer::Night),
+            Call::Endpoint(call) => call.answer(),
         }
     }
 
@@ -148,6 +153,9 @@ impl Call {
 
     /// The call and its answer from a line.
     pub fn parse(line: &str) -> Option<(Call, Answer)> {
+        if let Some(endpoint) = EndpointCall::parse(line) {
+            return Some(endpoint);
+        }
         let call = Json::parse(line)?;
         let expect = call.get("expect")?;
         let refusal = || Some((expect.number("no")?, expect.number("place")?));
@@ -217,6 +225,7 @@ impl Call {
                 format!(r#""op":"convert","table":"{}","top":{top},"msg":"{}","room":{room}"#, hex(table), hex(message))
             }
             Call::Night(night) => night.json(),
+            Call::Endpoint(call) => call.json(),
         };
         format!(r#"{{{fields},"expect":{}}}"#, expect.json())
     }
@@ -250,6 +259,7 @@ impl Answer {
     pub fn refusal(&self) -> u32 {
         match self {
             Answer::Check { refusal } | Answer::Read { refusal, .. } | Answer::Write { refusal, .. } => refusal.0,
+            Answer::Endpoint(endpoint) => endpoint.refusal().0,
             Answer::View { .. } | Answer::Night(_) | Answer::Astray => 0,
         }
     }
@@ -273,6 +283,7 @@ impl Answer {
             }
             Answer::View { from, bytes } => format!(r#"{{"from":"{from}","bytes":"{}"}}"#, hex(bytes)),
             Answer::Night(walked) => walked.json(),
+            Answer::Endpoint(endpoint) => endpoint.json(),
             Answer::Astray => r#"{"astray":1}"#.to_string(),
         }
     }

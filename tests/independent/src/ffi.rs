@@ -1,6 +1,7 @@
 //! The proved library over C (libicehub.a): a slice is its pointer, then its length; 0 or the refusal number comes
 //! back, the place and the other numbers by further calls on the same input.
 
+pub mod endpoint;
 pub mod night;
 
 use crate::calls::{Answer, Call, LENT};
@@ -337,6 +338,7 @@ pub fn each(call: &Call, mut run: impl FnMut(&'static str, &mut dyn FnMut())) {
                 });
             }
         }
+        Call::Endpoint(call) => endpoint::each(call, run),
     }
 }
 
@@ -393,5 +395,6 @@ pub fn answer(call: &Call) -> Option<Answer> {
             Some(Answer::Check { refusal })
         }
         Call::Night(call) => Some(night::answer(call).map_or(Answer::Astray, Answer::Night)),
+        Call::Endpoint(call) => Some(endpoint::answer(call)),
     }
 }

@@ -2,11 +2,13 @@
 //! formats with unknown optionals and slices in them, conforming, with wrong items in them, with strings that are no text, or damaged;
 //! right and wrong rows for the writer.
 
+mod endpoints;
 mod message;
 mod night;
 mod text;
 mod types;
 
+pub use endpoints::endpoint_calls;
 pub use message::{message, Message, Wrong};
 pub use night::night;
 pub use text::{Made, Text};

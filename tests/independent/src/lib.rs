@@ -5,10 +5,12 @@
 //! - [`write`]: a message from rows and the buffer they point into.
 //! - [`convert`]: the sliced form of a compact record.
 //! - [`night::night`]: the answers to the messages of a buffer.
+//! - [`endpoint`]: one endpoint of a proxy, opened, written, and found in its proxy.
 //!
 //! A refusal is its number and its place. No call panics on any input, and on a refusal every lent byte stays.
 
 pub mod calls;
+pub mod endpoint;
 #[cfg(feature = "library")]
 pub mod ffi;
 pub mod gen;

@@ -1,6 +1,7 @@
 //! The recorded calls of the gate, as crates/replay reads them from its file `stdin`, and the lines that it has to print.
 
 use crate::calls::{Answer, Call};
+use crate::endpoint::EndpointCall;
 use crate::json::hex;
 use crate::night::Night;
 use crate::{forms, write, Reading};
@@ -61,6 +62,7 @@ impl<'a> Records<'a> {
                 let (answers, rows) = (b as usize, c as usize);
                 Call::Night(Night { table: held, top: a, buffer: bytes.to_vec(), answers, rows })
             }
+            12 | 13 => Call::Endpoint(EndpointCall::of_record(kind, [a, b, c, d, e], bytes)),
             _ => return None,
         };
         Some(Some(Recorded { call, is_of_records: kind == 4 }))
@@ -99,6 +101,7 @@ impl Recorded {
             Call::Night(Night { top, buffer, answers, rows, .. }) => {
                 ([9, *top, *answers as u32, *rows as u32, 0, 0], buffer.clone())
             }
+            Call::Endpoint(call) => call.record(),
         };
         let [kind, a, b, c, d, e] = numbers;
         record(kind, [a, b, c, d, e], &bytes)
@@ -126,6 +129,7 @@ impl Recorded {
             (_, Answer::View { bytes, .. }) => hex(bytes),
             (_, Answer::Write { refusal: (no, place), out }) => numbers(&[*no, *place, out.len() as u32]) + &hex(out),
             (_, Answer::Night(walked)) => walked.line(),
+            (_, Answer::Endpoint(endpoint)) => endpoint.line(),
             (_, Answer::Astray) => "touched".to_string(),
         }
     }
@@ -165,7 +169,7 @@ pub fn stdin(calls: &[Recorded]) -> Vec<u8> {
     let mut held = None;
     for call in calls {
         let table = call.call.table();
-        if held != Some(table) {
+        if held != Some(table) && !matches!(call.call, Call::Endpoint(_)) {
             held = Some(table);
             file.extend(record(0, [0; 5], table));
         }

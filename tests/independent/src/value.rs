@@ -147,6 +147,11 @@ impl<'m> Part<'m> {
     }
 
     fn proxy(&mut self) -> Result<(), Refusal> {
+        self.proxy_with(|_, _| ())
+    }
+
+    /// A proxy; `seen` is given the place and the end of each endpoint.
+    pub fn proxy_with(&mut self, mut seen: impl FnMut(usize, usize)) -> Result<(), Refusal> {
         let identity = *self;
         let name = self.string()?;
         let category = self.string()?;
@@ -174,8 +179,10 @@ impl<'m> Part<'m> {
             self.string()?; // adapter
         }
         for _ in 0..endpoints {
+            let place = self.at;
             self.item(2)?;
             self.at = self.declared(6, 4)?;
+            seen(place, self.at);
         }
         Ok(())
     }

@@ -17,6 +17,7 @@ const PAGES: &[&str] = &[
     "docs/changes/M-111.md",
     "docs/changes/M-104.md",
     "docs/changes/M-107.md",
+    "docs/changes/M-106.md",
     "samples/README.md",
     "bindings/rust/README.md",
     "tests/independent/README.md",

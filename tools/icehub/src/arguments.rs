@@ -45,7 +45,8 @@ line on standard error says how far it is, where that is a terminal and standard
 
 In JSON, a struct is a list of its members' values, a dictionary a list of objects with key and value (jq's
 from_entries), an enumerator its number, a nil proxy null, and a float that is no number one of the strings NaN,
-Infinity and -Infinity. A long is a number with all its digits; jq before 1.7 rounds those beyond 2^53. A message that is
+Infinity and -Infinity. An endpoint of TCP, SSL or UDP has host, port, timeout and compress, or the number and the place
+by which it cannot be opened. A long is a number with all its digits; jq before 1.7 rounds those beyond 2^53. A message that is
 refused for a string that is no text has that string's place, its length, its first bad byte and what is wrong there.
 
   icehub show --json report.table 3 *.message | jq -c 'select(.accepted | not) | [.file, .refusal, .place]'

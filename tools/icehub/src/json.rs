@@ -1,6 +1,7 @@
 //! A message as a line of JSON.
 
 use crate::accepted;
+use crate::endpoints;
 use crate::locate::{locate, Held, Slice};
 use crate::text;
 use crate::values::{endpoint_type, mode};
@@ -188,7 +189,8 @@ fn proxy(line: &mut String, proxy: &Proxy) {
     list(line, proxy.endpoints.clone(), |line, endpoint| {
         let of = quoted(&endpoint_type(endpoint.of));
         let inside = hex(endpoint.bytes.get(8..).unwrap_or_default());
-        let _ = write!(line, r#"{{"type":{of},"encoding":{},"bytes":{inside}}}"#, version(endpoint.encoding));
+        let address = endpoints::json(&endpoint);
+        let _ = write!(line, r#"{{"type":{of},"encoding":{},"bytes":{inside}{address}}}"#, version(endpoint.encoding));
     });
     let _ = write!(line, r#","adapter":{}}}"#, or_null(proxy.adapter.map(quoted)));
 }

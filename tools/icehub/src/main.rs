@@ -10,12 +10,13 @@
 //! - `table`: the command `table`; `broken`: what is wrong with a table that breaks a rule
 //! - `accepted`, `refused`: a message for a person; `json`: a message as a line of JSON
 //! - `locate`: the slice and the member at a place of a refused message; `text`: the first bad byte of a string
-//! - `values`: values for a person; `words`: text, bytes and types in words
+//! - `values`: values for a person; `endpoints`: the addresses in a proxy; `words`: text, bytes and types in words
 
 mod accepted;
 mod arguments;
 mod broken;
 mod convert;
+mod endpoints;
 mod input;
 mod json;
 mod locate;

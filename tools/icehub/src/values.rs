@@ -1,5 +1,6 @@
 //! Values for a person: a line for a plain value, and an indented line for each part of any other.
 
+use crate::endpoints;
 use crate::words;
 use icehub::{Elements, Kind, Proxy, Value};
 use std::io::{self, Write};
@@ -140,14 +141,7 @@ fn proxy_lines(out: &mut dyn Write, proxy: &Proxy, indent: usize) -> io::Result<
     }
     writeln!(out)?;
     for (number, endpoint) in proxy.endpoints.clone().enumerate() {
-        let (major, minor) = endpoint.encoding;
-        let inside = endpoint.bytes.get(8..).unwrap_or_default();
-        let of = endpoint_type(endpoint.of);
-        write!(out, "{:indent$}endpoint {number}: {of}, encoding {major}.{minor}, ", "")?;
-        match inside {
-            [] => writeln!(out, "empty")?,
-            _ => writeln!(out, "bytes {}", words::hex(inside))?,
-        }
+        writeln!(out, "{:indent$}endpoint {number}: {}", "", endpoints::shown(&endpoint))?;
     }
     if let Some(adapter) = proxy.adapter {
         writeln!(out, "{:indent$}adapter {}", "", words::quoted(adapter))?;

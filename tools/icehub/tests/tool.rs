@@ -127,7 +127,7 @@ fn opened() {
     assert_eq!(value(1).list()[27..], Json::parse(r#"["NaN","Infinity","-Infinity"]"#).unwrap().list()[..]);
     assert_eq!(
         value(2).get("endpoints").list()[0],
-        Json::parse(r#"{"type":"TCP","encoding":"1.1","bytes":"AA"}"#).unwrap()
+        Json::parse(r#"{"type":"TCP","encoding":"1.1","bytes":"AA","refusal":4,"place":8}"#).unwrap()
     );
     assert_eq!((value(2).get("mode").text(), value(2).get("adapter")), ("batch datagram", &Json::Null));
     assert_eq!((value(3), value(4)), (Json::parse(r#"["a","\""]"#).unwrap(), Json::Null));

@@ -4,6 +4,8 @@
 //! 20,000 elements against those of 20. Some ratios have a bar; one that is missed is told at the end, and the exit
 //! status is 1 then. With the argument `logs` only the sequences are timed.
 
+use independent::endpoint::{self, Given};
+use independent::ffi::endpoint as endpoint_ffi;
 use independent::night::night;
 use independent::spec::Spec;
 use independent::{convert, ffi, read, write};
@@ -360,6 +362,32 @@ fn size(size: u32) -> Vec<u8> {
     [&[255][..], &size.to_le_bytes()].concat()
 }
 
+/// An endpoint opened and written, and found as the last of eight in its proxy.
+fn endpoints() {
+    let given = Given { kind: 1, host: b"guard.cabins.local".to_vec(), port: 4_061, timeout: 60_000, compress: false };
+    let mut out = [0; 64];
+    let length = endpoint::write_endpoint(&given, &mut out).unwrap_or_default() as usize;
+    let bytes = &out[..length].to_vec();
+    let mut numbers = [0; endpoint::OPENED];
+    let opened = || number(endpoint::open(black_box(bytes)).map(black_box));
+    report(
+        &format!("endpoint: open, {length} bytes"),
+        || endpoint_ffi::open(black_box(bytes), &mut numbers),
+        opened,
+        0,
+    );
+    let mut other = out;
+    report(
+        &format!("endpoint: write, {length} bytes"),
+        || endpoint_ffi::write(black_box(&given), &mut out),
+        || number(endpoint::write_endpoint(black_box(&given), &mut other)),
+        0,
+    );
+    let proxy = [&b"\x05guard\0\0\0\0\x01\0\x01\x01\x08"[..], &bytes.repeat(8)].concat();
+    let found = || number(endpoint::endpoint_at(black_box(&proxy), 7).map(black_box));
+    report("proxy: last of 8 endpoints", || endpoint_ffi::locate(black_box(&proxy), 7, &mut numbers), found, 0);
+}
+
 /// The heads of the columns.
 fn heads(call: &str, other: &str) {
     println!("{:<46} {call:>12} {other:>12} {:>8}", "ns a call", "ratio");
@@ -562,6 +590,10 @@ fn all_but_logs() {
     let top = spec.owner(15, &members);
     let many_night = Case::new("P2 of 1,024", &spec, top, &p2_values);
     let p2_night = p2.clone();
+
+    println!();
+    heads("library", "independent");
+    endpoints();
 
     println!();
     heads("call", "icehub_read");

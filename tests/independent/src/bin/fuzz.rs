@@ -1,11 +1,12 @@
 //! fuzz [CALLS [SEED]]: makes calls (1,000,000 by default) of the reader, the writer and the table check, and a member
-//! view, a conversion and a night of each message read, and compares the proved library with this implementation in every
-//! number and every lent byte. A difference is printed as a line like those of the recorded calls, the library's answer after it as `got`;
-//! with any, the exit status is 1.
+//! view, a conversion and a night of each message read, and with each an endpoint opened, one written and one found in a
+//! proxy, and compares the proved library with this implementation in every number and every lent byte. A difference is
+//! printed as a line like those of the recorded calls, the library's answer after it as `got`; with any, the exit status
+//! is 1.
 
 use independent::calls::{Answer, Call};
 use independent::ffi;
-use independent::gen::{night, Calls, Rng, Text};
+use independent::gen::{endpoint_calls, night, Calls, Rng, Text};
 use std::time::{Instant, SystemTime, UNIX_EPOCH};
 use std::{env, process};
 
@@ -40,6 +41,7 @@ fn main() {
     let mut strings = Text::ALL.map(|what| (what, 0));
     let mut made = Calls::new(seed);
     let (mut nights, mut other, mut walked, mut stops) = (Rng(seed), vec![], 0, [0; 40]);
+    let (mut endpoints, mut endpoint_refusals) = (Rng(!seed), [[0; 40]; 3]);
     for index in 0..calls {
         let Some(call) = made.next() else { break };
         let expected = call.answer();
@@ -59,9 +61,10 @@ fn main() {
             // Once more without room, or with just enough.
             if let Answer::Write { refusal: (0, _), out } = answer {
                 let room = out.len() - index as usize % 2 * (1 + index as usize % out.len());
-                let Some(tight) = call.conversion(room) else { continue };
-                compare(&tight, &tight.answer());
-                conversions[tight.answer().refusal() as usize] += 1;
+                if let Some(tight) = call.conversion(room) {
+                    compare(&tight, &tight.answer());
+                    conversions[tight.answer().refusal() as usize] += 1;
+                }
             }
         }
         if let Some(night) = night(&mut nights, &call, &other) {
@@ -78,6 +81,11 @@ fn main() {
         }
         if let Call::Read { message, .. } = call {
             other = message;
+        }
+        for (which, call) in endpoint_calls(&mut endpoints).into_iter().enumerate() {
+            let expected = call.answer();
+            endpoint_refusals[which][expected.refusal() as usize] += 1;
+            compare(&call, &expected);
         }
     }
     for (version, refusals) in (1..).zip(refusals) {
@@ -97,6 +105,11 @@ fn main() {
         .collect();
     println!("{walked} nights; those that end before their buffer, by the last answer: {}", stops.join(", "));
     println!("refused by 24, by the string: {}", strings.join(", "));
+    for (what, refusals) in ["opened", "written", "found in a proxy"].into_iter().zip(endpoint_refusals) {
+        let met = refusals.iter().enumerate().filter(|(_, &calls)| calls > 0);
+        let reached: Vec<_> = met.map(|(number, calls)| format!("{number}: {calls}")).collect();
+        println!("answers by refusal number, endpoints {what}: {}", reached.join(", "));
+    }
     println!("{differences} differences in {calls} calls from seed {seed}, {:.1} s", start.elapsed().as_secs_f64());
     process::exit(i32::from(differences != 0));
 }

@@ -1,0 +1,4 @@
+-- Laws that several proofs cite.
+pub mod Laws
+pub mod Openings
+pub mod Writings

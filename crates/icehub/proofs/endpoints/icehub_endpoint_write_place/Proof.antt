@@ -1,0 +1,13 @@
+-- The place is that of the writer's answer. Assumes nothing.
+use borrow.Author.Needs.{needs}
+use Rattle.icehub.proofs.Numbered.{same-number}
+use Rattle.icehub.proofs.endpoints.icehub_endpoint_write_place.Statement.{statement}
+use Rattle.icehub.proofs.endpoints.icehub_endpoint_write_place.Tie as tie
+
+pub icehub-endpoint-write-place-spec : {M : Type 1} → statement M
+icehub-endpoint-write-place-spec =
+    tie.close
+    (tie.spec
+    (λ c κs. search needs)  -- endpoint-written-requires
+    (λ c κs. search needs)  -- written-number-requires
+    (λ c. search same-number))  -- returns
