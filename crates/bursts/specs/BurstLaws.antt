@@ -1,4 +1,4 @@
--- The check accepts exactly the plans, and 46 is where BurstDemands says: `plan-checked`, `plan-placed`.
+-- The check accepts exactly the plans, and 46 is where `BurstDemands` says: `judge-checked`, `judge-placed`.
 -- The idea: entries stay begun with one more exactly if that one breaks no rule with those before it (`begun-snoc`, `begun-fits`).
 -- Assumes nothing.
 use mathlib.Core.Path.{_≡_, refl, sym, ap, _∙_, subst}
@@ -17,7 +17,7 @@ use Rattle.encoding.specs.Table.{range}
 use Rattle.bursts.specs.declared.Checked.{Checked}
 use Rattle.bursts.specs.declared.Checked.the-variants.{Sound, Breaks}
 use Rattle.bursts.specs.Bursts.{Waiting, Entry, most, lengthOf, cabinOf, anyEntry, standsIn, bytesIn, follows, overtakes, brokenBy, firstBroken, anyMissing, missing, verdict, judge}
-use Rattle.bursts.specs.BurstDemands.{noEntry, entryAt, Or, one, other, Begun, Stands, ProperPlan, PlanChecked, FortySix, at-entry, at-count, PlanPlaced}
+use Rattle.bursts.specs.BurstDemands.{noEntry, entryAt, Or, one, other, Begun, Stands, ProperPlan, FortySix, at-entry, at-count}
 
 -- ---- some entry
 
@@ -421,8 +421,8 @@ verdict-of ws es = go (firstBroken ws 0 [] es) refl
     go (some k) w = stopped k (some-stops ws 0 k [] es refl w (begun-empty ws)) (ap (verdict ws es) w)
     go none w = whole (none-begun ws 0 [] es w (begun-empty ws)) (missing ws es) refl (ap (verdict ws es) w)
 
-pub plan-checked : PlanChecked
-plan-checked ws es = (accepted (verdict-of ws es), taken (verdict-of ws es))
+pub judge-checked : (ws : List Waiting) (es : List Entry) → (judge ws es ≡ Sound → ProperPlan ws es) × (ProperPlan ws es → judge ws es ≡ Sound)
+judge-checked ws es = (accepted (verdict-of ws es), taken (verdict-of ws es))
   where
     accepted : Verdict ws es → judge ws es ≡ Sound → ProperPlan ws es
     accepted (stopped k s q) e = absurd (sound≢breaks e q)
@@ -434,8 +434,8 @@ plan-checked ws es = (accepted (verdict-of ws es), taken (verdict-of ws es))
     taken (lacking b m l n q) p = absurd (n (p .all m l))
     taken (proper p′ q) p = q
 
-pub plan-placed : PlanPlaced
-plan-placed ws es i = (told (verdict-of ws es), placed (verdict-of ws es))
+pub judge-placed : (ws : List Waiting) (es : List Entry) (i : ℕ) → (judge ws es ≡ Breaks i → FortySix ws es i) × (FortySix ws es i → judge ws es ≡ Breaks i)
+judge-placed ws es i = (told (verdict-of ws es), placed (verdict-of ws es))
   where
     told : Verdict ws es → judge ws es ≡ Breaks i → FortySix ws es i
     told (stopped k s q) e = subst (λ (n : ℕ). FortySix ws es n) (breaks-same q e) (at-entry (s .inside) (s .so-far) (s .no-further))

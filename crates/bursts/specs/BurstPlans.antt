@@ -14,9 +14,10 @@ use borrow.Author.Tests.{leb-true, leb-false, ltb-true, ltb-false, lt-ltb, le-lt
 use Rattle.encoding.specs.Result.{pick}
 use Rattle.encoding.specs.ResultLaws.{some≢none}
 use Rattle.bursts.specs.declared.Checked.the-variants.{Sound}
-use Rattle.bursts.specs.Bursts.{Waiting, Entry, most, messageAt, lengthOf, cabinOf, bytesIn, waitings, entries, judge, checking, tooLong, fill, plan, Plan, plan-of, no-plan, entryRoom, planWithin, planning, entryNumbers, planListed}
+use Rattle.bursts.specs.Bursts.{Waiting, Entry, most, messageAt, lengthOf, cabinOf, bytesIn, waitings, entries, judge, checking, checkedNumbers, tooLong, fill, plan, Plan, plan-of, no-plan, entryRoom, planWithin, planning, plannedOf, plannedNumbers, entryNumbers, planListed}
 use Rattle.bursts.specs.BurstDemands.{noEntry, entryAt, Or, one, other, Begun, Stands, ProperPlan, PlanPasses, FirstLong, NoneLong, PlanRefusals, PlanRefused, PlanLent, PlanListed, Thrifty, PlanThrifty}
-use Rattle.bursts.specs.BurstLaws.{Fits, Spot, inner, last, spot, bytes-append, bytes-one, bytes-other, begun-snoc, begun-empty, plan-checked}
+use Rattle.bursts.specs.PairLaws.{waitings-count}
+use Rattle.bursts.specs.BurstLaws.{Fits, Spot, inner, last, spot, bytes-append, bytes-one, bytes-other, begun-snoc, begun-empty, judge-checked}
 
 -- ---- filling
 
@@ -200,13 +201,17 @@ first-long i (w ∷ ws) (suc k) f =
     (first-long (suc i) ws k (record { inside = omega (arith, f .inside); long = f .long; before = λ j l. f .before (suc j) (omega (arith, l)) }) ∙ ap some (omega arith))
 
 pub plan-refused : PlanRefused
-unfolding planning planWithin
+unfolding planning planWithin entryRoom plannedOf plannedNumbers
 plan-refused ms lent = record {
-  long = λ i f. ap (planWithin (waitings ms) (entryRoom lent)) (first-long 0 (waitings ms) i f ∙ ap some (plain i));
-  short = λ n l. ap (planWithin (waitings ms) (entryRoom lent)) (none-long 0 (waitings ms) n) ∙ few l;
-  made = λ n l. ap (planWithin (waitings ms) (entryRoom lent)) (none-long 0 (waitings ms) n) ∙ enough l;
+  long = λ i f. ap told (ap (planWithin (waitings ms) (entryRoom lent)) (first-long 0 (waitings ms) i f ∙ ap some (plain i)));
+  short = λ n l. ap told (ap (planWithin (waitings ms) (entryRoom lent)) (none-long 0 (waitings ms) n) ∙ few (omega (arith, l, waitings-count ms))) ∙ ap (λ (k : ℕ). 19 ∷ k ∷ 0 ∷ []) (waitings-count ms);
+  made = λ n l. ap (planWithin (waitings ms) (entryRoom lent)) (none-long 0 (waitings ms) n) ∙ enough (omega (arith, l, waitings-count ms));
+  numbers = λ n l. ap told (ap (planWithin (waitings ms) (entryRoom lent)) (none-long 0 (waitings ms) n) ∙ enough (omega (arith, l, waitings-count ms))) ∙ ap (λ (k : ℕ). 0 ∷ 0 ∷ k ∷ []) (plan-filled (waitings ms) n .count ∙ waitings-count ms);
 }
   where
+    told : Plan → List ℕ
+    told p = plannedNumbers (plannedOf p)
+
     plain : (i : ℕ) → 0 + i ≡ i
     plain i = omega arith
 
@@ -245,10 +250,10 @@ planned-is ws k es h = go (tooLong 0 ws) refl (leb (length ws) k) refl
         few q = rw q
 
 pub plan-passes : PlanPasses
-unfolding planning checking
+unfolding planning checking checkedNumbers
 plan-passes ms lent es h =
     let p = planned-is (waitings ms) (entryRoom lent) es h in
-    (p, ap (judge (waitings ms)) (entries-numbers es) ∙ plan-checked (waitings ms) es .1 p)
+    (p, ap checkedNumbers (ap (judge (waitings ms)) (entries-numbers es) ∙ judge-checked (waitings ms) es .1 p))
 
 -- ---- the lent list
 

@@ -1,17 +1,18 @@
--- Bursts of at most 340 bytes: the check of a plan, and a planner (M-110).
+-- Bursts of at most 340 bytes: the check of a plan, and a planner.
 --
 --   Waiting, Entry          a waiting message: its length and cabin; an entry of a plan: a message's number and a burst's
---   waitings, entries       what a lent list of numbers holds; half a pair doesn't count
+--   waitings, entries       what a lent list of numbers holds; half a pair does not count
 --   most                    340, the bytes of a burst
 --   lengthOf, cabinOf       of a message's number; 0 past the end
---   bytesIn b es            the bytes of burst b among entries
---   brokenBy before e       entry e breaks a rule with the entries before it
---   missing es              some message stands in no entry
---   checking                the check: sound, or the place of 46
+--   bytesIn ws b es         the bytes of burst b among entries
+--   brokenBy ws before e    entry e breaks a rule with the entries before it
+--   missing ws es           some message stands in no entry
+--   judge, checking         the check: sound, or the place of 46; of messages and entries, of two lent lists
 --   tooLong                 the first message over 340 bytes
 --   fill, plan              the planner
---   Plan, planning          the planner's answer with room for so many entries: 45, then 19
+--   Plan, planning          the planner's answer with a lent list of so many numbers: 45, then 19
 --   entryNumbers, planListed    the lent list after the call
+--   checkedNumbers, plannedNumbers    the numbers of an answer
 use mathlib.Core.Bool.{Bool, true, false, _&&_, _||_, not}
 use mathlib.Core.Option.{Option, none, some}
 use mathlib.Core.List.{List, [], _∷_, _++_}
@@ -37,13 +38,13 @@ pub record Entry : Type 0 where
   pub message : ℕ
   pub burst : ℕ
 
--- length and cabin, pair after pair; half a pair doesn't count
+-- length and cabin, pair after pair; half a pair does not count
 unfoldable pub waitings : List ℕ → List Waiting
 waitings [] = []
 waitings (a ∷ []) = []
 waitings (a ∷ b ∷ l) = record { bytes = a; cabin = b } ∷ waitings l
 
--- message number and burst number, pair after pair; half a pair doesn't count
+-- message number and burst number, pair after pair; half a pair does not count
 unfoldable pub entries : List ℕ → List Entry
 entries [] = []
 entries (a ∷ []) = []
@@ -134,7 +135,7 @@ unfoldable pub tooLong : ℕ → List Waiting → Option ℕ
 tooLong i [] = none
 tooLong i (w ∷ ws) = let later = tooLong (suc i) ws in pick (ltb most (w .bytes)) (some i) later
 
--- messages in turn from number i on, where burst b has so many bytes: a new burst only where the next doesn't fit
+-- messages in turn from number i on, where burst b has so many bytes: a new burst only where the next does not fit
 unfoldable pub fill : ℕ → ℕ → ℕ → List Waiting → List Entry
 fill i b has [] = []
 fill i b has (w ∷ ws) =
@@ -178,3 +179,15 @@ planListed (no-plan n p) lent = lent
 unfoldable pub plannedOf : Plan → Planned
 plannedOf (plan-of es) = Made (length es)
 plannedOf (no-plan n p) = Unplanned n p
+
+-- ---- the numbers of an answer
+
+-- of the check: the refusal, or 0, and its place
+unfoldable pub checkedNumbers : Checked → List ℕ
+checkedNumbers Sound = 0 ∷ 0 ∷ []
+checkedNumbers (Breaks i) = 46 ∷ i ∷ []
+
+-- of the planner: the refusal, or 0, its place, and the number of entries
+unfoldable pub plannedNumbers : Planned → List ℕ
+plannedNumbers (Made n) = 0 ∷ 0 ∷ n ∷ []
+plannedNumbers (Unplanned c p) = c ∷ p ∷ 0 ∷ []

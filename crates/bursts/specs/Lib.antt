@@ -7,3 +7,4 @@ pub mod BurstLaws
 pub mod BurstCounts
 pub mod RunningLaws
 pub mod BurstPlans
+pub mod BurstPromises

@@ -3,7 +3,7 @@
 --
 --   waitings-count, entries-count    how many pairs there are
 --   length-at, cabin-at              length and cabin of a message; cabin-past: 0 past the last one
---   entry-pair, message-at           an entry by its two numbers; its message
+--   entry-pair, message-at, burst-at an entry by its two numbers; its message and burst
 use mathlib.Core.Path.{_≡_, refl, sym, ap, _∙_}
 use mathlib.Core.List.{List, [], _∷_}
 use Prim.Native.Nat.{ℕ, zero, suc, _+_, _*_, _/_, _≤_, _<_}
@@ -63,3 +63,6 @@ entry-pair es i h = entry-at es i h ∙ ap (λ (n : ℕ). record { message = n; 
 
 pub message-at : (es : List ℕ) (i : ℕ) → i < length es / 2 → entryAt (entries es) i .message ≡ getD es (2 * i) 0
 message-at es i h = ap (λ (e : Entry). e .message) (entry-pair es i h)
+
+pub burst-at : (es : List ℕ) (i : ℕ) → i < length es / 2 → entryAt (entries es) i .burst ≡ getD es (2 * i + 1) 0
+burst-at es i h = ap (λ (e : Entry). e .burst) (entry-pair es i h)

@@ -3,3 +3,4 @@ pub mod Judged
 pub mod Numbering
 pub mod Numbered
 pub mod Viewed
+pub mod Planning

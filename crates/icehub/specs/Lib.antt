@@ -2,3 +2,4 @@
 pub mod TableNumbers
 pub mod Numbers
 pub mod WriteNumbers
+pub mod PlanNumbers

@@ -1,5 +1,7 @@
 // The calls of the firmware in C, with numbers and byte slices only: 0 or the refusal number comes back, place and other numbers by further calls on the same input.
 // `room` is the length in bytes of the lent list or output, so that a further call judges what the first one judged.
+mod plans;
+
 ghost use mathlib.Core.Path.{_≡_};
 ghost use lib.ListN.{length, getD};
 ghost use Rattle.encoding.specs.Table.{verdictNumbers};
