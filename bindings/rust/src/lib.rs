@@ -31,12 +31,14 @@
 #![deny(unsafe_code)]
 #![deny(missing_docs)]
 
+mod bursts;
 #[allow(unsafe_code)]
 mod ffi;
 mod refusal;
 mod table;
 mod value;
 
+pub use bursts::{check_plan, plan, PlanRefusal, BURST_BYTES};
 pub use refusal::{Reason, Refusal};
 pub use table::{Allowed, Enumerators, Kind, MemberRow, Table, TypeRow};
 pub use value::{Elements, Endpoint, Endpoints, Entries, Fields, Proxy, Value};

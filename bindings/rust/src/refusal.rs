@@ -123,7 +123,7 @@ reasons! {
     UnknownSliced = 16, "UNKNOWN_SLICED": "no type ID of a sliced record is in the table", "the last slice's flags";
     BadChain = 17, "BAD_CHAIN": "the slices, or their last bit, do not follow the table's bases", "the flags";
     LeftOver = 18, "LEFT_OVER": "bytes follow the record", "the first of them";
-    ListTooShort = 19, "LIST_TOO_SHORT": "the lent list is too short", "the number of rows needed";
+    ListTooShort = 19, "LIST_TOO_SHORT": "the lent list is too short", "the number of rows or entries needed";
     BadRow = 20, "BAD_ROW": "writer: a row is wrong, missing, out of order or outside the buffer", "the row's number";
     BadRowBytes = 21, "BAD_ROW_BYTES": "writer: the bytes are not exactly a value of the member's type",
         "the row's number";
@@ -156,9 +156,14 @@ reasons! {
         "an enum's list of enumerators is not taken in turn, is empty, reaches beyond the entries, does not rise or \
         does not end with the greatest, or entries are left over",
         "the row's first byte, in the table; 0 for entries left over";
+    MessageTooLong = 45, "MESSAGE_TOO_LONG":
+        "planner: a message is longer than a burst, over 340 bytes", "the message's number";
+    BadPlan = 46, "BAD_PLAN":
+        "an entry of a plan breaks a rule with the entries before it, or messages are missing",
+        "the entry's number; the number of entries where only messages are missing";
 }
 
-/// `refusal 19 at 3 (the number of rows needed): the lent list is too short`; without the brackets where the place is
+/// `refusal 19 at 3 (the number of rows or entries needed): the lent list is too short`; without the brackets where the place is
 /// always the same.
 impl fmt::Display for Refusal {
     fn fmt(&self, f: &mut fmt::Formatter) -> fmt::Result {
@@ -223,12 +228,12 @@ mod tests {
     fn numbers() {
         assert_eq!(
             Reason::ALL.iter().map(|reason| reason.number()).collect::<Vec<_>>(),
-            (2..=24).chain(31..=39).collect::<Vec<_>>()
+            (2..=24).chain(31..=39).chain(45..=46).collect::<Vec<_>>()
         );
         for reason in Reason::ALL {
             assert_eq!(Reason::from_number(reason.number()), Some(*reason));
         }
-        assert!([0, 1, 25, 30, 40].into_iter().all(|number| Reason::from_number(number).is_none()));
+        assert!([0, 1, 25, 30, 40, 44, 47].into_iter().all(|number| Reason::from_number(number).is_none()));
     }
 
     #[test]
@@ -239,7 +244,7 @@ mod tests {
             "refusal 4 at 52 (its first byte): an item or a declared length runs past what holds it"
         );
         assert_eq!(shown(6, 4), "refusal 6 at 4: the encoding's version is not 1.1");
-        assert_eq!(shown(19, 3), "refusal 19 at 3 (the number of rows needed): the lent list is too short");
+        assert_eq!(shown(19, 3), "refusal 19 at 3 (the number of rows or entries needed): the lent list is too short");
         assert_eq!(shown(99, 0), "refusal 99 at 0: a number that this version does not know");
     }
 }

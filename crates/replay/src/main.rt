@@ -6,7 +6,10 @@
 //   3  a call of the writer: type, format, count, length of the rows, bytes of the output; the bytes are rows and buffer
 //   4  a call of the reader with eight row records: top; the bytes are the message
 //   5  a check of the table: no bytes
-// print.rt prints, reads.rt, writes.rt, records.rt and tables.rt make the calls.
+//   15 a check of a burst plan: how many numbers the messages have; the bytes are messages and entries, eight bytes a number
+//   16 a call of the planner: the numbers of the lent list; the bytes are the messages
+// print.rt prints, reads.rt, writes.rt, records.rt, tables.rt and plans.rt make the calls.
+mod plans;
 mod print;
 mod reads;
 mod records;
@@ -83,6 +86,14 @@ fn call<'a, 't>(head: &[u8; 28], table: &'t [u8], input: &'a [u8], lent: &mut [u
     }
     if kind == 4 {
         records::records_call(table, field(head, 8), input);
+        return;
+    }
+    if kind == 15 {
+        plans::check_call(input, wire::int_at(head, 8));
+        return;
+    }
+    if kind == 16 {
+        plans::plan_call(input, wire::int_at(head, 8));
         return;
     }
     tables::check_call(table);

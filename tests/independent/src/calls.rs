@@ -1,5 +1,6 @@
 //! Calls and their answers, as the recorded calls have them: one JSON object a line.
 
+use crate::bursts::{PlanAnswer, PlanCall};
 use crate::json::{hex, Json};
 use crate::{check, member, read, write, Reading, Refusal};
 
@@ -32,6 +33,7 @@ pub enum Call {
         member: u32,
         fallback: Vec<u8>,
     },
+    Plan(PlanCall),
 }
 
 #[derive(Clone, Debug, PartialEq)]
@@ -53,6 +55,7 @@ pub enum Answer {
         from: &'static str,
         bytes: Vec<u8>,
     },
+    Plan(PlanAnswer),
     /// A lent byte was touched that should have stayed, or more is claimed than was lent.
     Astray,
 }
@@ -61,12 +64,13 @@ pub enum Answer {
 pub const LENT: u8 = 0xA5;
 
 impl Call {
-    /// The table that the call is made under.
+    /// The table that the call is made under; empty for a call without one.
     pub fn table(&self) -> &[u8] {
         match self {
             Call::Check { table } | Call::Read { table, .. } | Call::Write { table, .. } | Call::View { table, .. } => {
                 table
             }
+            Call::Plan(_) => &[],
         }
     }
 
@@ -99,6 +103,7 @@ impl Call {
                 };
                 Answer::View { from, bytes: bytes.to_vec() }
             }
+            Call::Plan(call) => call.answer(),
         }
     }
 
@@ -118,6 +123,9 @@ impl Call {
 
     /// The call and its answer from a line.
     pub fn parse(line: &str) -> Option<(Call, Answer)> {
+        if let Some(plan) = PlanCall::parse(line) {
+            return Some(plan);
+        }
         let call = Json::parse(line)?;
         let expect = call.get("expect")?;
         let refusal = || Some((expect.number("no")?, expect.number("place")?));
@@ -176,6 +184,7 @@ impl Call {
                 hex(message),
                 hex(fallback)
             ),
+            Call::Plan(call) => call.json(),
         };
         format!(r#"{{{fields},"expect":{}}}"#, expect.json())
     }
@@ -209,6 +218,7 @@ impl Answer {
     pub fn refusal(&self) -> u32 {
         match self {
             Answer::Check { refusal } | Answer::Read { refusal, .. } | Answer::Write { refusal, .. } => refusal.0,
+            Answer::Plan(plan) => plan.refusal.0,
             Answer::View { .. } | Answer::Astray => 0,
         }
     }
@@ -231,6 +241,7 @@ impl Answer {
                 format!(r#"{{"no":{no},"place":{place},"out":"{}"}}"#, hex(out))
             }
             Answer::View { from, bytes } => format!(r#"{{"from":"{from}","bytes":"{}"}}"#, hex(bytes)),
+            Answer::Plan(plan) => plan.json(),
             Answer::Astray => r#"{"astray":1}"#.to_string(),
         }
     }

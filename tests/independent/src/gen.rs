@@ -3,10 +3,12 @@
 //! right and wrong rows for the writer.
 
 mod message;
+mod plans;
 mod text;
 mod types;
 
 pub use message::{message, Message, Wrong};
+pub use plans::plan_calls;
 pub use text::{Made, Text};
 pub use types::Types;
 

@@ -3,9 +3,11 @@
 //! - [`check`]: the rules of a type table, [`forms`]: how its types are written as optionals.
 //! - [`read`]: the rows of a message, [`member`]: the bytes of one member.
 //! - [`write`]: a message from rows and the buffer they point into.
+//! - [`bursts`]: the check of a burst plan, and a planner.
 //!
 //! A refusal is its number and its place. No call panics on any input, and on a refusal every lent byte stays.
 
+pub mod bursts;
 pub mod calls;
 #[cfg(feature = "library")]
 pub mod ffi;

@@ -1,5 +1,6 @@
 //! The recorded calls of the gate, as crates/replay reads them from its file `stdin`, and the lines that it has to print.
 
+use crate::bursts::PlanCall;
 use crate::calls::{Answer, Call};
 use crate::json::hex;
 use crate::{forms, write, Reading};
@@ -55,6 +56,7 @@ impl<'a> Records<'a> {
             }
             4 => Call::Read { table: held, top: a, message: bytes.to_vec(), room: RECORDS },
             5 => Call::Check { table: held },
+            15 | 16 => Call::Plan(PlanCall::of_record(kind, a, bytes)?),
             _ => return None,
         };
         Some(Some(Recorded { call, is_of_records: kind == 4 }))
@@ -86,6 +88,10 @@ impl Recorded {
             Call::Write { of, format, count, rows, buffer, room, .. } => {
                 ([3, *of, *format, *count, rows.len() as u32, *room as u32], [&rows[..], buffer].concat())
             }
+            Call::Plan(call) => {
+                let (kind, first, bytes) = call.record();
+                ([kind, first, 0, 0, 0, 0], bytes)
+            }
         };
         let [kind, a, b, c, d, e] = numbers;
         record(kind, [a, b, c, d, e], &bytes)
@@ -112,6 +118,7 @@ impl Recorded {
             }
             (_, Answer::View { bytes, .. }) => hex(bytes),
             (_, Answer::Write { refusal: (no, place), out }) => numbers(&[*no, *place, out.len() as u32]) + &hex(out),
+            (_, Answer::Plan(plan)) => plan.line(),
             (_, Answer::Astray) => "touched".to_string(),
         }
     }
@@ -150,7 +157,7 @@ pub fn stdin(calls: &[Recorded]) -> Vec<u8> {
     let mut held = None;
     for call in calls {
         let table = call.call.table();
-        if held != Some(table) {
+        if held != Some(table) && !matches!(call.call, Call::Plan(_)) {
             held = Some(table);
             file.extend(record(0, [0; 5], table));
         }

@@ -1,7 +1,7 @@
 //! The command line, and the help.
 
 use crate::input::Source;
-use crate::show;
+use crate::{plan, show};
 use std::ffi::OsString;
 
 /// What is to be done.
@@ -11,6 +11,7 @@ pub enum Command {
     Version,
     Show(show::Request),
     Table(Source),
+    Plan(plan::Request),
 }
 
 const HELP: &str = "\
@@ -18,6 +19,8 @@ icehub: shows messages of Ice encoding 1.1 by their type table
 
   icehub show [--json] [--hex] TABLE TOP FILE..   show messages, or why they are refused
   icehub table TABLE                              show a type table, or where it breaks a rule
+  icehub plan FILE                                plan the satellite bursts of waiting messages
+  icehub plan --check FILE PLAN                   check a plan, and say what is wrong with it
   icehub --version                                print the version
   icehub --help, icehub COMMAND --help            print help
 
@@ -61,6 +64,25 @@ shows the rows before it.
 Exit status: 0 no rule is broken, 1 a rule is broken, 2 something could not be done (arguments, files).
 ";
 
+const PLAN_HELP: &str = "\
+icehub plan FILE
+icehub plan --check FILE PLAN
+
+Plans satellite bursts of at most 340 bytes: takes the messages in turn and opens a new burst only where the next message
+does not fit. With --check it checks a plan of any make, and says which line breaks which rule.
+
+  FILE     the waiting messages, two numbers a line: length in bytes, and cabin. Messages are counted from 0
+  PLAN     the plan, two numbers a line: a message's number and its burst's; what icehub plan prints
+  --       what follows is no option
+
+Either may be -, standard input. What comes after a # is a comment, and empty lines are passed over.
+
+A plan is right if burst numbers start at 0 and each is the one before or one more, each message is in exactly one entry,
+each burst has at most 340 bytes, and the messages of one cabin are in their waiting order.
+
+Exit status: 0 planned or accepted, 1 refused, 2 something could not be done (arguments, files).
+";
+
 /// The command of these words, or what is wrong with them.
 pub fn parse(words: impl IntoIterator<Item = OsString>) -> Result<Command, String> {
     let mut words = words.into_iter();
@@ -72,6 +94,7 @@ pub fn parse(words: impl IntoIterator<Item = OsString>) -> Result<Command, Strin
         Some("--version" | "-V") => Ok(Command::Version),
         Some("show") => parse_show(words),
         Some("table") => parse_table(words),
+        Some("plan") => parse_plan(words),
         _ => Err(format!("{} is no command; see icehub --help", first.to_string_lossy())),
     }
 }
@@ -138,5 +161,21 @@ fn parse_table(words: impl Iterator<Item = OsString>) -> Result<Command, String>
     match <[OsString; 1]>::try_from(operands) {
         Ok([table]) => Ok(Command::Table(Source::new(table))),
         Err(_) => Err("table takes one TABLE; see icehub table --help".to_string()),
+    }
+}
+
+fn parse_plan(words: impl Iterator<Item = OsString>) -> Result<Command, String> {
+    let Some(Words { options, operands }) = split(words, &["--check"], "plan")? else {
+        return Ok(Command::Help(PLAN_HELP));
+    };
+    let mut sources = operands.into_iter().map(Source::new);
+    let (messages, plan, more) = (sources.next(), sources.next(), sources.next());
+    match (messages, plan, more, options.is_empty()) {
+        (Some(messages), None, None, true) => Ok(Command::Plan(plan::Request { messages, plan: None })),
+        (Some(Source::Standard), Some(Source::Standard), None, false) => {
+            Err("- is named twice: standard input can be read only once".to_string())
+        }
+        (Some(messages), plan @ Some(_), None, false) => Ok(Command::Plan(plan::Request { messages, plan })),
+        _ => Err("plan takes one FILE, plan --check a FILE and a PLAN; see icehub plan --help".to_string()),
     }
 }

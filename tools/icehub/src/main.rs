@@ -8,6 +8,7 @@
 //! - `table`: the command `table`; `broken`: what is wrong with a table that breaks a rule
 //! - `accepted`, `refused`: a message for a person; `json`: a message as a line of JSON
 //! - `locate`: the slice and the member at a place of a refused message; `text`: the first bad byte of a string
+//! - `plan`: the command `plan`
 //! - `values`: values for a person; `words`: text, bytes and types in words
 
 mod accepted;
@@ -16,6 +17,7 @@ mod broken;
 mod input;
 mod json;
 mod locate;
+mod plan;
 mod refused;
 mod show;
 mod table;
@@ -74,6 +76,7 @@ fn run(out: &mut impl Write, status: &mut Status) -> io::Result<()> {
         Ok(Command::Version) => writeln!(out, "icehub {}", env!("CARGO_PKG_VERSION")),
         Ok(Command::Show(request)) => show::run(&request, out, status),
         Ok(Command::Table(source)) => table::run(&source, out, status),
+        Ok(Command::Plan(request)) => plan::run(&request, out, status),
         Err(wrong) => {
             tell(&wrong);
             status.raise(Status::Failed);

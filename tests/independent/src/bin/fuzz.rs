@@ -1,11 +1,12 @@
 //! fuzz [CALLS [SEED]]: makes calls (1,000,000 by default) of the reader, the writer and the table check, and a member
-//! view of each message read, and compares the proved library with this implementation in every number and every lent
+//! view of each message read, as many checks of a burst plan and calls of the planner, and compares the proved library with this implementation in every number and every lent
 //! byte. A difference is printed as a line like those of the recorded calls, the library's answer after it as `got`;
 //! with any, the exit status is 1.
 
+use independent::bursts::{flat, PlanCall};
 use independent::calls::{Answer, Call};
 use independent::ffi;
-use independent::gen::{Calls, Text};
+use independent::gen::{plan_calls, Calls, Rng, Text};
 use std::time::{Instant, SystemTime, UNIX_EPOCH};
 use std::{env, process};
 
@@ -39,6 +40,7 @@ fn main() {
     };
     let mut strings = Text::ALL.map(|what| (what, 0));
     let mut made = Calls::new(seed);
+    let (mut plans, mut plan_refusals) = (Rng(!seed), [[0; 47]; 2]);
     for index in 0..calls {
         let Some(call) = made.next() else { break };
         let expected = call.answer();
@@ -51,6 +53,15 @@ fn main() {
         if let Some(view) = call.view(index as u32 % 8) {
             compare(&view, &view.answer());
         }
+        for (which, call) in plan_calls(&mut plans).into_iter().enumerate() {
+            let expected = call.answer();
+            plan_refusals[which][expected.refusal() as usize] += 1;
+            compare(&call, &expected);
+            if let (Call::Plan(PlanCall::Check { messages, entries }), Answer::Plan(plan)) = (&call, &expected) {
+                let refusal = flat(messages, entries).err().map_or((0, 0), |place| (46, place));
+                assert_eq!(plan.refusal, refusal, "by document 02's sentence: {}", call.json(&expected));
+            }
+        }
     }
     for (version, refusals) in (1..).zip(refusals) {
         let met = refusals.iter().enumerate().filter(|(number, _)| !matches!(number, 1 | 25..=30));
@@ -59,6 +70,11 @@ fn main() {
     }
     let strings: Vec<_> = strings.iter().map(|(what, calls)| format!("{what:?} {calls}")).collect();
     println!("refused by 24, by the string: {}", strings.join(", "));
+    for (what, refusals) in ["checks of a burst plan", "calls of the planner"].into_iter().zip(plan_refusals) {
+        let met = refusals.iter().enumerate().filter(|(_, &calls)| calls > 0);
+        let reached: Vec<_> = met.map(|(number, calls)| format!("{number}: {calls}")).collect();
+        println!("answers by refusal number, {what}: {}", reached.join(", "));
+    }
     println!("{differences} differences in {calls} calls from seed {seed}, {:.1} s", start.elapsed().as_secs_f64());
     process::exit(i32::from(differences != 0));
 }

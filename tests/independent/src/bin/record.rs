@@ -1,3 +1,4 @@
+//! record --more FILE... REPLAY: puts the recorded calls of these files at the end of the gate's, as they are.
 //! record DIRECTORY REPLAY: puts the recorded calls of a directory into the gate: the files `stdin` and `stdout` of REPLAY,
 //! which is crates/replay. First come the checks, the readings, some of these once more with row records, the views and
 //! the writings of the directory's *.jsonl; then, as they are now, the cases of document 01 and the largest tables, which
@@ -14,7 +15,12 @@ const REFUSED: usize = 40;
 
 fn main() {
     let words: Vec<String> = env::args().skip(1).collect();
-    let [directory, replay] = &words[..] else { stop("record DIRECTORY REPLAY") };
+    if let [more, files @ .., replay] = &words[..] {
+        if more == "--more" {
+            return add(files, Path::new(replay));
+        }
+    }
+    let [directory, replay] = &words[..] else { stop("record DIRECTORY REPLAY, or record --more FILE... REPLAY") };
     let (directory, replay) = (Path::new(directory), Path::new(replay));
 
     let mut calls = vec![];
@@ -44,6 +50,24 @@ fn main() {
         calls.len(),
         calls.iter().filter(|call| call.is_of_records).count()
     );
+    write(&replay.join("stdin"), &replay::stdin(&calls));
+    write(&replay.join("stdout"), lines.as_bytes());
+}
+
+/// Adds the recorded calls of files at the end.
+fn add(files: &[String], replay: &Path) {
+    let Some(mut calls) = replay::calls(&read(&replay.join("stdin"))) else { stop("REPLAY has no recorded calls") };
+    let mut lines = String::from_utf8_lossy(&read(&replay.join("stdout"))).into_owned();
+    for file in files {
+        let made = recorded(Path::new(file));
+        println!("{file}: {}", made.len());
+        for (call, answer) in made {
+            let call = Recorded::from(call);
+            lines += &(call.line(&answer) + "\n");
+            calls.push(call);
+        }
+    }
+    println!("{} calls in all", calls.len());
     write(&replay.join("stdin"), &replay::stdin(&calls));
     write(&replay.join("stdout"), lines.as_bytes());
 }
