@@ -1,99 +1,86 @@
--- What a burst holds with one message more, and a message's cabin, by the code's tests. Assumes nothing.
+-- What a burst has left after one message more, the burst that a message goes to, and a message's cabin, by the code's tests. Assumes nothing.
 --
---   fits-long, fits-short    room for a message, without a sum
---   follow-..                whether a burst number may follow
---   carried-..               the bytes that a burst has already
---   packed-..                the bytes of a burst with one message more; packed-sum: their sum does not wrap
---   in-.., new-..            the burst that a message goes to
+--   put-.., pack-..          what a burst has left, or that it is full
+--   opens-..                 the first burst number
+--   in-.., new-.., whole-..  the burst that a message goes to
 --   cabin-known, cabin-none  the cabin of a message
 --   clash-..                 whether a message may not be before another
 use mathlib.Core.Path.{_≡_, refl, sym, ap, _∙_}
-use mathlib.Core.Bool.{Bool, true, false, _||_, not}
-use mathlib.Core.List.{List}
-use Prim.Native.Nat.{ℕ, zero, suc, _+_, _-_, _*_, _/_, _^_, _≤_, _<_}
+use mathlib.Core.Bool.{Bool, true, false, _||_}
+use mathlib.Core.List.{List, [], _∷_}
+use Prim.Native.Nat.{ℕ, zero, suc, _+_, _-_, _*_, _/_, _≤_, _<_}
 use native.Mathlib.Omega.{arith}
 use lib.ListN.{length, getD}
 use lib.Dec.{eqb, leb}
-use borrow.Author.Tests.{leb-true, leb-false, not-true, not-false, eqb-true, eqb-false, le-leb, lt-leb, lt-ltb, le-ltb, eq-eqb, ne-eqb}
+use borrow.Author.Tests.{le-leb, lt-leb, lt-ltb, le-ltb, eq-eqb, ne-eqb}
 use Rattle.encoding.specs.Result.{pick}
 use Rattle.bursts.specs.declared.Packed.{Packed}
 use Rattle.bursts.specs.declared.Packed.the-variants.{Holds, Full}
-use Rattle.bursts.specs.Bursts.{most, waitings, cabinOf}
-use Rattle.bursts.specs.Running.{clashing, mayFollow, packed, packing}
+use Rattle.bursts.specs.Bursts.{most, waitings, entries, cabinOf}
+use Rattle.bursts.specs.Running.{clashing, opening, mayFollow, packed, packing}
 use Rattle.bursts.specs.PairLaws.{cabin-at, cabin-past}
 
-pub fits-long : (has n : ℕ) → 340 < n → false ≡ leb (has + n) most
-fits-long has n h = sym (lt-leb (has + n) most (omega arith))
+module _ (room n : ℕ) where
+  pub put-in : n ≤ room → Holds (room - n) ≡ packed room n
+  unfolding packed
+  put-in h = rw (le-leb n room h)
 
-pub fits-short : (has n : ℕ) → n ≤ 340 → leb has (340 - n) ≡ leb (has + n) most
-fits-short has n h = go (leb has (340 - n)) refl
-  where
-    go : (t : Bool) → leb has (340 - n) ≡ t → leb has (340 - n) ≡ leb (has + n) most
-    go true w = let l = leb-true has (340 - n) w in w ∙ sym (le-leb (has + n) most (omega arith))
-    go false w = let l = leb-false has (340 - n) w in w ∙ sym (lt-leb (has + n) most (omega arith))
+  pub put-out : room < n → Full ≡ packed room n
+  unfolding packed
+  put-out h = rw (lt-leb n room h)
 
-pub follow-first : (i last b : ℕ) → i ≡ 0 → eqb b 0 ≡ mayFollow i last b
-unfolding mayFollow
-follow-first i last b h = rw (eq-eqb i 0 h)
+module _ (last left b n : ℕ) where
+  module _ (p : Packed) where
+    pub pack-on : b ≡ last → p ≡ packed left n → p ≡ packing last left b n
+    unfolding packing mayFollow
+    pack-on h e = e ∙ rw (eq-eqb b last h)
 
-pub follow-less : (i last b : ℕ) → (i ≡ 0 → ⊥) → b < last → false ≡ mayFollow i last b
-unfolding mayFollow
-follow-less i last b n h = rw (ne-eqb i 0 n, ne-eqb b last (away h), ne-eqb b (suc last) (aside h))
-  where
-    away : b < last → b ≡ last → ⊥
-    away h q = omega arith
+    pub pack-new : (b ≡ last → ⊥) → last ≤ b → b - last ≡ 1 → p ≡ packed 340 n → p ≡ packing last left b n
+    unfolding packing mayFollow
+    pack-new a h o e = e ∙ rw (ne-eqb b last a, eq-eqb b (suc last) (omega arith))
 
-    aside : b < last → b ≡ suc last → ⊥
-    aside h q = omega arith
+  pub pack-less : (b ≡ last → ⊥) → b < last → Full ≡ packing last left b n
+  unfolding packing mayFollow
+  pack-less a h = rw (ne-eqb b last a, ne-eqb b (suc last) (λ q. aside h q))
+    where
+      aside : b < last → b ≡ suc last → ⊥
+      aside h q = omega arith
 
-pub follow-next : (i last b : ℕ) → (i ≡ 0 → ⊥) → last ≤ b → leb (b - last) 1 ≡ mayFollow i last b
-unfolding mayFollow
-follow-next i last b n h = rw (ne-eqb i 0 n) (go (eqb b last) refl (eqb b (suc last)) refl)
-  where
-    go : (t : Bool) → eqb b last ≡ t → (u : Bool) → eqb b (suc last) ≡ u → leb (b - last) 1 ≡ (eqb b last || eqb b (suc last))
-    go true w u v = let q = eqb-true b last w in rw w (le-leb (b - last) 1 (omega arith))
-    go false w true v = let q = eqb-true b (suc last) v in rw (w, v) (le-leb (b - last) 1 (omega arith))
-    go false w false v = let q = eqb-false b last w in let r = eqb-false b (suc last) v in rw (w, v) (lt-leb (b - last) 1 (far q r))
-      where
-        far : (b ≡ last → ⊥) → (b ≡ suc last → ⊥) → 1 < b - last
-        far q r = omega arith
+  pub pack-far : (b ≡ last → ⊥) → last ≤ b → (b - last ≡ 1 → ⊥) → Full ≡ packing last left b n
+  unfolding packing mayFollow
+  pack-far a h o = rw (ne-eqb b last a, ne-eqb b (suc last) (λ q. o (aside q)))
+    where
+      aside : b ≡ suc last → b - last ≡ 1
+      aside q = omega arith
 
-pub carried-on : (last has b : ℕ) → b ≡ last → has ≡ pick (eqb b last) has 0
-carried-on last has b h = rw (eq-eqb b last h)
+pub opens-none : (ns : List ℕ) → length ns < 2 → true ≡ opening (entries ns)
+unfolding opening entries
+opens-none [] h = refl
+opens-none (a ∷ []) h = refl
+opens-none (a ∷ b ∷ l) h = absurd (omega arith)
 
-pub carried-none : (last has b : ℕ) → (b ≡ last → ⊥) → 0 ≡ pick (eqb b last) has 0
-carried-none last has b h = rw (ne-eqb b last h)
-
-module _ (i last has b n : ℕ) where
-  pub packed-astray : (t : Bool) → t ≡ mayFollow i last b → not t ≡ true → Full ≡ packing i last has b n
-  unfolding packing
-  packed-astray t e q = rw (sym e ∙ not-true t q)
-
-  module _ (t : Bool) (e : t ≡ mayFollow i last b) (q : not t ≡ false) (c : ℕ) (k : c ≡ pick (eqb b last) has 0) (u : Bool) (f : u ≡ leb (c + n) most) where
-    pub packed-in : u ≡ true → Holds (c + n) ≡ packing i last has b n
-    unfolding packing packed
-    packed-in g = rw (sym e ∙ not-false t q, ← k, sym f ∙ g)
-
-    pub packed-out : u ≡ false → Full ≡ packing i last has b n
-    unfolding packing packed
-    packed-out g = rw (sym e ∙ not-false t q, ← k, sym f ∙ g)
-
-pub packed-sum : (c n : ℕ) (u : Bool) → u ≡ leb (c + n) most → u ≡ true → c + n < 2 ^ 64
-packed-sum c n u f g = let l = leb-true (c + n) most (sym f ∙ g) in omega arith
+pub opens-some : (ns : List ℕ) → 2 ≤ length ns → eqb (getD ns 1 0) 0 ≡ opening (entries ns)
+unfolding opening entries
+opens-some [] h = absurd (omega arith)
+opens-some (a ∷ []) h = absurd (omega arith)
+opens-some (a ∷ b ∷ l) h = refl
 
 -- the burst that a message goes to
-module _ (burst has n : ℕ) (t : Bool) (e : t ≡ leb (has + n) most) where
-  pub in-number : t ≡ true → burst ≡ pick (leb (has + n) most) burst (suc burst)
-  in-number q = rw (sym e ∙ q)
+module _ (burst left n : ℕ) where
+  pub in-number : n ≤ left → burst ≡ pick (leb n left) burst (suc burst)
+  in-number h = rw (le-leb n left h)
 
-  pub in-bytes : t ≡ true → has + n ≡ pick (leb (has + n) most) (has + n) n
-  in-bytes q = rw (sym e ∙ q)
+  pub in-left : n ≤ left → left - n ≡ pick (leb n left) left most - n
+  in-left h = rw (le-leb n left h)
 
-  pub new-number : t ≡ false → burst + 1 ≡ pick (leb (has + n) most) burst (suc burst)
-  new-number q = rw (sym e ∙ q) (omega arith)
+  pub new-number : left < n → burst + 1 ≡ pick (leb n left) burst (suc burst)
+  new-number h = rw (lt-leb n left h) (omega arith)
 
-  pub new-bytes : t ≡ false → n ≡ pick (leb (has + n) most) (has + n) n
-  new-bytes q = rw (sym e ∙ q)
+  pub new-left : left < n → 340 - n ≡ pick (leb n left) left most - n
+  new-left h = rw (lt-leb n left h)
+
+  pub whole-left : left < n → 340 < n → 0 ≡ pick (leb n left) left most - n
+  whole-left h k = rw (lt-leb n left h) (omega arith)
 
 pub cabin-known : (ms : List ℕ) (m : ℕ) → m < length ms / 2 → getD ms (2 * m + 1) 0 ≡ cabinOf (waitings ms) m
 cabin-known ms m h = sym (cabin-at ms m h)

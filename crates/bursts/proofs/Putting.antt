@@ -8,7 +8,7 @@ use mathlib.Core.Path.{_≡_, refl, sym, ap, ap₂, _∙_}
 use mathlib.Core.Bool.{Bool, true, false}
 use mathlib.Core.Option.{Option, none, some}
 use mathlib.Core.List.{List, [], _∷_, _++_, append-assoc}
-use Prim.Native.Nat.{ℕ, zero, suc, _+_, _*_, _/_, _≤_, _<_}
+use Prim.Native.Nat.{ℕ, suc, _+_, _-_, _*_, _/_, _≤_, _<_}
 use native.Mathlib.Omega.{arith}
 use native.Mathlib.Numerals.{add-one}
 use lib.ListN.{length, take, drop, getD, set, length-set, take-append-drop}
@@ -27,14 +27,14 @@ use Rattle.bursts.specs.PairLaws.{waitings-count, length-at}
 
 -- ---- the loop
 
-fill-count : (i b has : ℕ) (ws : List Waiting) → length (fill i b has ws) ≡ length ws
+fill-count : (i b left : ℕ) (ws : List Waiting) → length (fill i b left ws) ≡ length ws
 unfolding fill
-fill-count i b has [] = refl
-fill-count i b has (w ∷ ws) = ap suc (fill-count (suc i) _ _ ws)
+fill-count i b left [] = refl
+fill-count i b left (w ∷ ws) = ap suc (fill-count (suc i) _ _ ws)
 
 plan-count : (ws : List Waiting) → length (plan ws) ≡ length ws
 unfolding plan
-plan-count ws = fill-count 0 0 0 ws
+plan-count ws = fill-count 0 0 most ws
 
 -- the list that the planner makes of a lent one
 abbrev pub filled : List ℕ → List ℕ → List ℕ
@@ -42,23 +42,23 @@ filled ms lent = entryNumbers (plan (waitings ms)) ++ drop (2 * (length ms / 2))
 
 -- the first i entries as they are, the rest made of the messages left
 abbrev toFill : List ℕ → List ℕ → ℕ → ℕ → ℕ → List ℕ
-toFill ms out i burst has = take (2 * i) out ++ (entryNumbers (fill i burst has (drop i (waitings ms))) ++ drop (2 * (length ms / 2)) out)
+toFill ms out i burst left = take (2 * i) out ++ (entryNumbers (fill i burst left (drop i (waitings ms))) ++ drop (2 * (length ms / 2)) out)
 
-pub record Putting (ms lent out : List ℕ) (i burst has : ℕ) : Type 0 where
+pub record Putting (ms lent out : List ℕ) (i burst left : ℕ) : Type 0 where
   pub inside : i ≤ length ms / 2
   pub kept : length out ≡ length lent
   pub few : burst ≤ i
-  pub rest : filled ms lent ≡ toFill ms out i burst has
+  pub rest : filled ms lent ≡ toFill ms out i burst left
 
-pub putting-begin : (ms lent : List ℕ) → Putting ms lent lent 0 0 0
+pub putting-begin : (ms lent : List ℕ) → Putting ms lent lent 0 0 most
 unfolding plan
 putting-begin ms lent = record { inside = omega arith; kept = refl; few = omega arith; rest = refl }
 
 -- one message more
-fill-step : (i b has b′ has′ : ℕ) (w : Waiting) (ws : List Waiting) → b′ ≡ pick (leb (has + w .bytes) most) b (suc b) → has′ ≡ pick (leb (has + w .bytes) most) (has + w .bytes) (w .bytes)
-    → entryNumbers (fill i b has (w ∷ ws)) ≡ i ∷ b′ ∷ entryNumbers (fill (suc i) b′ has′ ws)
+fill-step : (i b left b′ left′ : ℕ) (w : Waiting) (ws : List Waiting) → b′ ≡ pick (leb (w .bytes) left) b (suc b) → left′ ≡ pick (leb (w .bytes) left) left most - w .bytes
+    → entryNumbers (fill i b left (w ∷ ws)) ≡ i ∷ b′ ∷ entryNumbers (fill (suc i) b′ left′ ws)
 unfolding fill entryNumbers
-fill-step i b has b′ has′ w ws e f = rw (e, f)
+fill-step i b left b′ left′ w ws e f = rw (e, f)
 
 -- two numbers written
 take-two : (l : List ℕ) (k a b : ℕ) → suc k < length l → take (suc (suc k)) (set (set l k a) (suc k) b) ≡ take k l ++ (a ∷ []) ++ (b ∷ [])
@@ -69,31 +69,31 @@ few-next : (t : Bool) (i b b′ : ℕ) → b ≤ i → b′ ≡ pick t b (suc b)
 few-next true i b b′ h e = omega arith
 few-next false i b b′ h e = omega arith
 
-module _ (ms lent out : List ℕ) (i burst has : ℕ) (p : Putting ms lent out i burst has) where
-  module _ (room : length ms / 2 ≤ length lent / 2) (h : i < length ms / 2) (b has′ : ℕ)
-      (e : b ≡ pick (leb (has + getD ms (2 * i) 0) most) burst (suc burst))
-      (f : has′ ≡ pick (leb (has + getD ms (2 * i) 0) most) (has + getD ms (2 * i) 0) (getD ms (2 * i) 0)) where
+module _ (ms lent out : List ℕ) (i burst left : ℕ) (p : Putting ms lent out i burst left) where
+  module _ (room : length ms / 2 ≤ length lent / 2) (h : i < length ms / 2) (b left′ : ℕ)
+      (e : b ≡ pick (leb (getD ms (2 * i) 0) left) burst (suc burst))
+      (f : left′ ≡ pick (leb (getD ms (2 * i) 0) left) left most - getD ms (2 * i) 0) where
     bytes : messageAt (waitings ms) i .bytes ≡ getD ms (2 * i) 0
     unfolding lengthOf messageAt
     bytes = length-at ms i h
 
-    split : entryNumbers (fill i burst has (drop i (waitings ms))) ≡ i ∷ b ∷ entryNumbers (fill (suc i) b has′ (drop (suc i) (waitings ms)))
+    split : entryNumbers (fill i burst left (drop i (waitings ms))) ≡ i ∷ b ∷ entryNumbers (fill (suc i) b left′ (drop (suc i) (waitings ms)))
     unfolding messageAt
     split =
-        ap (λ (x : List Waiting). entryNumbers (fill i burst has x)) (drop-cons (waitings ms) i _ (omega (arith, waitings-count ms)))
-        ∙ fill-step i burst has b has′ (messageAt (waitings ms) i) (drop (suc i) (waitings ms))
-        (e ∙ ap (λ (n : ℕ). pick (leb (has + n) most) burst (suc burst)) (sym bytes))
-        (f ∙ ap (λ (n : ℕ). pick (leb (has + n) most) (has + n) n) (sym bytes))
+        ap (λ (x : List Waiting). entryNumbers (fill i burst left x)) (drop-cons (waitings ms) i _ (omega (arith, waitings-count ms)))
+        ∙ fill-step i burst left b left′ (messageAt (waitings ms) i) (drop (suc i) (waitings ms))
+        (e ∙ ap (λ (n : ℕ). pick (leb n left) burst (suc burst)) (sym bytes))
+        (f ∙ ap (λ (n : ℕ). pick (leb n left) left most - n) (sym bytes))
 
     regroup : (x y z : List ℕ) → x ++ ((i ∷ b ∷ y) ++ z) ≡ x ++ (i ∷ []) ++ (b ∷ []) ++ (y ++ z)
     regroup x y z = simp append-assoc
 
-    pub putting-next : Putting ms lent (set (set out (2 * i) i) (2 * i + 1) b) (i + 1) b has′
+    pub putting-next : Putting ms lent (set (set out (2 * i) i) (2 * i + 1) b) (i + 1) b left′
     putting-next = record {
       inside = omega arith;
       kept = simp length-set (p .kept);
-      few = few-next (leb (has + getD ms (2 * i) 0) most) i burst b (p .few) e;
-      rest = p .rest ∙ ap (λ (x : List ℕ). take (2 * i) out ++ (x ++ drop (2 * (length ms / 2)) out)) split ∙ regroup (take (2 * i) out) (entryNumbers (fill (suc i) b has′ (drop (suc i) (waitings ms)))) (drop (2 * (length ms / 2)) out) ∙ ap₂ (λ (x y : List ℕ). x ++ (entryNumbers (fill (suc i) b has′ (drop (suc i) (waitings ms))) ++ y)) (sym front) (sym behind) ∙ rw (add-one i);
+      few = few-next (leb (getD ms (2 * i) 0) left) i burst b (p .few) e;
+      rest = p .rest ∙ ap (λ (x : List ℕ). take (2 * i) out ++ (x ++ drop (2 * (length ms / 2)) out)) split ∙ regroup (take (2 * i) out) (entryNumbers (fill (suc i) b left′ (drop (suc i) (waitings ms)))) (drop (2 * (length ms / 2)) out) ∙ ap₂ (λ (x y : List ℕ). x ++ (entryNumbers (fill (suc i) b left′ (drop (suc i) (waitings ms))) ++ y)) (sym front) (sym behind) ∙ rw (add-one i);
     }
       where
         wide : suc (2 * i) < length out
@@ -112,7 +112,7 @@ module _ (ms lent out : List ℕ) (i burst has : ℕ) (p : Putting ms lent out i
   unfolding fill entryNumbers
   putting-done h =
       let z : i ≡ length ms / 2 = let l = p .inside in omega arith in
-      sym (p .rest ∙ ap (λ (x : List Waiting). take (2 * i) out ++ (entryNumbers (fill i burst has x) ++ drop (2 * (length ms / 2)) out)) (drop-all i (waitings ms) (omega (arith, waitings-count ms))) ∙ ap (λ (n : ℕ). take (2 * n) out ++ drop (2 * (length ms / 2)) out) z ∙ take-append-drop (2 * (length ms / 2)) out)
+      sym (p .rest ∙ ap (λ (x : List Waiting). take (2 * i) out ++ (entryNumbers (fill i burst left x) ++ drop (2 * (length ms / 2)) out)) (drop-all i (waitings ms) (omega (arith, waitings-count ms))) ∙ ap (λ (n : ℕ). take (2 * n) out ++ drop (2 * (length ms / 2)) out) z ∙ take-append-drop (2 * (length ms / 2)) out)
 
 -- ---- the answer
 

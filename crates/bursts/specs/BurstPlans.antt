@@ -25,14 +25,14 @@ use Rattle.bursts.specs.BurstLaws.{Fits, Spot, inner, last, spot, bytes-
 abbrev pub Full : List Waiting → List Entry → Type 0
 Full ws es = (k : ℕ) → suc k < length es → entryAt es (suc k) .burst ≡ suc (entryAt es k .burst) → most < bytesIn ws (entryAt es k .burst) (take (suc k) es) + lengthOf ws (suc k)
 
--- the entries so far, where burst b has so many bytes and i messages are taken
-record Filling (ws : List Waiting) (before : List Entry) (i b has : ℕ) : Type 0 where
+-- the entries so far, where burst b has so many bytes left and i messages are taken
+record Filling (ws : List Waiting) (before : List Entry) (i b left : ℕ) : Type 0 where
   count : length before ≡ i
   turn : (k : ℕ) → k < length before → entryAt before k .message ≡ k
   begun : Begun ws before
   latest : (k : ℕ) → suc k ≡ length before → entryAt before k .burst ≡ b
   start : length before ≡ 0 → b ≡ 0
-  bytes : bytesIn ws b before ≡ has
+  bytes : bytesIn ws b before + left ≡ most
   above : (c : ℕ) → b < c → bytesIn ws c before ≡ 0
   full : Full ws before
 
@@ -40,9 +40,9 @@ abbrev put : ℕ → ℕ → Entry
 put i n = record { message = i; burst = n }
 
 -- one more entry, of message i in burst n
-filling-next : (ws : List Waiting) (before : List Entry) (i b has n has′ : ℕ) → Filling ws before i b has → Fits ws before (put i n) → b ≤ n → (n ≡ suc b → most < bytesIn ws b before + lengthOf ws i)
-    → bytesIn ws n before + lengthOf ws i ≡ has′ → Filling ws (before ++ (put i n ∷ [])) (suc i) n has′
-filling-next ws before i b has n has′ f t l o h = record {
+filling-next : (ws : List Waiting) (before : List Entry) (i b left n left′ : ℕ) → Filling ws before i b left → Fits ws before (put i n) → b ≤ n → (n ≡ suc b → most < bytesIn ws b before + lengthOf ws i)
+    → bytesIn ws n before + lengthOf ws i + left′ ≡ most → Filling ws (before ++ (put i n ∷ [])) (suc i) n left′
+filling-next ws before i b left n left′ f t l o h = record {
   full = λ k q. full-at k (spot before (put i n) k (omega (arith, q))) (spot before (put i n) (suc k) q);
   count = longer;
   turn = λ k q. turn-at k (spot before (put i n) k q);
@@ -76,9 +76,9 @@ filling-next ws before i b has n has′ f t l o h = record {
     latest-at k (last q w) z = rw w
 
 -- an entry that may follow
-filling-fits : (ws : List Waiting) (before : List Entry) (i b has n : ℕ) → Filling ws before i b has → i < length ws → Or (n ≡ b) (n ≡ suc b)
+filling-fits : (ws : List Waiting) (before : List Entry) (i b left n : ℕ) → Filling ws before i b left → i < length ws → Or (n ≡ b) (n ≡ suc b)
     → (length before ≡ 0 → n ≡ 0) → bytesIn ws n before + lengthOf ws i ≤ most → Fits ws before (put i n)
-filling-fits ws before i b has n f k o z s = record {
+filling-fits ws before i b left n f k o z s = record {
   known = k;
   new = λ j l w. new-at j l w;
   starts = z;
@@ -97,13 +97,13 @@ filling-fits ws before i b has n f k o z s = record {
     steps-at j l (one e) = one (e ∙ sym (f .latest j l))
     steps-at j l (other e) = other (e ∙ ap suc (sym (f .latest j l)))
 
-fill-fits : (i b has : ℕ) (w : Waiting) (ws : List Waiting) → leb (has + w .bytes) most ≡ true → fill i b has (w ∷ ws) ≡ put i b ∷ fill (suc i) b (has + w .bytes) ws
+fill-fits : (i b left : ℕ) (w : Waiting) (ws : List Waiting) → leb (w .bytes) left ≡ true → fill i b left (w ∷ ws) ≡ put i b ∷ fill (suc i) b (left - w .bytes) ws
 unfolding fill
-fill-fits i b has w ws e = rw e
+fill-fits i b left w ws e = rw e
 
-fill-opens : (i b has : ℕ) (w : Waiting) (ws : List Waiting) → leb (has + w .bytes) most ≡ false → fill i b has (w ∷ ws) ≡ put i (suc b) ∷ fill (suc i) (suc b) (w .bytes) ws
+fill-opens : (i b left : ℕ) (w : Waiting) (ws : List Waiting) → leb (w .bytes) left ≡ false → fill i b left (w ∷ ws) ≡ put i (suc b) ∷ fill (suc i) (suc b) (most - w .bytes) ws
 unfolding fill
-fill-opens i b has w ws e = rw e
+fill-opens i b left w ws e = rw e
 
 -- all messages are taken
 pub record Filled (ws : List Waiting) (es : List Entry) : Type 0 where
@@ -112,15 +112,15 @@ pub record Filled (ws : List Waiting) (es : List Entry) : Type 0 where
   pub count : length es ≡ length ws
   pub full : Full ws es
 
-fill-filled : (ws done rest : List Waiting) (before : List Entry) (i b has : ℕ) → ws ≡ done ++ rest → i ≡ length done → NoneLong ws → Filling ws before i b has
-    → Filled ws (before ++ fill i b has rest)
+fill-filled : (ws done rest : List Waiting) (before : List Entry) (i b left : ℕ) → ws ≡ done ++ rest → i ≡ length done → NoneLong ws → Filling ws before i b left
+    → Filled ws (before ++ fill i b left rest)
 unfolding fill lengthOf messageAt bytesIn
-fill-filled ws done [] before i b has e z none′ f =
+fill-filled ws done [] before i b left e z none′ f =
     subst (λ (l : List Entry). Filled ws l) (sym (append-nil before))
     (record { begun = f .begun; turn = f .turn; full = f .full; count = f .count ∙ z ∙ sym (ap length (e ∙ append-nil done)) })
-fill-filled ws done (w ∷ rest) before i b has e z none′ f =
-    go (leb (has + w .bytes) most) refl
-    (λ b′ has′ g. fill-filled ws (done ++ (w ∷ [])) rest (before ++ (put i b′ ∷ [])) (suc i) b′ has′ (e ∙ sym (append-assoc done (w ∷ []) rest)) (omega (arith, z, length-append done (w ∷ []))) none′ g)
+fill-filled ws done (w ∷ rest) before i b left e z none′ f =
+    go (leb (w .bytes) left) refl
+    (λ b′ left′ g. fill-filled ws (done ++ (w ∷ [])) rest (before ++ (put i b′ ∷ [])) (suc i) b′ left′ (e ∙ sym (append-assoc done (w ∷ []) rest)) (omega (arith, z, length-append done (w ∷ []))) none′ g)
   where
     inside : i < length ws
     inside = let q = ap length e in omega (arith, q, z, length-append done (w ∷ rest))
@@ -128,35 +128,34 @@ fill-filled ws done (w ∷ rest) before i b has e z none′ f =
     long : lengthOf ws i ≡ w .bytes
     long = ap (λ (x : Waiting). x .bytes) (ap (λ (l : List Waiting). getD l i (record { bytes = 0; cabin = 0 })) e ∙ ap (λ (k : ℕ). getD (done ++ (w ∷ rest)) k (record { bytes = 0; cabin = 0 })) z ∙ getD-append-seam done w rest (record { bytes = 0; cabin = 0 }))
 
-    go : (t : Bool) → leb (has + w .bytes) most ≡ t
-        → ((b′ has′ : ℕ) → Filling ws (before ++ (put i b′ ∷ [])) (suc i) b′ has′ → Filled ws (before ++ (put i b′ ∷ []) ++ fill (suc i) b′ has′ rest))
-        → Filled ws (before ++ fill i b has (w ∷ rest))
+    go : (t : Bool) → leb (w .bytes) left ≡ t
+        → ((b′ left′ : ℕ) → Filling ws (before ++ (put i b′ ∷ [])) (suc i) b′ left′ → Filled ws (before ++ (put i b′ ∷ []) ++ fill (suc i) b′ left′ rest))
+        → Filled ws (before ++ fill i b left (w ∷ rest))
     go true t ih =
-        let small = leb-true (has + w .bytes) most t in
-        let most-has = f .begun .sums b in
-        let fit = filling-fits ws before i b has b f inside (one refl) (f .start) (omega (arith, f .bytes, long, small, most-has)) in
-        subst (λ (l : List Entry). Filled ws l) (append-assoc before (put i b ∷ []) (fill (suc i) b (has + w .bytes) rest) ∙ ap (λ (l : List Entry). before ++ l) (sym (fill-fits i b has w rest t)))
-        (ih b (has + w .bytes) (filling-next ws before i b has b (has + w .bytes) f fit (omega arith) (λ q. absurd (omega (arith, q))) (omega (arith, f .bytes, long))))
+        let small = leb-true (w .bytes) left t in
+        let fit = filling-fits ws before i b left b f inside (one refl) (f .start) (omega (arith, f .bytes, long, small)) in
+        subst (λ (l : List Entry). Filled ws l) (append-assoc before (put i b ∷ []) (fill (suc i) b (left - w .bytes) rest) ∙ ap (λ (l : List Entry). before ++ l) (sym (fill-fits i b left w rest t)))
+        (ih b (left - w .bytes) (filling-next ws before i b left b (left - w .bytes) f fit (omega arith) (λ q. absurd (omega (arith, q))) (omega (arith, f .bytes, long, small))))
     go false t ih =
-        let full = leb-false (has + w .bytes) most t in
+        let full = leb-false (w .bytes) left t in
         let short = none′ i inside in
         let nothing = f .above (suc b) (omega arith) in
-        let fit = filling-fits ws before i b has (suc b) f inside (other refl) (λ y. absurd (nonempty y full)) (omega (arith, nothing, short)) in
-        subst (λ (l : List Entry). Filled ws l) (append-assoc before (put i (suc b) ∷ []) (fill (suc i) (suc b) (w .bytes) rest) ∙ ap (λ (l : List Entry). before ++ l) (sym (fill-opens i b has w rest t)))
-        (ih (suc b) (w .bytes) (filling-next ws before i b has (suc b) (w .bytes) f fit (omega arith) (λ q. omega (arith, f .bytes, long, full, f .begun .sums b)) (omega (arith, nothing, long))))
+        let fit = filling-fits ws before i b left (suc b) f inside (other refl) (λ y. absurd (nonempty y full)) (omega (arith, nothing, short)) in
+        subst (λ (l : List Entry). Filled ws l) (append-assoc before (put i (suc b) ∷ []) (fill (suc i) (suc b) (most - w .bytes) rest) ∙ ap (λ (l : List Entry). before ++ l) (sym (fill-opens i b left w rest t)))
+        (ih (suc b) (most - w .bytes) (filling-next ws before i b left (suc b) (most - w .bytes) f fit (omega arith) (λ q. omega (arith, f .bytes, long, full)) (omega (arith, nothing, long, short))))
       where
         no-bytes : (es : List Entry) → length es ≡ 0 → bytesIn ws b es ≡ 0
         no-bytes [] q = refl
         no-bytes (x ∷ es) q = absurd (omega arith)
 
-        nonempty : length before ≡ 0 → most < has + w .bytes → ⊥
+        nonempty : length before ≡ 0 → left < w .bytes → ⊥
         nonempty y full = omega (arith, no-bytes before y, f .bytes, none′ i inside, long, full)
 
 -- ---- the plan
 
 plan-filled : (ws : List Waiting) → NoneLong ws → Filled ws (plan ws)
 unfolding plan bytesIn
-plan-filled ws n = fill-filled ws [] ws [] 0 0 0 refl refl n (record {
+plan-filled ws n = fill-filled ws [] ws [] 0 0 most refl refl n (record {
   count = refl;
   turn = λ k q. absurd (omega (arith, q));
   begun = begun-empty ws;

@@ -135,17 +135,17 @@ unfoldable pub tooLong : ℕ → List Waiting → Option ℕ
 tooLong i [] = none
 tooLong i (w ∷ ws) = let later = tooLong (suc i) ws in pick (ltb most (w .bytes)) (some i) later
 
--- messages in turn from number i on, where burst b has so many bytes: a new burst only where the next does not fit
+-- messages in turn from number i on, where burst b has so many bytes left: a new burst only where the next does not fit
 unfoldable pub fill : ℕ → ℕ → ℕ → List Waiting → List Entry
-fill i b has [] = []
-fill i b has (w ∷ ws) =
-    let fits = leb (has + w .bytes) most in
+fill i b left [] = []
+fill i b left (w ∷ ws) =
+    let fits = leb (w .bytes) left in
     let next = pick fits b (suc b) in
-    record { message = i; burst = next } ∷ fill (suc i) next (pick fits (has + w .bytes) (w .bytes)) ws
+    record { message = i; burst = next } ∷ fill (suc i) next (pick fits left most - w .bytes) ws
 
 -- the plan of messages
 unfoldable pub plan : List Waiting → List Entry
-plan ws = fill 0 0 0 ws
+plan ws = fill 0 0 most ws
 
 -- what the planner gives
 pub data Plan : Type 0 where

@@ -3,14 +3,16 @@
 --   clashing ws m own x      message x may not be before message m, whose cabin is `own`: it is m, or a later message of that cabin
 --   clashes ws m es          some entry's message may not be before message m
 --   late ws above m es       the same of entries whose messages are all below `above`
---   mayFollow i last b       burst b may follow at entry i, where the entry before has burst `last`
---   packing i last has b n   the bytes of burst b with a message of n bytes, where burst `last` has so many; or it is full
---   entering ..              the bytes of burst b with message m at entry i, or the entry breaks a rule with those before
+--   opening es               the first burst number is 0
+--   mayFollow last b         burst b may follow burst `last`
+--   packed room n            what is left of so much room after a message of n bytes; or it is full
+--   packing last left b n    the same of burst b, where burst `last` has so much left
+--   entering ..              the bytes left in burst b after message m, or the entry breaks a rule with those before
 --   foundOf                  the first message that is too long, as the code answers
 use mathlib.Core.Bool.{Bool, true, false, _&&_, _||_}
 use mathlib.Core.Option.{Option, none, some}
-use mathlib.Core.List.{List}
-use Prim.Native.Nat.{ℕ, suc, _+_}
+use mathlib.Core.List.{List, [], _∷_}
+use Prim.Native.Nat.{ℕ, suc, _-_}
 use lib.ListN.{length}
 use lib.Dec.{eqb, leb, ltb}
 use Rattle.encoding.specs.Result.{pick}
@@ -29,17 +31,21 @@ clashes ws m es = anyEntry (λ e. clashing ws m (cabinOf ws m) (e .message)) es
 unfoldable pub late : List Waiting → ℕ → ℕ → List Entry → Bool
 late ws above m es = pick (ltb m above) (clashes ws m es) false
 
-unfoldable pub mayFollow : ℕ → ℕ → ℕ → Bool
-mayFollow i last b = pick (eqb i 0) (eqb b 0) (eqb b last || eqb b (suc last))
+unfoldable pub opening : List Entry → Bool
+opening [] = true
+opening (e ∷ es) = eqb (e .burst) 0
+
+unfoldable pub mayFollow : ℕ → ℕ → Bool
+mayFollow last b = eqb b last || eqb b (suc last)
 
 unfoldable pub packed : ℕ → ℕ → Packed
-packed has n = pick (leb (has + n) most) (Holds (has + n)) Full
+packed room n = pick (leb n room) (Holds (room - n)) Full
 
-unfoldable pub packing : ℕ → ℕ → ℕ → ℕ → ℕ → Packed
-packing i last has b n = pick (mayFollow i last b) (packed (pick (eqb b last) has 0) n) Full
+unfoldable pub packing : ℕ → ℕ → ℕ → ℕ → Packed
+packing last left b n = pick (mayFollow last b) (packed (pick (eqb b last) left most) n) Full
 
-unfoldable pub entering : List Waiting → List Entry → ℕ → ℕ → ℕ → ℕ → ℕ → ℕ → Packed
-entering ws before i above last has m b = pick (leb (length ws) m) Full (pick (late ws above m before) Full (packing i last has b (lengthOf ws m)))
+unfoldable pub entering : List Waiting → List Entry → ℕ → ℕ → ℕ → ℕ → ℕ → Packed
+entering ws before above last left m b = pick (leb (length ws) m) Full (pick (late ws above m before) Full (packing last left b (lengthOf ws m)))
 
 unfoldable pub foundOf : Option ℕ → Found
 foundOf (some i) = At i

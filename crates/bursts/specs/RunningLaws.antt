@@ -4,7 +4,7 @@
 use mathlib.Core.Path.{_≡_, refl, sym, ap, _∙_, subst}
 use mathlib.Core.Bool.{Bool, true, false, _&&_, _||_, true≢false, false≢true}
 use mathlib.Core.List.{List, [], _∷_, _++_}
-use Prim.Native.Nat.{ℕ, zero, suc, _+_, _≤_, _<_}
+use Prim.Native.Nat.{ℕ, zero, suc, _+_, _-_, _≤_, _<_}
 use native.Mathlib.Omega.{arith}
 use lib.ListN.{length, take, drop, getD, length-append}
 use lib.Seq.{take-suc, take-all, drop-cons, drop-length, getD-take, length-take-le}
@@ -20,7 +20,7 @@ use Rattle.bursts.specs.Bursts.{Waiting, Entry, most, lengthOf, cabinOf,
 use Rattle.bursts.specs.BurstDemands.{noEntry, entryAt, Or, one, other, Begun}
 use Rattle.bursts.specs.BurstLaws.{any-found, any-none, Fits, fits-of, of-fits, begun-snoc, begun-empty, broken-here, broken-step, bytes-append, bytes-one, bytes-other}
 use Rattle.bursts.specs.BurstCounts.{missing-counted}
-use Rattle.bursts.specs.Running.{clashing, clashes, late, mayFollow, packed, packing, entering}
+use Rattle.bursts.specs.Running.{clashing, clashes, late, opening, mayFollow, packed, packing, entering}
 
 pub drop-all : {A : Type 0} (n : ℕ) (l : List A) → length l ≤ n → drop n l ≡ []
 drop-all zero [] h = refl
@@ -30,40 +30,27 @@ drop-all (suc n) (x ∷ l) h = drop-all n l (omega arith)
 
 -- ---- bursts
 
--- the ways in which a burst number may follow
+-- the ways in which a burst number may follow at entry i
 data Follows (i last b : ℕ) : Type 0 where
   first : i ≡ 0 → b ≡ 0 → Follows i last b
   same : (i ≡ 0 → ⊥) → b ≡ last → Follows i last b
   new : (i ≡ 0 → ⊥) → b ≡ suc last → Follows i last b
 
-follows-of : (i last b : ℕ) → mayFollow i last b ≡ true → Follows i last b
+follow-same : (last b : ℕ) → b ≡ last → mayFollow last b ≡ true
 unfolding mayFollow
-follows-of i last b m = go (eqb i 0) refl m (eqb b last) refl
-  where
-    go : (t : Bool) → eqb i 0 ≡ t → pick t (eqb b 0) (eqb b last || eqb b (suc last)) ≡ true → (u : Bool) → eqb b last ≡ u → Follows i last b
-    go true w m u v = first (eqb-true i 0 w) (eqb-true b 0 m)
-    go false w m true v = same (eqb-false i 0 w) (eqb-true b last v)
-    go false w m false v = new (eqb-false i 0 w) (eqb-true b (suc last) (rw v at m))
+follow-same last b h = rw (eq-eqb b last h)
 
-follow-first : (i last b : ℕ) → i ≡ 0 → b ≡ 0 → mayFollow i last b ≡ true
+follow-new : (last b : ℕ) → b ≡ suc last → mayFollow last b ≡ true
 unfolding mayFollow
-follow-first i last b z h = rw (eq-eqb i 0 z) (eq-eqb b 0 h)
-
-follow-same : (i last b : ℕ) → (i ≡ 0 → ⊥) → b ≡ last → mayFollow i last b ≡ true
-unfolding mayFollow
-follow-same i last b z h = rw (ne-eqb i 0 z, eq-eqb b last h)
-
-follow-new : (i last b : ℕ) → (i ≡ 0 → ⊥) → b ≡ suc last → mayFollow i last b ≡ true
-unfolding mayFollow
-follow-new i last b z h = rw (ne-eqb i 0 z, eq-eqb b (suc last) h) (go (eqb b last))
+follow-new last b h = rw (eq-eqb b (suc last) h) (go (eqb b last))
   where
     go : (t : Bool) → t || true ≡ true
     go true = refl
     go false = refl
 
--- what a burst has from the entries before
-abbrev carried : ℕ → ℕ → ℕ → ℕ
-carried last has b = pick (eqb b last) has 0
+-- the room of a burst: what is left of the last one, or a whole one
+abbrev room : ℕ → ℕ → ℕ → ℕ
+room last left b = pick (eqb b last) left most
 
 holds≢full : {p : Packed} {h : ℕ} → p ≡ Holds h → p ≡ Full → ⊥
 holds≢full e f = let z : _≡_ {A = ℕ} 0 1 = cc in omega arith
@@ -71,47 +58,68 @@ holds≢full e f = let z : _≡_ {A = ℕ} 0 1 = cc in omega arith
 holds-same : {p : Packed} {h k : ℕ} → p ≡ Holds h → p ≡ Holds k → h ≡ k
 holds-same e f = cc
 
-module _ (i last has b n : ℕ) where
-  packing-fits : mayFollow i last b ≡ true → carried last has b + n ≤ most → packing i last has b n ≡ Holds (carried last has b + n)
+module _ (last left b n : ℕ) where
+  packing-fits : mayFollow last b ≡ true → n ≤ room last left b → packing last left b n ≡ Holds (room last left b - n)
   unfolding packing packed
-  packing-fits m l = rw (m, le-leb (carried last has b + n) most l)
+  packing-fits m l = rw (m, le-leb n (room last left b) l)
 
-  packing-over : mayFollow i last b ≡ true → most < carried last has b + n → packing i last has b n ≡ Full
+  packing-over : mayFollow last b ≡ true → room last left b < n → packing last left b n ≡ Full
   unfolding packing packed
-  packing-over m l = rw (m, lt-leb (carried last has b + n) most l)
+  packing-over m l = rw (m, lt-leb n (room last left b) l)
 
-  packing-astray : mayFollow i last b ≡ false → packing i last has b n ≡ Full
+  packing-astray : mayFollow last b ≡ false → packing last left b n ≡ Full
   unfolding packing
   packing-astray m = rw m
 
   -- what a burst that holds a message says
   record Held (h : ℕ) : Type 0 where
-    follows : mayFollow i last b ≡ true
-    room : carried last has b + n ≤ most
-    sum : carried last has b + n ≡ h
+    follows : mayFollow last b ≡ true
+    fits : n ≤ room last left b
+    rest : room last left b - n ≡ h
 
-  packing-held : (h : ℕ) → packing i last has b n ≡ Holds h → Held h
-  packing-held h e = go (mayFollow i last b) refl (leb (carried last has b + n) most) refl
+  packing-held : (h : ℕ) → packing last left b n ≡ Holds h → Held h
+  packing-held h e = go (mayFollow last b) refl (leb n (room last left b)) refl
     where
-      go : (t : Bool) → mayFollow i last b ≡ t → (u : Bool) → leb (carried last has b + n) most ≡ u → Held h
+      go : (t : Bool) → mayFollow last b ≡ t → (u : Bool) → leb n (room last left b) ≡ u → Held h
       go false w u v = absurd (holds≢full e (packing-astray w))
-      go true w false v = absurd (holds≢full e (packing-over w (leb-false (carried last has b + n) most v)))
-      go true w true v = let l = leb-true (carried last has b + n) most v in record { follows = w; room = l; sum = holds-same (packing-fits w l) e }
+      go true w false v = absurd (holds≢full e (packing-over w (leb-false n (room last left b) v)))
+      go true w true v = let l = leb-true n (room last left b) v in record { follows = w; fits = l; rest = holds-same (packing-fits w l) e }
+
+room-same : (last left b : ℕ) → b ≡ last → room last left b ≡ left
+room-same last left b e = rw (eq-eqb b last e)
+
+room-new : (last left b : ℕ) → (b ≡ last → ⊥) → room last left b ≡ most
+room-new last left b e = rw (ne-eqb b last e)
+
+-- the first burst number, if there is one, is 0
+abbrev pub Opens : List Entry → Type 0
+Opens es = 0 < length es → entryAt es 0 .burst ≡ 0
+
+pub opens-of : (es : List Entry) → opening es ≡ true → Opens es
+unfolding opening
+opens-of [] e h = absurd (omega arith)
+opens-of (x ∷ es) e h = eqb-true (x .burst) 0 e
+
+-- one that is not 0 breaks a rule at once
+pub opens-not : (es : List Entry) → opening es ≡ false → (0 < length es) × (entryAt es 0 .burst ≡ 0 → ⊥)
+unfolding opening
+opens-not [] e = absurd (true≢false e)
+opens-not (x ∷ es) e = (omega arith, eqb-false (x .burst) 0 e)
 
 -- ---- the pass
 
 -- what the pass has after i entries
-pub record Running (ws : List Waiting) (es : List Entry) (i above last has : ℕ) : Type 0 where
+pub record Running (ws : List Waiting) (es : List Entry) (i above last left : ℕ) : Type 0 where
   pub inside : i ≤ length es
   pub begun : Begun ws (take i es)
   pub below : (j : ℕ) → j < i → entryAt es j .message < above
   pub latest : (j : ℕ) → suc j ≡ i → entryAt es j .burst ≡ last
   pub start : i ≡ 0 → last ≡ 0
-  pub bytes : bytesIn ws last (take i es) ≡ has
+  pub bytes : bytesIn ws last (take i es) + left ≡ most
   pub later : (c : ℕ) → last < c → bytesIn ws c (take i es) ≡ 0
   pub rest : judge ws es ≡ verdict ws es (firstBroken ws i (take i es) (drop i es))
 
-pub running-begin : (ws : List Waiting) (es : List Entry) → Running ws es 0 0 0 0
+pub running-begin : (ws : List Waiting) (es : List Entry) → Running ws es 0 0 0 most
 unfolding bytesIn judge
 running-begin ws es = record {
   inside = omega arith;
@@ -124,27 +132,21 @@ running-begin ws es = record {
   rest = refl;
 }
 
-carried-same : (last has b : ℕ) → b ≡ last → carried last has b ≡ has
-carried-same last has b e = rw (eq-eqb b last e)
-
-carried-new : (last has b : ℕ) → (b ≡ last → ⊥) → carried last has b ≡ 0
-carried-new last has b e = rw (ne-eqb b last e)
-
-module _ (ws : List Waiting) (es : List Entry) (i above last has : ℕ) (r : Running ws es i above last has) where
+module _ (ws : List Waiting) (es : List Entry) (i above last left : ℕ) (r : Running ws es i above last left) where
   -- the bytes of a burst number that may follow
-  follows-bytes : (b : ℕ) → Follows i last b → bytesIn ws b (take i es) ≡ carried last has b
+  follows-bytes : (b : ℕ) → Follows i last b → bytesIn ws b (take i es) + room last left b ≡ most
   follows-bytes b f = go f
     where
-      on : b ≡ last → bytesIn ws b (take i es) ≡ carried last has b
-      on e = ap (λ (x : ℕ). bytesIn ws x (take i es)) e ∙ r .bytes ∙ sym (carried-same last has b e)
+      on : b ≡ last → bytesIn ws b (take i es) + room last left b ≡ most
+      on e = let z = ap (λ (x : ℕ). bytesIn ws x (take i es)) e in omega (arith, z, r .bytes, room-same last left b e)
 
       away : b ≡ suc last → b ≡ last → ⊥
       away e q = omega arith
 
-      go : Follows i last b → bytesIn ws b (take i es) ≡ carried last has b
+      go : Follows i last b → bytesIn ws b (take i es) + room last left b ≡ most
       go (first z h) = on (h ∙ sym (r .start z))
       go (same n e) = on e
-      go (new n e) = r .later b (omega arith) ∙ sym (carried-new last has b (away e))
+      go (new n e) = omega (arith, r .later b (omega arith), room-new last left b (away e))
 
   -- it is no earlier one
   follows-least : (b : ℕ) → Follows i last b → last ≤ b
@@ -164,7 +166,7 @@ module _ (ws : List Waiting) (es : List Entry) (i above last has : ℕ) (r : Run
 
   module _ (h : i < length es) (e : Entry) (is : entryAt es i ≡ e) where
     -- an entry that breaks a rule is the place of 46
-    running-broken : (Fits ws (take i es) e → ⊥) → Breaks i ≡ judge ws es
+    pub running-broken : (Fits ws (take i es) e → ⊥) → Breaks i ≡ judge ws es
     unfolding verdict
     running-broken n =
         sym
@@ -177,25 +179,30 @@ module _ (ws : List Waiting) (es : List Entry) (i above last has : ℕ) (r : Run
         go false w = absurd (n (fits-of ws (take i es) e w))
 
     -- a burst that holds the message no more
-    fits-follows : Fits ws (take i es) e → mayFollow i last (e .burst) ≡ true
+    fits-follows : Fits ws (take i es) e → Follows i last (e .burst)
     fits-follows f = go i refl
       where
         some-entry : (j : ℕ) → i ≡ suc j → i ≡ 0 → ⊥
         some-entry j a b = omega arith
 
-        steps-on : (j : ℕ) → i ≡ suc j → Or (e .burst ≡ entryAt (take i es) j .burst) (e .burst ≡ suc (entryAt (take i es) j .burst)) → mayFollow i last (e .burst) ≡ true
-        steps-on j z (one q) = follow-same i last (e .burst) (some-entry j z) (q ∙ ap (λ (x : Entry). x .burst) (front j (omega arith)) ∙ r .latest j (sym z))
-        steps-on j z (other q) = follow-new i last (e .burst) (some-entry j z) (q ∙ ap suc (ap (λ (x : Entry). x .burst) (front j (omega arith)) ∙ r .latest j (sym z)))
+        steps-on : (j : ℕ) → i ≡ suc j → Or (e .burst ≡ entryAt (take i es) j .burst) (e .burst ≡ suc (entryAt (take i es) j .burst)) → Follows i last (e .burst)
+        steps-on j z (one q) = same (some-entry j z) (q ∙ ap (λ (x : Entry). x .burst) (front j (omega arith)) ∙ r .latest j (sym z))
+        steps-on j z (other q) = new (some-entry j z) (q ∙ ap suc (ap (λ (x : Entry). x .burst) (front j (omega arith)) ∙ r .latest j (sym z)))
 
-        go : (n : ℕ) → i ≡ n → mayFollow i last (e .burst) ≡ true
-        go zero z = follow-first i last (e .burst) z (f .starts (counted ∙ z))
+        go : (n : ℕ) → i ≡ n → Follows i last (e .burst)
+        go zero z = first z (f .starts (counted ∙ z))
         go (suc j) z = steps-on j z (f .steps j (omega (arith, counted, z)))
 
-    running-full : packing i last has (e .burst) (lengthOf ws (e .message)) ≡ Full → Fits ws (take i es) e → ⊥
+    follows-may : Follows i last (e .burst) → mayFollow last (e .burst) ≡ true
+    follows-may (first z q) = follow-same last (e .burst) (q ∙ sym (r .start z))
+    follows-may (same n q) = follow-same last (e .burst) q
+    follows-may (new n q) = follow-new last (e .burst) q
+
+    running-full : packing last left (e .burst) (lengthOf ws (e .message)) ≡ Full → Fits ws (take i es) e → ⊥
     running-full p f =
         let m = fits-follows f in
-        let b = follows-bytes (e .burst) (follows-of i last (e .burst) m) in
-        holds≢full (packing-fits i last has (e .burst) (lengthOf ws (e .message)) m (omega (arith, b, f .sum))) p
+        let b = follows-bytes (e .burst) m in
+        holds≢full (packing-fits last left (e .burst) (lengthOf ws (e .message)) (follows-may m) (omega (arith, b, f .sum))) p
 
     -- a message that clashes with one before
     running-clash : clashes ws (e .message) (take i es) ≡ true → Fits ws (take i es) e → ⊥
@@ -262,9 +269,18 @@ module _ (ws : List Waiting) (es : List Entry) (i above last has : ℕ) (r : Run
         go false w p = early-above (ltb-false (e .message) above w)
 
     -- an entry that breaks no rule
-    module _ (p : ℕ) (known : e .message < length ws) (y : Early) (d : Held i last has (e .burst) (lengthOf ws (e .message)) p) where
+    module _ (o : Opens es) (p : ℕ) (known : e .message < length ws) (y : Early) (d : Held last left (e .burst) (lengthOf ws (e .message)) p) where
       goes : Follows i last (e .burst)
-      goes = follows-of i last (e .burst) (d .follows)
+      unfolding mayFollow
+      goes = go (eqb i 0) refl (eqb (e .burst) last) refl (d .follows)
+        where
+          open-burst : i ≡ 0 → e .burst ≡ 0
+          open-burst z = sym (ap (λ (x : Entry). x .burst) (ap (entryAt es) (sym z) ∙ is)) ∙ o (omega (arith, h))
+
+          go : (t : Bool) → eqb i 0 ≡ t → (u : Bool) → eqb (e .burst) last ≡ u → u || eqb (e .burst) (suc last) ≡ true → Follows i last (e .burst)
+          go true w u v m = first (eqb-true i 0 w) (open-burst (eqb-true i 0 w))
+          go false w true v m = same (eqb-false i 0 w) (eqb-true (e .burst) last v)
+          go false w false v m = new (eqb-false i 0 w) (eqb-true (e .burst) (suc last) m)
 
       running-fits : Fits ws (take i es) e
       running-fits = record {
@@ -272,7 +288,7 @@ module _ (ws : List Waiting) (es : List Entry) (i above last has : ℕ) (r : Run
         new = y .apart;
         starts = λ z. starts-at (omega (arith, counted, z)) goes;
         steps = λ j z. steps-at j (omega (arith, counted, z)) goes;
-        sum = omega (arith, follows-bytes (e .burst) goes, d .room);
+        sum = omega (arith, follows-bytes (e .burst) goes, d .fits);
         order = y .order;
       }
         where
@@ -302,7 +318,7 @@ module _ (ws : List Waiting) (es : List Entry) (i above last has : ℕ) (r : Run
         below = λ j k. below-at j k (ltb j i) refl;
         latest = λ j k. latest-at j k;
         start = λ z. absurd (omega (arith, z));
-        bytes = ap (bytesIn ws (e .burst)) more ∙ omega (arith, bytes-append ws (e .burst) (take i es) (e ∷ []), bytes-one ws e, follows-bytes (e .burst) goes, d .sum);
+        bytes = let m = ap (bytesIn ws (e .burst)) more in omega (arith, m, bytes-append ws (e .burst) (take i es) (e ∷ []), bytes-one ws e, follows-bytes (e .burst) goes, d .fits, d .rest);
         later = λ c k. ap (bytesIn ws c) more ∙ omega (arith, bytes-append ws c (take i es) (e ∷ []), bytes-other ws c e (λ q. differ c k q), r .later c (omega (arith, follows-least (e .burst) goes, k)));
         rest =
             r .rest
@@ -327,19 +343,19 @@ module _ (ws : List Waiting) (es : List Entry) (i above last has : ℕ) (r : Run
     data Entered (x : Packed) : Type 0 where
       unknown : length ws ≤ e .message → x ≡ Full → Entered x
       too-late : late ws above (e .message) (take i es) ≡ true → x ≡ Full → Entered x
-      goes-on : e .message < length ws → late ws above (e .message) (take i es) ≡ false → packing i last has (e .burst) (lengthOf ws (e .message)) ≡ x → Entered x
+      goes-on : e .message < length ws → late ws above (e .message) (take i es) ≡ false → packing last left (e .burst) (lengthOf ws (e .message)) ≡ x → Entered x
 
-    entered : Entered (entering ws (take i es) i above last has (e .message) (e .burst))
+    entered : Entered (entering ws (take i es) above last left (e .message) (e .burst))
     unfolding entering
     entered = go (leb (length ws) (e .message)) refl (late ws above (e .message) (take i es)) refl
       where
         go : (t : Bool) → leb (length ws) (e .message) ≡ t → (u : Bool) → late ws above (e .message) (take i es) ≡ u
-            → Entered (pick t Full (pick u Full (packing i last has (e .burst) (lengthOf ws (e .message)))))
+            → Entered (pick t Full (pick u Full (packing last left (e .burst) (lengthOf ws (e .message)))))
         go true w u v = unknown (leb-true (length ws) (e .message) w) refl
         go false w true v = too-late v refl
         go false w false v = goes-on (leb-false (length ws) (e .message) w) v refl
 
-    module _ (x : Packed) (q : x ≡ entering ws (take i es) i above last has (e .message) (e .burst)) where
+    module _ (x : Packed) (q : x ≡ entering ws (take i es) above last left (e .message) (e .burst)) where
       pub running-stuck : x ≡ Full → Breaks i ≡ judge ws es
       running-stuck f = running-broken (go (subst Entered (sym q) entered))
         where
@@ -356,13 +372,13 @@ module _ (ws : List Waiting) (es : List Entry) (i above last has : ℕ) (r : Run
           go (too-late l g) = absurd (holds≢full f g)
           go (goes-on k l g) = k
 
-      pub running-next : (p above′ : ℕ) → x ≡ Holds p → above ≤ above′ → e .message < above′ → Running ws es (suc i) above′ (e .burst) p
-      running-next p above′ f a m = go (subst Entered (sym q) entered)
+      pub running-next : Opens es → (p above′ : ℕ) → x ≡ Holds p → above ≤ above′ → e .message < above′ → Running ws es (suc i) above′ (e .burst) p
+      running-next o p above′ f a m = go (subst Entered (sym q) entered)
         where
           go : Entered x → Running ws es (suc i) above′ (e .burst) p
           go (unknown k g) = absurd (holds≢full f g)
           go (too-late l g) = absurd (holds≢full f g)
-          go (goes-on k l g) = running-step p k (early-of l) (packing-held i last has (e .burst) (lengthOf ws (e .message)) p (g ∙ f)) above′ a m
+          go (goes-on k l g) = running-step o p k (early-of l) (packing-held last left (e .burst) (lengthOf ws (e .message)) p (g ∙ f)) above′ a m
 
   -- the pass is over
   module _ (h : length es ≤ i) where

@@ -3,12 +3,12 @@
 // The check needs no memory of its own: while message numbers rise it looks at each entry once; at one that does not, it looks through the entries before it.
 ghost use mathlib.Core.Path.{_≡_};
 ghost use mathlib.Core.List.{_++_};
-ghost use Prim.Native.Nat.{suc, _+_, _*_, _/_, _≤_, _<_};
-ghost use lib.Dec.{eqb, leb};
+ghost use Prim.Native.Nat.{suc, _-_, _*_, _/_, _≤_, _<_};
+ghost use lib.Dec.{leb};
 ghost use lib.ListN.{length, take, drop};
 ghost use Rattle.encoding.specs.Result.{pick};
 ghost use Rattle.bursts.specs.Bursts.{most, waitings, entries as entriesOf, cabinOf, checking, tooLong, plan as planOf, entryNumbers, planning, plannedOf, planListed};
-ghost use Rattle.bursts.specs.Running.{clashing, clashes, late, mayFollow, packing, entering, foundOf};
+ghost use Rattle.bursts.specs.Running.{clashing, clashes, late, opening, packed, packing, entering, foundOf};
 
 // The plan is accepted; or the place of its 46.
 pub enum Checked {
@@ -22,16 +22,16 @@ pub enum Planned {
     Unplanned(u32, u64),
 }
 
-// The bytes of a burst with one message more; or the message cannot go there.
+// The bytes that a burst has left after one message more; or the message cannot go there.
 enum Packed {
     Holds(u64),
     Full,
 }
 
-// A burst's number and its bytes so far.
+// A burst's number and the bytes that it has left.
 struct Burst {
     number: u64,
-    bytes: u64,
+    left: u64,
 }
 
 // The number of a message; or there is none.
@@ -40,51 +40,42 @@ enum Found {
     Nowhere,
 }
 
-// Whether a burst of `has` bytes has room for a message. The two are not added first: the sum could wrap.
-fn fits(has: u64, length: u64) -> bool
-    ensures { λ r. ⌜ r ≡ leb (has + length) most ⌝ }
+// What is left of some room after a message. Lengths are compared with what is left and never added: a sum could wrap.
+fn put_in(room: u64, length: u64) -> Packed
+    ensures { λ r. ⌜ r ≡ packed room length ⌝ }
 {
-    if 340 < length {
-        false
-    } else {
-        has <= 340 - length
-    }
-}
-
-// Whether the burst number of entry i may follow `last`, that of the entry before it.
-fn may_follow(i: usize, last: u64, burst: u64) -> bool
-    ensures { λ r. ⌜ r ≡ mayFollow i last burst ⌝ }
-{
-    if i == 0 {
-        return burst == 0;
-    }
-    if burst < last {
-        false
-    } else {
-        burst - last <= 1
-    }
-}
-
-// The bytes that a burst has from the entries before: those of `last`, or none if it is new.
-fn carried(last: u64, has: u64, burst: u64) -> u64
-    ensures { λ r. ⌜ r ≡ pick (eqb burst last) has 0 ⌝ }
-{
-    if burst == last { has } else { 0 }
-}
-
-// The bytes of the burst of entry i with a message of this length, where the burst before it, `last`, has so many.
-fn pack(i: usize, last: u64, has: u64, burst: u64, length: u64) -> Packed
-    ensures { λ r. ⌜ r ≡ packing i last has burst length ⌝ }
-{
-    if !may_follow(i, last, burst) {
-        return Packed::Full;
-    }
-    let carried = carried(last, has, burst);
-    if fits(carried, length) {
-        Packed::Holds(carried + length)
+    if length <= room {
+        Packed::Holds(room - length)
     } else {
         Packed::Full
     }
+}
+
+// The same of a burst, where the burst of the entry before is `last` and has so many bytes left.
+fn pack(last: u64, left: u64, burst: u64, length: u64) -> Packed
+    ensures { λ r. ⌜ r ≡ packing last left burst length ⌝ }
+{
+    if burst == last {
+        return put_in(left, length);
+    }
+    if burst < last {
+        return Packed::Full;
+    }
+    if burst - last == 1 {
+        put_in(340, length)
+    } else {
+        Packed::Full
+    }
+}
+
+// Whether the first burst number is 0, if there is an entry.
+fn opens(entries: &[u64]) -> bool
+    ensures { λ r. ⌜ r ≡ opening (entriesOf (now (entries .entry))) ⌝ }
+{
+    if entries.len() < 2 {
+        return true;
+    }
+    entries[1] == 0
 }
 
 // The cabin of a message; 0 if there is no such message.
@@ -139,27 +130,27 @@ fn is_late_below(messages: &[u64], entries: &[u64], n: usize, above: u64, m: u64
     }
 }
 
-// The bytes of the burst with message m as entry i, or that the entry breaks a rule with the i entries before it.
+// The bytes left in the burst after message m as entry n, or that the entry breaks a rule with the n entries before it.
 fn enter(
     messages: &[u64],
     entries: &[u64],
-    i: usize,
+    n: usize,
     above: u64,
     last: u64,
-    has: u64,
+    left: u64,
     m: u64,
     burst: u64,
 ) -> Packed
-    requires { ⌜ i ≤ length (now entries) / 2 ⌝ }
-    ensures { λ r. ⌜ r ≡ entering (waitings (now (messages .entry))) (take i (entriesOf (now (entries .entry)))) i above last has m burst ⌝ }
+    requires { ⌜ n ≤ length (now entries) / 2 ⌝ }
+    ensures { λ r. ⌜ r ≡ entering (waitings (now (messages .entry))) (take n (entriesOf (now (entries .entry)))) above last left m burst ⌝ }
 {
     if messages.len() as u64 / 2 <= m {
         return Packed::Full;
     }
-    if is_late_below(messages, entries, i, above, m) {
+    if is_late_below(messages, entries, n, above, m) {
         return Packed::Full;
     }
-    pack(i, last, has, burst, messages[2 * m as usize])
+    pack(last, left, burst, messages[2 * m as usize])
 }
 
 // The least number above all message numbers so far and m.
@@ -175,19 +166,22 @@ fn beyond(above: u64, m: u64) -> u64
 pub fn check_plan(messages: &[u64], entries: &[u64]) -> Checked
     ensures { λ r. ⌜ r ≡ checking (now (messages .entry)) (now (entries .entry)) ⌝ }
 {
+    if !opens(entries) {
+        return Checked::Breaks(0);
+    }
     let count = messages.len() as u64 / 2;
     let n = entries.len() / 2;
     let mut i = 0;
     let mut above: u64 = 0;
     let mut last: u64 = 0;
-    let mut has: u64 = 0;
+    let mut left: u64 = 340;
     while i < n {
         let m = entries[2 * i];
         let burst = entries[2 * i + 1];
-        let packed = enter(messages, entries, i, above, last, has, m, burst);
+        let packed = enter(messages, entries, i, above, last, left, m, burst);
         match packed {
-            Packed::Holds(bytes) => {
-                has = bytes;
+            Packed::Holds(rest) => {
+                left = rest;
             }
             Packed::Full => {
                 return Checked::Breaks(i as u64);
@@ -238,20 +232,26 @@ pub fn answer(messages: &[u64], room: usize) -> Planned
     }
 }
 
-// The burst that a message goes to: the last one, with `has` bytes, or a new one.
-fn take_in(burst: u64, has: u64, length: u64) -> Burst
+// The burst that a message goes to: the last one, if it has that much left, or a new one. A message over 340 bytes leaves nothing.
+fn take_in(burst: u64, left: u64, length: u64) -> Burst
     requires { ⌜ burst < 18446744073709551615 ⌝ }
-    ensures { λ r. ⌜ (r .number ≡ pick (leb (has + length) most) burst (suc burst)) × (r .bytes ≡ pick (leb (has + length) most) (has + length) length) ⌝ }
+    ensures { λ r. ⌜ (r .number ≡ pick (leb length left) burst (suc burst)) × (r .left ≡ pick (leb length left) left most - length) ⌝ }
 {
-    if fits(has, length) {
-        Burst {
+    if length <= left {
+        return Burst {
             number: burst,
-            bytes: has + length,
+            left: left - length,
+        };
+    }
+    if length <= 340 {
+        Burst {
+            number: burst + 1,
+            left: 340 - length,
         }
     } else {
         Burst {
             number: burst + 1,
-            bytes: length,
+            left: 0,
         }
     }
 }
@@ -264,11 +264,11 @@ fn fill(messages: &[u64], entries: &mut [u64])
     let n = messages.len() / 2;
     let mut i = 0;
     let mut burst: u64 = 0;
-    let mut has: u64 = 0;
+    let mut left: u64 = 340;
     while i < n {
-        let taken = take_in(burst, has, messages[2 * i]);
+        let taken = take_in(burst, left, messages[2 * i]);
         burst = taken.number;
-        has = taken.bytes;
+        left = taken.left;
         entries[2 * i] = i as u64;
         entries[2 * i + 1] = burst;
         i += 1;

@@ -39,8 +39,7 @@ pub fn check_plan(messages: &[u64], entries: &[u64]) -> Result<(), u64> {
             return broken;
         }
         // A number above all before it is new, and overtakes none.
-        let clashes =
-            |&[other, _]: &Pair| other == message || other > message && messages[other as usize][1] == cabin;
+        let clashes = |&[other, _]: &Pair| other == message || other > message && messages[other as usize][1] == cabin;
         if message < above && entries[..i].iter().any(clashes) {
             return broken;
         }

@@ -344,7 +344,12 @@ pub fn answer(call: &Call) -> Option<Answer> {
 }
 
 extern "C" {
-    fn icehub_check_plan(messages: *const u64, messages_length: usize, entries: *const u64, entries_length: usize) -> u32;
+    fn icehub_check_plan(
+        messages: *const u64,
+        messages_length: usize,
+        entries: *const u64,
+        entries_length: usize,
+    ) -> u32;
     fn icehub_check_plan_place(
         messages: *const u64,
         messages_length: usize,
@@ -372,9 +377,8 @@ fn plan_answer(call: &PlanCall) -> Answer {
     match call {
         PlanCall::Check { messages, entries } => {
             // SAFETY: as above; nothing is written.
-            let place = unsafe {
-                icehub_check_plan_place(messages.as_ptr(), messages.len(), entries.as_ptr(), entries.len())
-            };
+            let place =
+                unsafe { icehub_check_plan_place(messages.as_ptr(), messages.len(), entries.as_ptr(), entries.len()) };
             Answer::Plan(PlanAnswer { refusal: (check_plan(messages, entries), place), entries: vec![] })
         }
         PlanCall::Plan { messages, room } => {

@@ -8,10 +8,10 @@ use Rattle.bursts.proofs.fill.Statement.{statement}
 use Rattle.bursts.proofs.fill.Tie as tie
 
 abbrev Inv-loop : tie.InvT-loop
-Inv-loop messages entries₀ n i₀ burst₀ has₀ entries i burst has = Putting messages entries₀ entries i burst has
+Inv-loop messages entries₀ n i₀ burst₀ left₀ entries i burst left = Putting messages entries₀ entries i burst left
 
 abbrev μ-loop : tie.MeasureT-loop
-μ-loop messages entries₀ n i₀ burst₀ has₀ entries i burst has = n - i
+μ-loop messages entries₀ n i₀ burst₀ left₀ entries i burst left = n - i
 
 pub fill-spec : {M : Type 1} → statement M
 fill-spec =

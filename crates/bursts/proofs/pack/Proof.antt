@@ -1,7 +1,6 @@
--- The burst may follow and has room, or not. Assumes nothing.
+-- By the burst number: the last one, a lower one, the next, a later one. Assumes nothing.
 use borrow.Author.Needs.{needs}
-use native.Mathlib.Omega.{arith}
-use Rattle.bursts.proofs.Packing.{packed-astray, packed-in, packed-out, packed-sum}
+use Rattle.bursts.proofs.Packing.{pack-on, pack-less, pack-new, pack-far}
 use Rattle.bursts.proofs.pack.Statement.{statement}
 use Rattle.bursts.proofs.pack.Tie as tie
 
@@ -9,10 +8,9 @@ pub pack-spec : {M : Type 1} → statement M
 pack-spec =
     tie.close
     (tie.spec
-    (λ c κs. search needs)  -- may-follow-requires
-    (λ c. search packed-astray)  -- returns
-    (λ c κs. search needs)  -- carried-requires
-    (λ c κs. search needs)  -- fits-requires
-    (λ c. search (needs, packed-sum))  -- add-t11
-    (λ c. search packed-in)  -- returns-2
-    (λ c. search packed-out))  -- returns-3
+    (λ c κs. search needs)  -- put-in-requires
+    (λ c. search pack-on)  -- returns
+    (λ c. search pack-less)  -- returns-2
+    (λ c κs. search needs)  -- put-in-requires-2
+    (λ c. search pack-new)  -- returns-3
+    (λ c. search pack-far))  -- returns-4

@@ -3,7 +3,7 @@
 //! the reader of a message that is one long string against the standard library's check of that string.
 
 use independent::spec::Spec;
-use independent::{ffi, read, write};
+use independent::{bursts, ffi, read, write};
 use std::hint::black_box;
 use std::time::{Duration, Instant};
 
@@ -102,6 +102,33 @@ impl Case {
             || ffi::read(black_box(table), *top, black_box(message), &mut other),
             0,
         );
+    }
+}
+
+/// So many messages planned, and that plan checked; of some also a plan in falling order, each cabin with one message.
+fn run_bursts(count: u64) {
+    let waiting = |cabins: u64| (0..count).flat_map(move |i| [20 + i * 37 % 120, i * 7 % cabins]).collect::<Vec<_>>();
+    let messages = waiting(50);
+    let (mut entries, mut other) = (vec![0; messages.len()], vec![0; messages.len()]);
+    report(
+        &format!("plan of {count} messages"),
+        || ffi::plan(black_box(&messages), &mut entries),
+        || bursts::plan(black_box(&messages), &mut other).err().map_or(0, |(number, _)| number),
+        0,
+    );
+    let check = |what: &str, messages: &[u64], entries: &[u64]| {
+        report(
+            &format!("check of {count} messages, {what}"),
+            || ffi::check_plan(black_box(messages), black_box(entries)),
+            || bursts::check_plan(black_box(messages), black_box(entries)).map_or(46, |()| 0),
+            0,
+        );
+    };
+    check("rising", &messages, &entries);
+    if count <= 1_000 {
+        let messages = waiting(u64::MAX);
+        let falling: Vec<_> = (0..count).flat_map(|i| [count - 1 - i, i]).collect();
+        check("falling", &messages, &falling);
     }
 }
 
@@ -281,6 +308,9 @@ fn main() {
     let top = spec.owner(15, &[(parts, None)]);
     let member = spec.members.len() - 1;
     Case::new("65,525 deep bools", &spec, top, &[(member, [size(65_525), vec![1; 65_525]].concat())]).run();
+
+    run_bursts(1_000);
+    run_bursts(10_000);
 
     println!();
     heads("call", "icehub_read");

@@ -1,55 +1,17 @@
+-- `numbers` is safe and ends: the list keeps its length, and the measure is how many numbers are left. Assumes nothing.
+use mathlib.Core.Path.{_≡_}
+use Prim.Native.Nat.{_-_, _≤_, _/_}
+use borrow.Author.Needs.{needs}
+use native.Mathlib.Omega.{arith}
+use lib.ListN.{length, length-set}
 use Rattle.replay.proofs.plans.numbers.Statement.{statement}
 use Rattle.replay.proofs.plans.numbers.Tie as tie
-use Rattle.replay.proofs.plans.numbers.Reads as reads
-use Rattle.replay.proofs.plans.numbers.Lts as lts
-use Rattle.wire.proofs.least.Reads as least-reads
-use Rattle.wire.proofs.long_at.Reads as long-at-reads
 
 abbrev Inv-loop : tie.InvT-loop
-Inv-loop s list₀ n i₀ list i = ?
+Inv-loop s list₀ n i₀ list i = (length list ≡ length list₀) × (n ≤ length list₀) × (n ≤ length s / 8)
 
 abbrev μ-loop : tie.MeasureT-loop
-μ-loop s list₀ n i₀ list i = ?
-
--- src/plans.rt:15:9
-least-requires : tie.Need-least-requires Inv-loop μ-loop
-least-requires c κs = ?
-
--- src/plans.rt:17:5
-loop-holds : tie.Need-loop-holds Inv-loop μ-loop
-loop-holds c = ?
-
--- src/plans.rt:18:36
-mul-long-at : tie.Need-mul-long-at Inv-loop μ-loop
-mul-long-at c = ?
-
--- src/plans.rt:18:19
-long-at-requires : tie.Need-long-at-requires Inv-loop μ-loop
-long-at-requires c κs = ?
-
--- src/plans.rt:18:9
-mul-list : tie.Need-mul-list Inv-loop μ-loop
-mul-list c = ?
-
--- src/plans.rt:18:9
-element-write-list : tie.Need-element-write-list Inv-loop μ-loop
-element-write-list c = ?
-
--- src/plans.rt:19:9
-add-i : tie.Need-add-i Inv-loop μ-loop
-add-i c = ?
-
--- src/plans.rt:17:5
-loop-less : tie.Need-loop-less Inv-loop μ-loop
-loop-less c = ?
-
--- src/plans.rt:17:5
-loop-again : tie.Need-loop-again Inv-loop μ-loop
-loop-again c = ?
-
--- src/plans.rt:12:1
-returns : tie.Need-returns Inv-loop μ-loop
-returns c = ?
+μ-loop s list₀ n i₀ list i = n - i
 
 pub numbers-spec : {M : Type 1} → statement M
 numbers-spec =
@@ -57,13 +19,14 @@ numbers-spec =
     (tie.spec
     Inv-loop
     μ-loop
-    least-requires
-    loop-holds
-    mul-long-at
-    long-at-requires
-    mul-list
-    element-write-list
-    add-i
-    loop-less
-    loop-again
-    returns)
+    (λ c. tt)  -- returns
+    (λ c. (omega arith, omega arith, omega arith))  -- loop-holds
+    (λ c. omega arith)  -- mul-long-at
+    (λ c κs. search needs)  -- long-at-requires
+    (λ c. omega arith)  -- mul-list
+    (λ c. omega arith)  -- slice-write-list
+    (λ c. omega arith)  -- add-i
+    (λ c. omega arith)  -- loop-less
+    (λ c. (simp length-set (omega arith), omega arith, omega arith))  -- loop-again
+    (λ c. omega arith)  -- same-length
+    (λ c. tt))  -- returns-2
