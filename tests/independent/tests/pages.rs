@@ -3,7 +3,7 @@
 use std::fs;
 use std::path::{Path, PathBuf};
 
-const PAGES: [&str; 12] = [
+const PAGES: [&str; 13] = [
     "README.md",
     "docs/DECISIONS.md",
     "docs/PROVING.md",
@@ -13,6 +13,7 @@ const PAGES: [&str; 12] = [
     "docs/changes/M-100.md",
     "docs/changes/M-101.md",
     "docs/changes/M-102.md",
+    "docs/changes/M-110.md",
     "samples/README.md",
     "bindings/rust/README.md",
     "tests/independent/README.md",
@@ -88,7 +89,7 @@ fn links_lead_somewhere() {
 fn every_promise_is_named() {
     let read = |name: &str| fs::read_to_string(root().join(name)).expect(name);
     let pages = [read("README.md"), read("docs/RULES.md")];
-    let promises = read("crates/laws/specs/Promises.antt");
+    let promises = read("crates/laws/specs/Promises.antt") + &read("crates/bursts/specs/BurstPromises.antt");
     let fields = promises.lines().filter_map(|line| line.strip_prefix("  pub ")?.split_once(" : "));
     let named = |promise: &str| pages.iter().all(|page| page.contains(&format!("`{promise}`")));
     let missing: Vec<_> = fields.map(|(_, promise)| promise).filter(|promise| !named(promise)).collect();
