@@ -9,8 +9,10 @@
  * What a caller owes:
  *   - Bytes are lent as a pointer and a length in bytes. The pointer is not NULL, also where the length is 0,
  *     and that many bytes from it on may be read; those of `rows` of the reader, `answers`, `numbers` and `out` may be
- *     written too.
- *   - Lent output (`rows` of the reader, `answers`, `numbers`, `out`) overlaps nothing else that is lent to the same call.
+ *     written too. A list of 64-bit numbers is lent as a pointer to them and their number; `entries` of the planner
+ *     may be written.
+ *   - Lent output (`rows` of the reader, `answers`, `numbers`, `out`, `entries` of the planner) overlaps nothing else that
+ *     is lent to the same call.
  *     Inputs may overlap each other.
  *   - Nobody else changes lent bytes, or reads lent output, until the call returns.
  *
@@ -49,7 +51,8 @@ enum {
     ICEHUB_ENDPOINT_SIZE = 28, /* bytes of the numbers of icehub_endpoint */
     ICEHUB_PROXY_ENDPOINT_SIZE = 12, /* bytes of the numbers of icehub_proxy_endpoint */
     ICEHUB_MOST_ROWS = 1024,   /* no message has more rows */
-    ICEHUB_MOST_BYTES = 65536  /* no message is longer, and no buffer of the writer */
+    ICEHUB_MOST_BYTES = 65536, /* no message is longer, and no buffer of the writer */
+    ICEHUB_BURST_BYTES = 340   /* no satellite burst is longer */
 };
 
 /* A row is three numbers of 32 bits, little-endian: the member row of the table, then the place and the length of
@@ -71,8 +74,8 @@ enum icehub_format {
 };
 
 /* What a call may be refused for, and what its place is then (icehub_read_place, icehub_write_place,
- * icehub_convert_place, icehub_table_place). A place counts bytes from the start of the message; of the table for 31 to 39; or it is the
- * number named. */
+ * icehub_convert_place, icehub_table_place, icehub_check_plan_place, icehub_plan_place). A place counts bytes from the
+ * start of the message; of the table for 31 to 39; or it is the number named. */
 enum icehub_refusal {
     /* Not refused. */
     ICEHUB_OK = 0,
@@ -114,7 +117,7 @@ enum icehub_refusal {
     ICEHUB_BAD_CHAIN = 17,
     /* bytes follow the record. Place: the first of them. */
     ICEHUB_LEFT_OVER = 18,
-    /* the lent list is too short. Place: the number of rows needed. */
+    /* the lent list is too short. Place: the number of rows or entries needed. */
     ICEHUB_LIST_TOO_SHORT = 19,
     /* writer: a row is wrong, missing, out of order or outside the buffer. Place: the row's number. */
     ICEHUB_BAD_ROW = 20,
@@ -159,6 +162,11 @@ enum icehub_refusal {
      * not end with the greatest, or entries are left over. Place: the row's first byte, in the table; 0 for entries
      * left over. */
     ICEHUB_BAD_TABLE_ENUMERATORS = 39,
+    /* planner: a message is longer than a burst, over 340 bytes. Place: the message's number. */
+    ICEHUB_MESSAGE_TOO_LONG = 45,
+    /* an entry of a plan breaks a rule with the entries before it, or messages are missing. Place: the entry's number; the
+     * number of entries where only messages are missing. */
+    ICEHUB_BAD_PLAN = 46,
     /* converter: the message is no compact record. Place: 0. */
     ICEHUB_NOT_COMPACT = 47,
     /* converter: something in the message is skipped, as the table does not know it. Place: 0. */
@@ -403,6 +411,39 @@ uint32_t icehub_endpoint_write_place(uint32_t type, const uint8_t *host, size_t 
 uint32_t icehub_endpoint_write_length(uint32_t type, const uint8_t *host, size_t host_len, uint32_t port,
                                       uint32_t timeout, bool compress, size_t out_len);
 
+/* ---- Satellite bursts ----
+ *
+ * A burst carries at most ICEHUB_BURST_BYTES bytes. A plan says which waiting message goes in which burst.
+ *
+ *   messages, messages_len  the waiting messages: two numbers each, its length in bytes and its cabin. Messages are counted
+ *                           from 0
+ *   entries, entries_len    the plan: two numbers an entry, a message's number and its burst's. Lengths count numbers, not
+ *                           bytes or pairs; a last number without its pair is ignored
+ *
+ * A plan is right if burst numbers start at 0 and each is the one before or one more, each message is in exactly one entry,
+ * the messages of each burst add up to at most ICEHUB_BURST_BYTES bytes, and messages of one cabin are in their waiting
+ * order. No call needs memory of its own. icehub_plan takes time in proportion to the messages. So does icehub_check_plan
+ * if message numbers rise from entry to entry; an entry whose number does not is compared with all entries before it, so
+ * the time may grow with the square of their number. */
+
+/* Checks a plan of any make. Returns ICEHUB_OK or ICEHUB_BAD_PLAN. */
+uint32_t icehub_check_plan(const uint64_t *messages, size_t messages_len, const uint64_t *entries, size_t entries_len);
+
+/* The place of that refusal: the number of the first entry that breaks a rule with the entries before it, or the number of
+ * entries where only messages are missing; 0 if the plan is right. */
+uint64_t icehub_check_plan_place(const uint64_t *messages, size_t messages_len, const uint64_t *entries,
+                                 size_t entries_len);
+
+/* Makes a plan that icehub_check_plan accepts: takes the messages in turn, and opens a new burst only where the next message
+ * does not fit. Returns ICEHUB_OK: `entries` begins with one entry for each message, and the numbers after these are
+ * unchanged. Or returns ICEHUB_MESSAGE_TOO_LONG, or ICEHUB_LIST_TOO_SHORT (a list as long as `messages` is long enough): `entries`
+ * is unchanged. */
+uint32_t icehub_plan(const uint64_t *messages, size_t messages_len, uint64_t *entries, size_t entries_len);
+
+/* The place of its refusal, with a list of entries_len numbers: the number of the first message that is too long, or how
+ * many entries are needed; 0 if a plan is made. */
+uint64_t icehub_plan_place(const uint64_t *messages, size_t messages_len, size_t entries_len);
+
 /* ---- Rows, numbers and refusals, for C callers ----
  *
  * These functions are C, compiled with the caller: no proof is about them, and they call nothing. They check no length:
@@ -517,6 +558,8 @@ static inline const char *icehub_refusal_name(uint32_t refusal)
     case ICEHUB_BAD_TABLE_NAME: return "BAD_TABLE_NAME";
     case ICEHUB_BAD_TABLE_TAG: return "BAD_TABLE_TAG";
     case ICEHUB_BAD_TABLE_ENUMERATORS: return "BAD_TABLE_ENUMERATORS";
+    case ICEHUB_MESSAGE_TOO_LONG: return "MESSAGE_TOO_LONG";
+    case ICEHUB_BAD_PLAN: return "BAD_PLAN";
     case ICEHUB_NOT_COMPACT: return "NOT_COMPACT";
     case ICEHUB_SKIPPED: return "SKIPPED";
     default: return "";
@@ -582,6 +625,9 @@ static inline const char *icehub_refusal_text(uint32_t refusal)
     case ICEHUB_BAD_TABLE_ENUMERATORS:
         return "an enum's list of enumerators is not taken in turn, is empty, reaches beyond the entries, does not "
                "rise or does not end with the greatest, or entries are left over";
+    case ICEHUB_MESSAGE_TOO_LONG: return "planner: a message is longer than a burst, over 340 bytes";
+    case ICEHUB_BAD_PLAN:
+        return "an entry of a plan breaks a rule with the entries before it, or messages are missing";
     case ICEHUB_NOT_COMPACT: return "converter: the message is no compact record";
     case ICEHUB_SKIPPED: return "converter: something in the message is skipped, as the table does not know it";
     default: return "";

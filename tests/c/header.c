@@ -31,6 +31,8 @@ int main(void)
     static const uint8_t bytes[] = {0x0C, 0xFE, 0xFF, 0xFF, 0xFF, 0xFF, 0xFF, 0x7F};
     static const uint8_t least[] = {0, 0, 0, 0, 0, 0, 0, 0x80};
     uint8_t rows[3 * ICEHUB_ROW_SIZE];
+    static const uint64_t messages[] = {100, 7, 241, 8, 100, 7};
+    uint64_t entries[7] = {9, 9, 9, 9, 9, 9, 9};
     uint32_t refusal;
     size_t count;
 
@@ -63,8 +65,9 @@ int main(void)
 
     EXPECT(strcmp(icehub_refusal_name(ICEHUB_CUT_OFF), "CUT_OFF") == 0);
     EXPECT(strcmp(icehub_refusal_text(ICEHUB_BAD_BOOL), "a bool is neither 0 nor 1") == 0);
-    for (refusal = ICEHUB_OK; refusal <= ICEHUB_BAD_TABLE_ENUMERATORS; refusal++) {
-        if (refusal == 1 || (refusal > ICEHUB_BAD_PORT && refusal < ICEHUB_BAD_TABLE_HEADER)) {
+    for (refusal = ICEHUB_OK; refusal <= ICEHUB_SKIPPED; refusal++) {
+        if (refusal == 1 || (refusal > ICEHUB_BAD_PORT && refusal < ICEHUB_BAD_TABLE_HEADER) ||
+            (refusal > ICEHUB_BAD_TABLE_ENUMERATORS && refusal < ICEHUB_MESSAGE_TOO_LONG)) {
             EXPECT(icehub_refusal_name(refusal)[0] == 0); /* no refusal has this number */
             continue;
         }
@@ -72,6 +75,15 @@ int main(void)
     }
     EXPECT(icehub_table(bytes, 0) == ICEHUB_BAD_TABLE_HEADER && icehub_table_place(bytes, 0) == 0);
     EXPECT(icehub_refusal_name(1000)[0] == 0 && icehub_refusal_text(1000)[0] == 0);
+
+    EXPECT(icehub_plan(messages, 6, entries, 5) == ICEHUB_LIST_TOO_SHORT && entries[0] == 9);
+    EXPECT(icehub_plan_place(messages, 6, 5) == 3);
+    EXPECT(icehub_plan(messages, 6, entries, 7) == ICEHUB_OK && icehub_plan_place(messages, 6, 7) == 0);
+    EXPECT(entries[0] == 0 && entries[1] == 0 && entries[2] == 1 && entries[3] == 1 && entries[4] == 2 && entries[5] == 2);
+    EXPECT(entries[6] == 9);
+    EXPECT(icehub_check_plan(messages, 6, entries, 7) == ICEHUB_OK);
+    EXPECT(icehub_check_plan(messages, 6, entries, 4) == ICEHUB_BAD_PLAN);
+    EXPECT(icehub_check_plan_place(messages, 6, entries, 4) == 2);
 
     if (!failed) {
         printf("rows, numbers and refusals are right\n");

@@ -18,7 +18,8 @@
 enum { LENT = 0xAA, MOST_LINE = 1 << 20, MOST_INPUT = 1 << 18 };
 
 /* The kinds of records, and how many numbers begin one. */
-enum { TABLE, READ, VIEW, WRITE, RECORDS, CHECK, CONVERT, NIGHT = 9, ENDPOINT = 12, ENDPOINT_WRITE, KINDS, HEAD = 7 };
+enum { TABLE, READ, VIEW, WRITE, RECORDS, CHECK, CONVERT, NIGHT = 9, ENDPOINT = 12, ENDPOINT_WRITE, CHECK_PLAN = 15, PLAN };
+enum { KINDS = 17, HEAD = 7 };
 
 static uint8_t table[ICEHUB_MOST_BYTES], input[MOST_INPUT], rows[ICEHUB_MOST_BYTES], again[ICEHUB_MOST_BYTES],
     out[ICEHUB_MOST_BYTES];
@@ -356,6 +357,46 @@ static void endpoint_write_call(const uint32_t *n, const uint8_t *host, size_t h
     }
 }
 
+/* The numbers in some bytes, eight bytes each, at the start of a list. */
+enum { MOST_NUMBERS = 64 };
+static uint64_t messages[MOST_NUMBERS], entries[MOST_NUMBERS];
+
+static size_t numbers_of(const uint8_t *bytes, size_t length, uint64_t *list)
+{
+    size_t i;
+    if (length / 8 > MOST_NUMBERS) {
+        stop("a list of numbers is too long");
+    }
+    for (i = 0; i < length / 8; i++) {
+        list[i] = icehub_unsigned(bytes + 8 * i, 8);
+    }
+    return length / 8;
+}
+
+static void check_plan_call(const uint8_t *bytes, size_t length, size_t count)
+{
+    const size_t n = numbers_of(bytes, 8 * count, messages);
+    const size_t k = numbers_of(bytes + 8 * count, length - 8 * count, entries);
+    put("%" PRIu32 " %" PRIu64 " ", icehub_check_plan(messages, n, entries, k),
+        icehub_check_plan_place(messages, n, entries, k));
+}
+
+static void plan_call(const uint8_t *bytes, size_t length, size_t room)
+{
+    const size_t n = numbers_of(bytes, length, messages);
+    uint32_t refusal;
+    size_t i;
+    memset(entries, LENT, sizeof entries);
+    refusal = icehub_plan(messages, n, entries, room);
+    put("%" PRIu32 " %" PRIu64 " ", refusal, icehub_plan_place(messages, n, room));
+    for (i = 0; refusal == ICEHUB_OK && i < n / 2 * 2; i++) {
+        put("%" PRIu64 " ", entries[i]);
+    }
+    if (!is_kept((const uint8_t *)(entries + i), sizeof entries - 8 * i)) {
+        put("touched ");
+    }
+}
+
 static void replay(FILE *calls, FILE *answers)
 {
     uint8_t head[4 * HEAD];
@@ -417,6 +458,18 @@ static void replay(FILE *calls, FILE *answers)
             }
             endpoint_write_call(n, input, length);
             break;
+        case CHECK_PLAN:
+            if (n[2] > length / 8) {
+                stop("a call is too long");
+            }
+            check_plan_call(input, length, n[2]);
+            break;
+        case PLAN:
+            if (n[2] > MOST_NUMBERS) {
+                stop("a list of numbers is too long");
+            }
+            plan_call(input, length, n[2]);
+            break;
         default: stop("a record of an unknown kind");
         }
         compare(answers, n[0]);
@@ -439,8 +492,8 @@ int main(int argc, char **argv)
         stop("more answers than calls");
     }
     printf("%lu of %lu recorded calls agree: %lu readings, %lu writings, %lu views, %lu row records, %lu tables, "
-           "%lu conversions, %lu nights, %lu endpoints\n",
+           "%lu conversions, %lu nights, %lu endpoints, %lu checks of burst plans, %lu plans\n",
            lines - differed, lines, agreed[READ], agreed[WRITE], agreed[VIEW], agreed[RECORDS], agreed[CHECK],
-           agreed[CONVERT], agreed[NIGHT], agreed[ENDPOINT] + agreed[ENDPOINT_WRITE]);
+           agreed[CONVERT], agreed[NIGHT], agreed[ENDPOINT] + agreed[ENDPOINT_WRITE], agreed[CHECK_PLAN], agreed[PLAN]);
     return differed > 0 || lines == 0;
 }

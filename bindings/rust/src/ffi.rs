@@ -339,3 +339,39 @@ pub fn endpoint_write(given: GivenEndpoint, out: &mut [u8]) -> Result<u32, (u32,
         }
     }
 }
+
+extern "C" {
+    fn icehub_check_plan(messages: *const u64, messages_len: usize, entries: *const u64, entries_len: usize) -> u32;
+    fn icehub_check_plan_place(
+        messages: *const u64,
+        messages_len: usize,
+        entries: *const u64,
+        entries_len: usize,
+    ) -> u64;
+    fn icehub_plan(messages: *const u64, messages_len: usize, entries: *mut u64, entries_len: usize) -> u32;
+    fn icehub_plan_place(messages: *const u64, messages_len: usize, entries_len: usize) -> u64;
+}
+
+/// Checks a burst plan: 0 or 46.
+pub fn check_plan(messages: &[u64], entries: &[u64]) -> u32 {
+    // SAFETY: each pointer comes with the length of its slice; nothing is written.
+    unsafe { icehub_check_plan(messages.as_ptr(), messages.len(), entries.as_ptr(), entries.len()) }
+}
+
+/// The place of the check's refusal.
+pub fn check_plan_place(messages: &[u64], entries: &[u64]) -> u64 {
+    // SAFETY: as above.
+    unsafe { icehub_check_plan_place(messages.as_ptr(), messages.len(), entries.as_ptr(), entries.len()) }
+}
+
+/// Plans bursts: 0 or the refusal number.
+pub fn plan(messages: &[u64], entries: &mut [u64]) -> u32 {
+    // SAFETY: as above; only `entries` is written.
+    unsafe { icehub_plan(messages.as_ptr(), messages.len(), entries.as_mut_ptr(), entries.len()) }
+}
+
+/// The place of the planner's refusal, with a list of so many numbers.
+pub fn plan_place(messages: &[u64], room: usize) -> u64 {
+    // SAFETY: as above; nothing is written.
+    unsafe { icehub_plan_place(messages.as_ptr(), messages.len(), room) }
+}

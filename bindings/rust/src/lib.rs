@@ -31,6 +31,7 @@
 #![deny(unsafe_code)]
 #![deny(missing_docs)]
 
+mod bursts;
 mod convert;
 mod endpoint;
 #[allow(unsafe_code)]
@@ -40,9 +41,10 @@ mod refusal;
 mod table;
 mod value;
 
+pub use bursts::{check_plan, plan, PlanRefusal, BURST_BYTES};
 pub use convert::convert;
-pub use night::{night, Answer, Answers, Night, ANSWER_SIZE};
 pub use endpoint::{endpoint_at, open_endpoint, write_endpoint, Address, Opened};
+pub use night::{night, Answer, Answers, Night, ANSWER_SIZE};
 pub use refusal::{Reason, Refusal};
 pub use table::{Allowed, Enumerators, Kind, MemberRow, Table, TypeRow};
 pub use value::{Elements, Endpoint, Endpoints, Entries, Fields, Proxy, Value};

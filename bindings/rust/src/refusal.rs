@@ -125,7 +125,7 @@ reasons! {
     BadChain = 17, "BAD_CHAIN": "the slices, or their last bit, do not follow the table's bases",
         "the flags; in encoding 1.0 the type ID";
     LeftOver = 18, "LEFT_OVER": "bytes follow the record", "the first of them";
-    ListTooShort = 19, "LIST_TOO_SHORT": "the lent list is too short", "the number of rows needed";
+    ListTooShort = 19, "LIST_TOO_SHORT": "the lent list is too short", "the number of rows or entries needed";
     BadRow = 20, "BAD_ROW": "writer: a row is wrong, missing, out of order or outside the buffer", "the row's number";
     BadRowBytes = 21, "BAD_ROW_BYTES": "writer: the bytes are not exactly a value of the member's type",
         "the row's number";
@@ -162,11 +162,16 @@ reasons! {
         "an enum's list of enumerators is not taken in turn, is empty, reaches beyond the entries, does not rise or \
         does not end with the greatest, or entries are left over",
         "the row's first byte, in the table; 0 for entries left over";
+    MessageTooLong = 45, "MESSAGE_TOO_LONG":
+        "planner: a message is longer than a burst, over 340 bytes", "the message's number";
+    BadPlan = 46, "BAD_PLAN":
+        "an entry of a plan breaks a rule with the entries before it, or messages are missing",
+        "the entry's number; the number of entries where only messages are missing";
     NotCompact = 47, "NOT_COMPACT": "converter: the message is no compact record", "0";
     Skipped = 48, "SKIPPED": "converter: something in the message is skipped, as the table does not know it", "0";
 }
 
-/// `refusal 19 at 3 (the number of rows needed): the lent list is too short`; without the brackets where the place is
+/// `refusal 19 at 3 (the number of rows or entries needed): the lent list is too short`; without the brackets where the place is
 /// always the same.
 impl fmt::Display for Refusal {
     fn fmt(&self, f: &mut fmt::Formatter) -> fmt::Result {
@@ -231,12 +236,12 @@ mod tests {
     fn numbers() {
         assert_eq!(
             Reason::ALL.iter().map(|reason| reason.number()).collect::<Vec<_>>(),
-            (2..=27).chain(31..=39).chain([47, 48]).collect::<Vec<_>>()
+            (2..=27).chain(31..=39).chain(45..=48).collect::<Vec<_>>()
         );
         for reason in Reason::ALL {
             assert_eq!(Reason::from_number(reason.number()), Some(*reason));
         }
-        assert!([0, 1, 28, 30, 40, 46, 49].into_iter().all(|number| Reason::from_number(number).is_none()));
+        assert!([0, 1, 28, 30, 40, 44, 49].into_iter().all(|number| Reason::from_number(number).is_none()));
     }
 
     #[test]
@@ -247,7 +252,7 @@ mod tests {
             "refusal 4 at 52 (its first byte): an item or a declared length runs past what holds it"
         );
         assert_eq!(shown(25, 6), "refusal 25 at 6 (the header byte): the header byte of a 1.0 exception is not 0");
-        assert_eq!(shown(19, 3), "refusal 19 at 3 (the number of rows needed): the lent list is too short");
+        assert_eq!(shown(19, 3), "refusal 19 at 3 (the number of rows or entries needed): the lent list is too short");
         assert_eq!(shown(99, 0), "refusal 99 at 0: a number that this version does not know");
     }
 }

@@ -5,3 +5,4 @@ pub mod Numbered
 pub mod Viewed
 pub mod Counted
 pub mod Dialling
+pub mod Planning

@@ -4,3 +4,4 @@ pub mod Numbers
 pub mod WriteNumbers
 pub mod ConvertNumbers
 pub mod EndpointNumbers
+pub mod PlanNumbers

@@ -1,9 +1,10 @@
 // The calls of the firmware in C, with numbers and byte slices only: 0 or the refusal number comes back, place and other numbers by further calls on the same input.
 // `room` is the length in bytes of the lent list or output, so that a further call judges what the first one judged.
-// conversion.rt has the converter's calls, nights.rt those for many messages in one buffer, endpoints.rt those for endpoints.
+// conversion.rt has the converter's calls, nights.rt those for many messages in one buffer, endpoints.rt those for endpoints, plans.rt those for burst plans.
 mod conversion;
-pub mod nights;
 mod endpoints;
+pub mod nights;
+mod plans;
 
 ghost use mathlib.Core.Path.{_≡_};
 ghost use lib.ListN.{length, getD};

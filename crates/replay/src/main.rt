@@ -10,10 +10,13 @@
 //   9  a call for many messages: top, bytes of the list of answers, bytes of the list of rows; the bytes are the buffer
 //   12 an endpoint opened: bytes lent for its numbers, 0; the bytes are the endpoint. Or found: bytes lent for its numbers, 1, its number; the bytes are the proxy
 //   13 an endpoint written: type, port, timeout, compress, bytes of the output; the bytes are the host
-// print.rt prints, reads.rt, writes.rt, records.rt, tables.rt, conversions.rt, nights.rt and endpoints.rt make the calls.
+//   15 a check of a burst plan: how many numbers the messages have; the bytes are messages and entries, eight bytes a number
+//   16 a call of the planner: the numbers of the lent list; the bytes are the messages
+// print.rt prints, reads.rt, writes.rt, records.rt, tables.rt, conversions.rt, nights.rt, endpoints.rt and plans.rt make the calls.
 mod conversions;
 mod endpoints;
 mod nights;
+mod plans;
 mod print;
 mod reads;
 mod records;
@@ -145,6 +148,14 @@ fn call<'a, 't>(head: &[u8; 28], table: &'t [u8], input: &'a [u8], lent: &mut [u
     }
     if kind == 13 {
         endpoint_write_call(head, input, lent);
+        return;
+    }
+    if kind == 15 {
+        plans::check_call(input, wire::int_at(head, 8));
+        return;
+    }
+    if kind == 16 {
+        plans::plan_call(input, wire::int_at(head, 8));
         return;
     }
     tables::check_call(table);

@@ -1,5 +1,6 @@
 //! Calls and their answers, as the recorded calls have them: one JSON object a line.
 
+use crate::bursts::{PlanAnswer, PlanCall};
 use crate::endpoint::{EndpointAnswer, EndpointCall};
 use crate::json::{hex, Json};
 use crate::night::{Night, Walked};
@@ -43,6 +44,7 @@ pub enum Call {
     },
     Night(Night),
     Endpoint(EndpointCall),
+    Plan(PlanCall),
 }
 
 #[derive(Clone, Debug, PartialEq)]
@@ -67,6 +69,7 @@ pub enum Answer {
     },
     Night(Walked),
     Endpoint(EndpointAnswer),
+    Plan(PlanAnswer),
     /// A lent byte was touched that should have stayed, or more is claimed than was lent.
     Astray,
 }
@@ -84,7 +87,7 @@ impl Call {
             | Call::View { table, .. }
             | Call::Convert { table, .. } => table,
             Call::Night(night) => &night.table,
-            Call::Endpoint(_) => &[],
+            Call::Endpoint(_) | Call::Plan(_) => &[],
         }
     }
 
@@ -124,6 +127,7 @@ impl Call {
             }
             Call::Night(night) => night.answer().map_or(Answer::Astray, Answer::Night),
             Call::Endpoint(call) => call.answer(),
+            Call::Plan(call) => call.answer(),
         }
     }
 
@@ -155,6 +159,9 @@ impl Call {
     pub fn parse(line: &str) -> Option<(Call, Answer)> {
         if let Some(endpoint) = EndpointCall::parse(line) {
             return Some(endpoint);
+        }
+        if let Some(plan) = PlanCall::parse(line) {
+            return Some(plan);
         }
         let call = Json::parse(line)?;
         let expect = call.get("expect")?;
@@ -226,6 +233,7 @@ impl Call {
             }
             Call::Night(night) => night.json(),
             Call::Endpoint(call) => call.json(),
+            Call::Plan(call) => call.json(),
         };
         format!(r#"{{{fields},"expect":{}}}"#, expect.json())
     }
@@ -260,6 +268,7 @@ impl Answer {
         match self {
             Answer::Check { refusal } | Answer::Read { refusal, .. } | Answer::Write { refusal, .. } => refusal.0,
             Answer::Endpoint(endpoint) => endpoint.refusal().0,
+            Answer::Plan(plan) => plan.refusal.0,
             Answer::View { .. } | Answer::Night(_) | Answer::Astray => 0,
         }
     }
@@ -284,6 +293,7 @@ impl Answer {
             Answer::View { from, bytes } => format!(r#"{{"from":"{from}","bytes":"{}"}}"#, hex(bytes)),
             Answer::Night(walked) => walked.json(),
             Answer::Endpoint(endpoint) => endpoint.json(),
+            Answer::Plan(plan) => plan.json(),
             Answer::Astray => r#"{"astray":1}"#.to_string(),
         }
     }

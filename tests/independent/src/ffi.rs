@@ -4,6 +4,7 @@
 pub mod endpoint;
 pub mod night;
 
+use crate::bursts::{self, PlanAnswer, PlanCall};
 use crate::calls::{Answer, Call, LENT};
 use crate::Reading;
 use std::hint::black_box;
@@ -339,6 +340,7 @@ pub fn each(call: &Call, mut run: impl FnMut(&'static str, &mut dyn FnMut())) {
             }
         }
         Call::Endpoint(call) => endpoint::each(call, run),
+        Call::Plan(call) => each_plan(call, &mut run),
     }
 }
 
@@ -396,5 +398,85 @@ pub fn answer(call: &Call) -> Option<Answer> {
         }
         Call::Night(call) => Some(night::answer(call).map_or(Answer::Astray, Answer::Night)),
         Call::Endpoint(call) => Some(endpoint::answer(call)),
+        Call::Plan(call) => Some(plan_answer(call)),
+    }
+}
+
+extern "C" {
+    fn icehub_check_plan(
+        messages: *const u64,
+        messages_length: usize,
+        entries: *const u64,
+        entries_length: usize,
+    ) -> u32;
+    fn icehub_check_plan_place(
+        messages: *const u64,
+        messages_length: usize,
+        entries: *const u64,
+        entries_length: usize,
+    ) -> u64;
+    fn icehub_plan(messages: *const u64, messages_length: usize, entries: *mut u64, entries_length: usize) -> u32;
+    fn icehub_plan_place(messages: *const u64, messages_length: usize, entries_length: usize) -> u64;
+}
+
+/// The check of a plan: 0 or 46.
+pub fn check_plan(messages: &[u64], entries: &[u64]) -> u32 {
+    // SAFETY: each pointer comes with the length of its slice; nothing is written.
+    unsafe { icehub_check_plan(messages.as_ptr(), messages.len(), entries.as_ptr(), entries.len()) }
+}
+
+/// The planner: 0 or the refusal number.
+pub fn plan(messages: &[u64], entries: &mut [u64]) -> u32 {
+    // SAFETY: as above; only `entries` is written.
+    unsafe { icehub_plan(messages.as_ptr(), messages.len(), entries.as_mut_ptr(), entries.len()) }
+}
+
+/// The library's answer to a call on burst plans.
+fn plan_answer(call: &PlanCall) -> Answer {
+    match call {
+        PlanCall::Check { messages, entries } => {
+            // SAFETY: as above; nothing is written.
+            let place =
+                unsafe { icehub_check_plan_place(messages.as_ptr(), messages.len(), entries.as_ptr(), entries.len()) };
+            Answer::Plan(PlanAnswer { refusal: (check_plan(messages, entries), place), entries: vec![] })
+        }
+        PlanCall::Plan { messages, room } => {
+            let mut lent = vec![bursts::LENT; *room];
+            let refusal = plan(messages, &mut lent);
+            // SAFETY: as above.
+            let place = unsafe { icehub_plan_place(messages.as_ptr(), messages.len(), *room) };
+            call.of_plan((refusal, place), &lent)
+        }
+    }
+}
+
+/// Hands `run` each call of the library on these lists, with its name, to be made once.
+fn each_plan(call: &PlanCall, run: &mut impl FnMut(&'static str, &mut dyn FnMut())) {
+    match call {
+        PlanCall::Check { messages, entries } => {
+            run("icehub_check_plan", &mut || {
+                black_box(check_plan(messages, entries));
+            });
+            // SAFETY: as above.
+            run("icehub_check_plan_place", &mut || unsafe {
+                let (messages_length, entries_length) = (messages.len(), entries.len());
+                black_box(icehub_check_plan_place(
+                    messages.as_ptr(),
+                    messages_length,
+                    entries.as_ptr(),
+                    entries_length,
+                ));
+            });
+        }
+        PlanCall::Plan { messages, room } => {
+            let mut lent = vec![bursts::LENT; *room];
+            run("icehub_plan", &mut || {
+                black_box(plan(messages, &mut lent));
+            });
+            // SAFETY: as above.
+            run("icehub_plan_place", &mut || unsafe {
+                black_box(icehub_plan_place(messages.as_ptr(), messages.len(), *room));
+            });
+        }
     }
 }

@@ -5,12 +5,14 @@
 mod endpoints;
 mod message;
 mod night;
+mod plans;
 mod text;
 mod types;
 
 pub use endpoints::endpoint_calls;
 pub use message::{message, Message, Wrong};
 pub use night::night;
+pub use plans::plan_calls;
 pub use text::{Made, Text};
 pub use types::Types;
 

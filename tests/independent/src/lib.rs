@@ -6,9 +6,11 @@
 //! - [`convert`]: the sliced form of a compact record.
 //! - [`night::night`]: the answers to the messages of a buffer.
 //! - [`endpoint`]: one endpoint of a proxy, opened, written, and found in its proxy.
+//! - [`bursts`]: the check of a burst plan, and a planner.
 //!
 //! A refusal is its number and its place. No call panics on any input, and on a refusal every lent byte stays.
 
+pub mod bursts;
 pub mod calls;
 pub mod endpoint;
 #[cfg(feature = "library")]

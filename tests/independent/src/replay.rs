@@ -1,5 +1,6 @@
 //! The recorded calls of the gate, as crates/replay reads them from its file `stdin`, and the lines that it has to print.
 
+use crate::bursts::PlanCall;
 use crate::calls::{Answer, Call};
 use crate::endpoint::EndpointCall;
 use crate::json::hex;
@@ -63,6 +64,7 @@ impl<'a> Records<'a> {
                 Call::Night(Night { table: held, top: a, buffer: bytes.to_vec(), answers, rows })
             }
             12 | 13 => Call::Endpoint(EndpointCall::of_record(kind, [a, b, c, d, e], bytes)),
+            15 | 16 => Call::Plan(PlanCall::of_record(kind, a, bytes)?),
             _ => return None,
         };
         Some(Some(Recorded { call, is_of_records: kind == 4 }))
@@ -102,6 +104,10 @@ impl Recorded {
                 ([9, *top, *answers as u32, *rows as u32, 0, 0], buffer.clone())
             }
             Call::Endpoint(call) => call.record(),
+            Call::Plan(call) => {
+                let (kind, first, bytes) = call.record();
+                ([kind, first, 0, 0, 0, 0], bytes)
+            }
         };
         let [kind, a, b, c, d, e] = numbers;
         record(kind, [a, b, c, d, e], &bytes)
@@ -130,6 +136,7 @@ impl Recorded {
             (_, Answer::Write { refusal: (no, place), out }) => numbers(&[*no, *place, out.len() as u32]) + &hex(out),
             (_, Answer::Night(walked)) => walked.line(),
             (_, Answer::Endpoint(endpoint)) => endpoint.line(),
+            (_, Answer::Plan(plan)) => plan.line(),
             (_, Answer::Astray) => "touched".to_string(),
         }
     }
@@ -169,7 +176,7 @@ pub fn stdin(calls: &[Recorded]) -> Vec<u8> {
     let mut held = None;
     for call in calls {
         let table = call.call.table();
-        if held != Some(table) && !matches!(call.call, Call::Endpoint(_)) {
+        if held != Some(table) && !matches!(call.call, Call::Endpoint(_) | Call::Plan(_)) {
             held = Some(table);
             file.extend(record(0, [0; 5], table));
         }

@@ -18,6 +18,7 @@ const PAGES: &[&str] = &[
     "docs/changes/M-104.md",
     "docs/changes/M-107.md",
     "docs/changes/M-106.md",
+    "docs/changes/M-110.md",
     "samples/README.md",
     "bindings/rust/README.md",
     "tests/independent/README.md",
@@ -93,7 +94,7 @@ fn links_lead_somewhere() {
 fn every_promise_is_named() {
     let read = |name: &str| fs::read_to_string(root().join(name)).expect(name);
     let pages = [read("README.md"), read("docs/RULES.md")];
-    let promises = read("crates/laws/specs/Promises.antt");
+    let promises = read("crates/laws/specs/Promises.antt") + &read("crates/bursts/specs/BurstPromises.antt");
     let fields = promises.lines().filter_map(|line| line.strip_prefix("  pub ")?.split_once(" : "));
     let named = |promise: &str| pages.iter().all(|page| page.contains(&format!("`{promise}`")));
     let missing: Vec<_> = fields.map(|(_, promise)| promise).filter(|promise| !named(promise)).collect();

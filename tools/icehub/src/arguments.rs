@@ -1,7 +1,7 @@
 //! The command line, and the help.
 
 use crate::input::Source;
-use crate::{convert, night, show};
+use crate::{convert, night, plan, show};
 use std::ffi::OsString;
 
 /// What is to be done.
@@ -13,6 +13,7 @@ pub enum Command {
     Table(Source),
     Convert(convert::Request),
     Night(night::Request),
+    Plan(plan::Request),
 }
 
 const HELP: &str = "\
@@ -22,6 +23,8 @@ icehub: shows messages of Ice encodings 1.1 and 1.0 by their type table
   icehub table TABLE                              show a type table, or where it breaks a rule
   icehub convert TABLE TOP FILE.. --to DIR        convert compact records to sliced ones
   icehub night [--json] TABLE TOP FILE            read a file of many messages, a line for each
+  icehub plan FILE                                plan the satellite bursts of waiting messages
+  icehub plan --check FILE PLAN                   check a plan, and say what is wrong with it
   icehub --version                                print the version
   icehub --help, icehub COMMAND --help            print help
 
@@ -110,6 +113,25 @@ own first byte.
 Exit status: 0 all messages accepted, 1 some refused, 2 something could not be done (arguments, files).
 ";
 
+const PLAN_HELP: &str = "\
+icehub plan FILE
+icehub plan --check FILE PLAN
+
+Plans satellite bursts of at most 340 bytes: takes the messages in turn and opens a new burst only where the next message
+does not fit. With --check it checks a plan of any make, and says which line breaks which rule.
+
+  FILE     the waiting messages, two numbers a line: length in bytes, and cabin. Messages are counted from 0
+  PLAN     the plan, two numbers a line: a message's number and its burst's; what icehub plan prints
+  --       what follows is no option
+
+Either may be -, standard input. What comes after a # is a comment, and empty lines are passed over.
+
+A plan is right if burst numbers start at 0 and each is the one before or one more, each message is in exactly one entry,
+each burst has at most 340 bytes, and the messages of one cabin are in their waiting order.
+
+Exit status: 0 planned or accepted, 1 refused, 2 something could not be done (arguments, files).
+";
+
 /// The command of these words, or what is wrong with them.
 pub fn parse(words: impl IntoIterator<Item = OsString>) -> Result<Command, String> {
     let mut words = words.into_iter();
@@ -123,6 +145,7 @@ pub fn parse(words: impl IntoIterator<Item = OsString>) -> Result<Command, Strin
         Some("table") => parse_table(words),
         Some("convert") => parse_convert(words),
         Some("night") => parse_night(words),
+        Some("plan") => parse_plan(words),
         _ => Err(format!("{} is no command; see icehub --help", first.to_string_lossy())),
     }
 }
@@ -236,4 +259,20 @@ fn parse_night(words: impl Iterator<Item = OsString>) -> Result<Command, String>
         Err(top) => return Err(format!("TOP is no text: {}", top.to_string_lossy())),
     };
     Ok(Command::Night(night::Request { json: options.contains(&"--json"), table, top, file }))
+}
+
+fn parse_plan(words: impl Iterator<Item = OsString>) -> Result<Command, String> {
+    let Some(Words { options, operands, .. }) = split(words, &["--check"], "plan")? else {
+        return Ok(Command::Help(PLAN_HELP));
+    };
+    let mut sources = operands.into_iter().map(Source::new);
+    let (messages, plan, more) = (sources.next(), sources.next(), sources.next());
+    match (messages, plan, more, options.is_empty()) {
+        (Some(messages), None, None, true) => Ok(Command::Plan(plan::Request { messages, plan: None })),
+        (Some(Source::Standard), Some(Source::Standard), None, false) => {
+            Err("- is named twice: standard input can be read only once".to_string())
+        }
+        (Some(messages), plan @ Some(_), None, false) => Ok(Command::Plan(plan::Request { messages, plan })),
+        _ => Err("plan takes one FILE, plan --check a FILE and a PLAN; see icehub plan --help".to_string()),
+    }
 }

@@ -10,6 +10,7 @@
 //! - `table`: the command `table`; `broken`: what is wrong with a table that breaks a rule
 //! - `accepted`, `refused`: a message for a person; `json`: a message as a line of JSON
 //! - `locate`: the slice and the member at a place of a refused message; `text`: the first bad byte of a string
+//! - `plan`: the command `plan`
 //! - `values`: values for a person; `endpoints`: the addresses in a proxy; `words`: text, bytes and types in words
 
 mod accepted;
@@ -21,6 +22,7 @@ mod input;
 mod json;
 mod locate;
 mod night;
+mod plan;
 mod refused;
 mod show;
 mod table;
@@ -81,6 +83,7 @@ fn run(out: &mut impl Write, status: &mut Status) -> io::Result<()> {
         Ok(Command::Table(source)) => table::run(&source, out, status),
         Ok(Command::Convert(request)) => convert::run(&request, out, status),
         Ok(Command::Night(request)) => night::run(&request, out, status),
+        Ok(Command::Plan(request)) => plan::run(&request, out, status),
         Err(wrong) => {
             tell(&wrong);
             status.raise(Status::Failed);

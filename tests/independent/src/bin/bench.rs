@@ -8,7 +8,7 @@ use independent::endpoint::{self, Given};
 use independent::ffi::endpoint as endpoint_ffi;
 use independent::night::night;
 use independent::spec::Spec;
-use independent::{convert, ffi, read, write};
+use independent::{bursts, convert, ffi, read, write};
 use std::cell::RefCell;
 use std::env;
 use std::hint::black_box;
@@ -290,6 +290,33 @@ impl<'a> Night<'a> {
             },
             *count as u32,
         );
+    }
+}
+
+/// So many messages planned, and that plan checked; of some also a plan in falling order, each cabin with one message.
+fn run_bursts(count: u64) {
+    let waiting = |cabins: u64| (0..count).flat_map(move |i| [20 + i * 37 % 120, i * 7 % cabins]).collect::<Vec<_>>();
+    let messages = waiting(50);
+    let (mut entries, mut other) = (vec![0; messages.len()], vec![0; messages.len()]);
+    report(
+        &format!("plan of {count} messages"),
+        || ffi::plan(black_box(&messages), &mut entries),
+        || bursts::plan(black_box(&messages), &mut other).err().map_or(0, |(number, _)| number),
+        0,
+    );
+    let check = |what: &str, messages: &[u64], entries: &[u64]| {
+        report(
+            &format!("check of {count} messages, {what}"),
+            || ffi::check_plan(black_box(messages), black_box(entries)),
+            || bursts::check_plan(black_box(messages), black_box(entries)).map_or(46, |()| 0),
+            0,
+        );
+    };
+    check("rising", &messages, &entries);
+    if count <= 1_000 {
+        let messages = waiting(u64::MAX);
+        let falling: Vec<_> = (0..count).flat_map(|i| [count - 1 - i, i]).collect();
+        check("falling", &messages, &falling);
     }
 }
 
@@ -594,6 +621,9 @@ fn all_but_logs() {
     println!();
     heads("library", "independent");
     endpoints();
+
+    run_bursts(1_000);
+    run_bursts(10_000);
 
     println!();
     heads("call", "icehub_read");

@@ -1,12 +1,13 @@
 //! fuzz [CALLS [SEED]]: makes calls (1,000,000 by default) of the reader, the writer and the table check, and a member
 //! view, a conversion and a night of each message read, and with each an endpoint opened, one written and one found in a
-//! proxy, and compares the proved library with this implementation in every number and every lent byte. A difference is
-//! printed as a line like those of the recorded calls, the library's answer after it as `got`; with any, the exit status
-//! is 1.
+//! proxy, a burst plan checked and one made, and compares the proved library with this implementation in every number and
+//! every lent byte. A difference is printed as a line like those of the recorded calls, the library's answer after it as
+//! `got`; with any, the exit status is 1.
 
+use independent::bursts::{flat, PlanCall};
 use independent::calls::{Answer, Call};
 use independent::ffi;
-use independent::gen::{endpoint_calls, night, Calls, Rng, Text};
+use independent::gen::{endpoint_calls, night, plan_calls, Calls, Rng, Text};
 use std::time::{Instant, SystemTime, UNIX_EPOCH};
 use std::{env, process};
 
@@ -42,6 +43,7 @@ fn main() {
     let mut made = Calls::new(seed);
     let (mut nights, mut other, mut walked, mut stops) = (Rng(seed), vec![], 0, [0; 40]);
     let (mut endpoints, mut endpoint_refusals) = (Rng(!seed), [[0; 40]; 3]);
+    let (mut plans, mut plan_refusals) = (Rng(!seed), [[0; 47]; 2]);
     for index in 0..calls {
         let Some(call) = made.next() else { break };
         let expected = call.answer();
@@ -87,6 +89,15 @@ fn main() {
             endpoint_refusals[which][expected.refusal() as usize] += 1;
             compare(&call, &expected);
         }
+        for (which, call) in plan_calls(&mut plans).into_iter().enumerate() {
+            let expected = call.answer();
+            plan_refusals[which][expected.refusal() as usize] += 1;
+            compare(&call, &expected);
+            if let (Call::Plan(PlanCall::Check { messages, entries }), Answer::Plan(plan)) = (&call, &expected) {
+                let refusal = flat(messages, entries).err().map_or((0, 0), |place| (46, place));
+                assert_eq!(plan.refusal, refusal, "by document 02's sentence: {}", call.json(&expected));
+            }
+        }
     }
     for (version, refusals) in (1..).zip(refusals) {
         let met = refusals.iter().enumerate().filter(|(number, _)| !matches!(number, 1 | 27..=30 | 40..));
@@ -109,6 +120,11 @@ fn main() {
         let met = refusals.iter().enumerate().filter(|(_, &calls)| calls > 0);
         let reached: Vec<_> = met.map(|(number, calls)| format!("{number}: {calls}")).collect();
         println!("answers by refusal number, endpoints {what}: {}", reached.join(", "));
+    }
+    for (what, refusals) in ["checks of a burst plan", "calls of the planner"].into_iter().zip(plan_refusals) {
+        let met = refusals.iter().enumerate().filter(|(_, &calls)| calls > 0);
+        let reached: Vec<_> = met.map(|(number, calls)| format!("{number}: {calls}")).collect();
+        println!("answers by refusal number, {what}: {}", reached.join(", "));
     }
     println!("{differences} differences in {calls} calls from seed {seed}, {:.1} s", start.elapsed().as_secs_f64());
     process::exit(i32::from(differences != 0));

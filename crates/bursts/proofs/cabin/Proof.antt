@@ -1,0 +1,16 @@
+-- The second number of the message's pair, if there is one. Assumes nothing.
+use borrow.Author.Needs.{needs}
+use Rattle.bursts.proofs.Packing.{cabin-known, cabin-none}
+use Rattle.bursts.proofs.cabin.Statement.{statement}
+use Rattle.bursts.proofs.cabin.Tie as tie
+
+pub cabin-spec : {M : Type 1} → statement M
+cabin-spec =
+    tie.close
+    (tie.spec
+    (λ c. search needs)  -- mul-result
+    (λ c. search needs)  -- add-result
+    (λ c. search needs)  -- mul-result-2
+    (λ c. search needs)  -- shared-slice-read-result
+    (λ c. search cabin-known)  -- returns
+    (λ c. search cabin-none))  -- returns-2

@@ -1,0 +1,28 @@
+-- The loop's invariant: the messages left decide the answer. The measure is their number. Assumes nothing.
+use Prim.Native.Nat.{_-_}
+use native.Mathlib.Omega.{arith}
+use Rattle.bursts.proofs.Looking.{Seeking, seeking-begin, seeking-here, seeking-next, seeking-done}
+use Rattle.bursts.proofs.too_long.Statement.{statement}
+use Rattle.bursts.proofs.too_long.Tie as tie
+
+abbrev Inv-loop : tie.InvT-loop
+Inv-loop messages n i₀ i = Seeking messages i
+
+abbrev μ-loop : tie.MeasureT-loop
+μ-loop messages n i₀ i = n - i
+
+pub too-long-spec : {M : Type 1} → statement M
+too-long-spec =
+    tie.close
+    (tie.spec
+    Inv-loop
+    μ-loop
+    (λ c. search seeking-begin)  -- loop-holds
+    (λ c. omega arith)  -- mul-if1
+    (λ c. omega arith)  -- mul-if1-2
+    (λ c. omega arith)  -- shared-slice-read-if1
+    (λ c. search seeking-here)  -- returns
+    (λ c. omega arith)  -- add-i
+    (λ c. omega arith)  -- loop-less
+    (λ c. search seeking-next)  -- loop-again
+    (λ c. search seeking-done))  -- returns-2

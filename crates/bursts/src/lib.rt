@@ -1,0 +1,292 @@
+// Satellite bursts of at most 340 bytes: the check of a plan, and a simple planner.
+// Lent lists hold pairs of numbers: length and cabin of a waiting message, message number and burst number of an entry. Half a pair at the end is ignored.
+// The check needs no memory of its own: while message numbers rise it looks at each entry once; at one that does not, it looks through the entries before it.
+ghost use mathlib.Core.Path.{_≡_};
+ghost use mathlib.Core.List.{_++_};
+ghost use Prim.Native.Nat.{suc, _-_, _*_, _/_, _≤_, _<_};
+ghost use lib.Dec.{leb};
+ghost use lib.ListN.{length, take, drop};
+ghost use Rattle.encoding.specs.Result.{pick};
+ghost use Rattle.bursts.specs.Bursts.{most, waitings, entries as entriesOf, cabinOf, checking, tooLong, plan as planOf, entryNumbers, planning, plannedOf, planListed};
+ghost use Rattle.bursts.specs.Running.{clashing, clashes, late, opening, packed, packing, entering, foundOf};
+
+// The plan is accepted; or the place of its 46.
+pub enum Checked {
+    Sound,
+    Breaks(u64),
+}
+
+// The number of entries; or a refusal's number and place.
+pub enum Planned {
+    Made(u64),
+    Unplanned(u32, u64),
+}
+
+// The bytes that a burst has left after one message more; or the message cannot go there.
+enum Packed {
+    Holds(u64),
+    Full,
+}
+
+// A burst's number and the bytes that it has left.
+struct Burst {
+    number: u64,
+    left: u64,
+}
+
+// The number of a message; or there is none.
+enum Found {
+    At(u64),
+    Nowhere,
+}
+
+// What is left of some room after a message. Lengths are compared with what is left and never added: a sum could wrap.
+fn put_in(room: u64, length: u64) -> Packed
+    ensures { λ r. ⌜ r ≡ packed room length ⌝ }
+{
+    if length <= room {
+        Packed::Holds(room - length)
+    } else {
+        Packed::Full
+    }
+}
+
+// The same of a burst, where the burst of the entry before is `last` and has so many bytes left.
+fn pack(last: u64, left: u64, burst: u64, length: u64) -> Packed
+    ensures { λ r. ⌜ r ≡ packing last left burst length ⌝ }
+{
+    if burst == last {
+        return put_in(left, length);
+    }
+    if burst < last {
+        return Packed::Full;
+    }
+    if burst - last == 1 {
+        put_in(340, length)
+    } else {
+        Packed::Full
+    }
+}
+
+// Whether the first burst number is 0, if there is an entry.
+fn opens(entries: &[u64]) -> bool
+    ensures { λ r. ⌜ r ≡ opening (entriesOf (now (entries .entry))) ⌝ }
+{
+    if entries.len() < 2 {
+        return true;
+    }
+    entries[1] == 0
+}
+
+// The cabin of a message; 0 if there is no such message.
+fn cabin(messages: &[u64], m: u64) -> u64
+    ensures { λ r. ⌜ r ≡ cabinOf (waitings (now (messages .entry))) m ⌝ }
+{
+    if m < messages.len() as u64 / 2 {
+        messages[2 * m as usize + 1]
+    } else {
+        0
+    }
+}
+
+// Whether message `other` may not be before message m, whose cabin is `own`: it is m, or a later message of that cabin.
+fn is_clash(messages: &[u64], m: u64, own: u64, other: u64) -> bool
+    ensures { λ r. ⌜ r ≡ clashing (waitings (now (messages .entry))) m own other ⌝ }
+{
+    if other == m {
+        return true;
+    }
+    if other < m {
+        return false;
+    }
+    cabin(messages, other) == own
+}
+
+// Whether one of the first n entries may not be before one of message m.
+fn is_late(messages: &[u64], entries: &[u64], n: usize, m: u64) -> bool
+    requires { ⌜ n ≤ length (now entries) / 2 ⌝ }
+    ensures { λ r. ⌜ r ≡ clashes (waitings (now (messages .entry))) m (take n (entriesOf (now (entries .entry)))) ⌝ }
+{
+    let own = cabin(messages, m);
+    let mut j = 0;
+    while j < n {
+        if is_clash(messages, m, own, entries[2 * j]) {
+            return true;
+        }
+        j += 1;
+    }
+    false
+}
+
+// The same where all messages of the first n entries are below `above`: only a message below it is looked for.
+fn is_late_below(messages: &[u64], entries: &[u64], n: usize, above: u64, m: u64) -> bool
+    requires { ⌜ n ≤ length (now entries) / 2 ⌝ }
+    ensures { λ r. ⌜ r ≡ late (waitings (now (messages .entry))) above m (take n (entriesOf (now (entries .entry)))) ⌝ }
+{
+    if m < above {
+        is_late(messages, entries, n, m)
+    } else {
+        false
+    }
+}
+
+// The bytes left in the burst after message m as entry n, or that the entry breaks a rule with the n entries before it.
+fn enter(
+    messages: &[u64],
+    entries: &[u64],
+    n: usize,
+    above: u64,
+    last: u64,
+    left: u64,
+    m: u64,
+    burst: u64,
+) -> Packed
+    requires { ⌜ n ≤ length (now entries) / 2 ⌝ }
+    ensures { λ r. ⌜ r ≡ entering (waitings (now (messages .entry))) (take n (entriesOf (now (entries .entry)))) above last left m burst ⌝ }
+{
+    if messages.len() as u64 / 2 <= m {
+        return Packed::Full;
+    }
+    if is_late_below(messages, entries, n, above, m) {
+        return Packed::Full;
+    }
+    pack(last, left, burst, messages[2 * m as usize])
+}
+
+// The least number above all message numbers so far and m.
+fn beyond(above: u64, m: u64) -> u64
+    requires { ⌜ m < 18446744073709551615 ⌝ }
+    ensures { λ r. ⌜ (above ≤ r) × (m < r) ⌝ }
+{
+    if m < above { above } else { m + 1 }
+}
+
+// The check of a plan: accepted exactly if it has the form of a plan, each message stands in it once, each burst has at most 340 bytes, and the messages of one cabin keep their order.
+// Wrong and ruled out: a burst of 341 bytes accepted; a message twice; a cabin's order broken across bursts; a sum that wraps.
+pub fn check_plan(messages: &[u64], entries: &[u64]) -> Checked
+    ensures { λ r. ⌜ r ≡ checking (now (messages .entry)) (now (entries .entry)) ⌝ }
+{
+    if !opens(entries) {
+        return Checked::Breaks(0);
+    }
+    let count = messages.len() as u64 / 2;
+    let n = entries.len() / 2;
+    let mut i = 0;
+    let mut above: u64 = 0;
+    let mut last: u64 = 0;
+    let mut left: u64 = 340;
+    while i < n {
+        let m = entries[2 * i];
+        let burst = entries[2 * i + 1];
+        let packed = enter(messages, entries, i, above, last, left, m, burst);
+        match packed {
+            Packed::Holds(rest) => {
+                left = rest;
+            }
+            Packed::Full => {
+                return Checked::Breaks(i as u64);
+            }
+        }
+        above = beyond(above, m);
+        last = burst;
+        i += 1;
+    }
+    if (n as u64) < count {
+        Checked::Breaks(n as u64)
+    } else {
+        Checked::Sound
+    }
+}
+
+// The first message of more than 340 bytes.
+fn too_long(messages: &[u64]) -> Found
+    ensures { λ r. ⌜ r ≡ foundOf (tooLong 0 (waitings (now (messages .entry)))) ⌝ }
+{
+    let n = messages.len() / 2;
+    let mut i = 0;
+    while i < n {
+        if 340 < messages[2 * i] {
+            return Found::At(i as u64);
+        }
+        i += 1;
+    }
+    Found::Nowhere
+}
+
+// The planner's answer for a lent list of `room` numbers.
+// Wrong and ruled out: 19 before 45; the room counted in numbers for entries.
+pub fn answer(messages: &[u64], room: usize) -> Planned
+    ensures { λ r. ⌜ r ≡ plannedOf (planning (now (messages .entry)) room) ⌝ }
+{
+    let n = messages.len() / 2;
+    let long = too_long(messages);
+    match long {
+        Found::At(m) => Planned::Unplanned(45, m),
+        Found::Nowhere => {
+            if n <= room / 2 {
+                Planned::Made(n as u64)
+            } else {
+                Planned::Unplanned(19, n as u64)
+            }
+        }
+    }
+}
+
+// The burst that a message goes to: the last one, if it has that much left, or a new one. A message over 340 bytes leaves nothing.
+fn take_in(burst: u64, left: u64, length: u64) -> Burst
+    requires { ⌜ burst < 18446744073709551615 ⌝ }
+    ensures { λ r. ⌜ (r .number ≡ pick (leb length left) burst (suc burst)) × (r .left ≡ pick (leb length left) left most - length) ⌝ }
+{
+    if length <= left {
+        return Burst {
+            number: burst,
+            left: left - length,
+        };
+    }
+    if length <= 340 {
+        Burst {
+            number: burst + 1,
+            left: 340 - length,
+        }
+    } else {
+        Burst {
+            number: burst + 1,
+            left: 0,
+        }
+    }
+}
+
+// Writes the plan's entries: the messages in turn, a new burst only where the next does not fit.
+fn fill(messages: &[u64], entries: &mut [u64])
+    requires { ⌜ length (now messages) / 2 ≤ length (now entries) / 2 ⌝ }
+    ensures { λ _. ⌜ now (entries .exit) ≡ entryNumbers (planOf (waitings (now (messages .entry)))) ++ drop (2 * (length (now (messages .entry)) / 2)) (now (entries .entry)) ⌝ }
+{
+    let n = messages.len() / 2;
+    let mut i = 0;
+    let mut burst: u64 = 0;
+    let mut left: u64 = 340;
+    while i < n {
+        let taken = take_in(burst, left, messages[2 * i]);
+        burst = taken.number;
+        left = taken.left;
+        entries[2 * i] = i as u64;
+        entries[2 * i + 1] = burst;
+        i += 1;
+    }
+}
+
+// The planner: takes the messages in turn and opens a new burst only where the next does not fit. On a refusal the lent list stays as it was.
+// Wrong and ruled out: an entry written where the list is too short; a burst of 341 bytes made.
+pub fn plan(messages: &[u64], entries: &mut [u64]) -> Planned
+    ensures { λ r. ⌜ r ≡ plannedOf (planning (now (messages .entry)) (length (now (entries .entry)))) ⌝ }
+    ensures { λ _. ⌜ now (entries .exit) ≡ planListed (planning (now (messages .entry)) (length (now (entries .entry)))) (now (entries .entry)) ⌝ }
+{
+    let made = answer(messages, entries.len());
+    match made {
+        Planned::Made(n) => {
+            fill(messages, entries);
+            Planned::Made(n)
+        }
+        Planned::Unplanned(c, p) => Planned::Unplanned(c, p),
+    }
+}
