@@ -21,7 +21,7 @@
  * Stack and time are measured, not proved (x86-64; docs/SPEED.md has all figures). No call took more than 8 KB of stack
  * over all recorded and 20,000 generated calls, and icehub_member 18 KB. Each level of nesting of the table's types takes
  * 0.5 KB more: 126 KB under a table of 256 nested types. icehub_read and icehub_write took about 0.1 us for a message of
- * 22 bytes, under 1 us for 1 KB, and 0.2 s for the slowest message of 65,536 bytes that we know. Each of the calls that
+ * 22 bytes, under 1 us for 1 KB, and 0.3 s for the slowest message of 65,536 bytes that we know. Each of the calls that
  * return one more number costs as much as a full read or write.
  */
 #ifndef ICEHUB_H

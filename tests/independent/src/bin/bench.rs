@@ -274,7 +274,7 @@ impl<'a> Night<'a> {
         assert_eq!((answers, rows), (other, other_rows), "{name}");
     }
 
-    /// The same messages by as many calls of the reader.
+    /// The same messages by as many calls of the reader with its numbers.
     fn run_single(&self) {
         let Night { name, case: Case { table, top, message, rows: list, .. }, buffer, count } = self;
         let (mut answers, mut rows) = self.lists();
@@ -640,7 +640,7 @@ fn all_but_logs() {
         [Night::new("10,000 of P2", &p2_night, 10_000), Night::new("under 1,024 members", &many_night, 10_000)];
     nights.iter().for_each(Night::run);
     println!();
-    heads("icehub_night", "icehub_read");
+    heads("icehub_night", "read_numbers");
     nights.iter().for_each(Night::run_single);
 
     println!();
