@@ -37,7 +37,7 @@ INDEPENDENT = --offline --release --manifest-path tests/independent/Cargo.toml -
 help:
 	@sed -n 's/^## \([a-z-]*\): /make \1\t/p' Makefile | expand -t 18
 
-## run: build the library and the tool icehub, and show the sample messages
+## run: build the library and the tool icehub, show the sample messages and set a member of one
 run: $(TOOL)
 	@echo && echo '--- a report of a frost guard'
 	@$(TOOL) show samples/report.table 3 samples/report.message
@@ -45,6 +45,9 @@ run: $(TOOL)
 	@$(TOOL) show samples/fault.table ::Guard::Fault samples/fault.message
 	@echo && echo '--- the same fault, by its sender'\''s table'
 	@$(TOOL) show samples/fault-newer.table ::Guard::Fault samples/fault.message
+	@echo && echo '--- its frost delay set to an hour by the older table, and shown by its sender'\''s'
+	@$(TOOL) set --overwrite samples/fault.table ::Guard::Fault samples/fault.message 1 3600 target/fault-hour.message
+	@$(TOOL) show samples/fault-newer.table ::Guard::Fault target/fault-hour.message
 	@echo && echo '--- the same fault, damaged'
 	@$(TOOL) show samples/fault.table ::Guard::Fault samples/fault-damaged.message || [ $$? -eq 1 ]
 	@echo && echo '--- a valve state that is not on its list'

@@ -74,14 +74,15 @@ enum icehub_format {
 };
 
 /* What a call may be refused for, and what its place is then (icehub_read_place, icehub_write_place,
- * icehub_convert_place, icehub_table_place, icehub_check_plan_place, icehub_plan_place). A place counts bytes from the
- * start of the message; of the table for 31 to 39; or it is the number named. */
+ * icehub_convert_place, icehub_set_place, icehub_remove_place, icehub_table_place, icehub_check_plan_place,
+ * icehub_plan_place). A place counts bytes from the start of the message; of the table for 31 to 39; or it is the number
+ * named. */
 enum icehub_refusal {
     /* Not refused. */
     ICEHUB_OK = 0,
     /* the type is not in the table, or is no exception, class or parameter list. Place: 0. */
     ICEHUB_BAD_TYPE = 2,
-    /* the message, or the writer's buffer, is over 65,536 bytes long. Place: 0. */
+    /* the message, the writer's buffer, or what is to be set is over 65,536 bytes long. Place: 0. */
     ICEHUB_INPUT_TOO_LONG = 3,
     /* an item or a declared length runs past what holds it. Place: its first byte. */
     ICEHUB_CUT_OFF = 4,
@@ -121,7 +122,7 @@ enum icehub_refusal {
     ICEHUB_LIST_TOO_SHORT = 19,
     /* writer: a row is wrong, missing, out of order or outside the buffer. Place: the row's number. */
     ICEHUB_BAD_ROW = 20,
-    /* writer: the bytes are not exactly a value of the member's type. Place: the row's number. */
+    /* writer, set: the bytes are not exactly a value of the member's type. Place: the row's number; 0 in setting. */
     ICEHUB_BAD_ROW_BYTES = 21,
     /* the output is longer than its room or 65,536 bytes. Place: the number of bytes needed. */
     ICEHUB_OUTPUT_TOO_LONG = 22,
@@ -170,7 +171,13 @@ enum icehub_refusal {
     /* converter: the message is no compact record. Place: 0. */
     ICEHUB_NOT_COMPACT = 47,
     /* converter: something in the message is skipped, as the table does not know it. Place: 0. */
-    ICEHUB_SKIPPED = 48
+    ICEHUB_SKIPPED = 48,
+    /* set, remove: the member is not an optional of the message's type or of a base of it. Place: 0. */
+    ICEHUB_NOT_OPTIONAL = 49,
+    /* remove: the message does not have the member. Place: 0. */
+    ICEHUB_NOT_THERE = 50,
+    /* set, remove: the message is a compact record. Place: 0. */
+    ICEHUB_IS_COMPACT = 51
 };
 
 /* ---- The table by itself ----
@@ -332,6 +339,63 @@ uint32_t icehub_convert_place(const uint8_t *table, size_t table_len, uint32_t t
 /* The length of the sliced record that icehub_convert makes; 0 where it refuses. */
 uint32_t icehub_convert_length(const uint8_t *table, size_t table_len, uint32_t top, const uint8_t *message,
                                size_t message_len, size_t out_len);
+
+/* ---- One optional changed, the rest passed on ----
+ *
+ *   table, table_len      the type table
+ *   top                   the number of the wanted type's row
+ *   message, message_len  a parameter list or a sliced record, also of a newer sender
+ *   member                the number of the member row: an optional of the message's first known type, or of a base of it
+ *   bytes, bytes_len      its new value, as a row of icehub_read has it: without header and length field; a string,
+ *                         sequence or dictionary with its own size
+ *   out, out_len          the lent output; it does not overlap the message
+ *
+ * Everything else keeps its bytes and order, also the optionals and slices that the table does not know. Any table that
+ * extends this one and accepted the message accepts the result: with the same first known type and skips, and a list that
+ * differs in that member only, apart from places. So a hub sets the frost delay in a message of which it knows half
+ * (examples/setting.c):
+ *
+ *     icehub_put(delay, 4, 3600);
+ *     refusal = icehub_set(table, table_len, top, message, message_len, DELAY, delay, 4, out, sizeof out);
+ *     length = icehub_set_length(table, table_len, top, message, message_len, DELAY, delay, 4, sizeof out);
+ *
+ * To change several members, change one after another, from one buffer into another. */
+
+/* Sets an optional: adds it if the message does not have it, else replaces its value. Returns ICEHUB_OK: the result is at
+ * the start of `out`, as long as icehub_set_length says, and the bytes after it are unchanged. Setting the bytes that the
+ * member has gives the same message. Or returns a refusal, `out` is unchanged: one of icehub_read with a list of
+ * ICEHUB_MOST_ROWS rows, then ICEHUB_NOT_OPTIONAL (for every member of a message of encoding 1.0), ICEHUB_IS_COMPACT,
+ * ICEHUB_INPUT_TOO_LONG and ICEHUB_BAD_ROW_BYTES for the new bytes, ICEHUB_OUTPUT_TOO_LONG. */
+uint32_t icehub_set(const uint8_t *table, size_t table_len, uint32_t top, const uint8_t *message, size_t message_len,
+                    uint32_t member, const uint8_t *bytes, size_t bytes_len, uint8_t *out, size_t out_len);
+
+/* The other numbers of a setting. Each call checks the same input again, as icehub_set does with an output of out_len
+ * bytes, and changes nothing. */
+
+/* The place of the refusal; 0 where there is a result. With an out_len of 0, what can be set is refused by
+ * ICEHUB_OUTPUT_TOO_LONG, and the place is the length of the result. */
+uint32_t icehub_set_place(const uint8_t *table, size_t table_len, uint32_t top, const uint8_t *message,
+                          size_t message_len, uint32_t member, const uint8_t *bytes, size_t bytes_len, size_t out_len);
+
+/* The length of the result that icehub_set gives; 0 where it refuses. */
+uint32_t icehub_set_length(const uint8_t *table, size_t table_len, uint32_t top, const uint8_t *message,
+                           size_t message_len, uint32_t member, const uint8_t *bytes, size_t bytes_len, size_t out_len);
+
+/* Removes an optional that the message has. Returns ICEHUB_OK: the result is at the start of `out`, as long as
+ * icehub_remove_length says, and the bytes after it are unchanged. Removing what was set where nothing was before gives
+ * the message back. Or returns a refusal, `out` is unchanged: one of icehub_read with a list of ICEHUB_MOST_ROWS rows, then
+ * ICEHUB_NOT_OPTIONAL (for every member of a message of encoding 1.0), ICEHUB_NOT_THERE, ICEHUB_IS_COMPACT,
+ * ICEHUB_OUTPUT_TOO_LONG. */
+uint32_t icehub_remove(const uint8_t *table, size_t table_len, uint32_t top, const uint8_t *message, size_t message_len,
+                       uint32_t member, uint8_t *out, size_t out_len);
+
+/* The place of the refusal; 0 where there is a result. As icehub_set_place. */
+uint32_t icehub_remove_place(const uint8_t *table, size_t table_len, uint32_t top, const uint8_t *message,
+                             size_t message_len, uint32_t member, size_t out_len);
+
+/* The length of the result that icehub_remove gives; 0 where it refuses. */
+uint32_t icehub_remove_length(const uint8_t *table, size_t table_len, uint32_t top, const uint8_t *message,
+                              size_t message_len, uint32_t member, size_t out_len);
 
 /* ---- Many messages in one buffer ----
  *
@@ -562,6 +626,9 @@ static inline const char *icehub_refusal_name(uint32_t refusal)
     case ICEHUB_BAD_PLAN: return "BAD_PLAN";
     case ICEHUB_NOT_COMPACT: return "NOT_COMPACT";
     case ICEHUB_SKIPPED: return "SKIPPED";
+    case ICEHUB_NOT_OPTIONAL: return "NOT_OPTIONAL";
+    case ICEHUB_NOT_THERE: return "NOT_THERE";
+    case ICEHUB_IS_COMPACT: return "IS_COMPACT";
     default: return "";
     }
 }
@@ -572,7 +639,7 @@ static inline const char *icehub_refusal_text(uint32_t refusal)
     switch (refusal) {
     case ICEHUB_OK: return "not refused";
     case ICEHUB_BAD_TYPE: return "the type is not in the table, or is no exception, class or parameter list";
-    case ICEHUB_INPUT_TOO_LONG: return "the message, or the writer's buffer, is over 65,536 bytes long";
+    case ICEHUB_INPUT_TOO_LONG: return "the message, the writer's buffer, or what is to be set is over 65,536 bytes long";
     case ICEHUB_CUT_OFF: return "an item or a declared length runs past what holds it";
     case ICEHUB_BAD_OUTER_SIZE: return "the encapsulation's size is under 6 or not the message's length";
     case ICEHUB_BAD_VERSION:
@@ -599,7 +666,7 @@ static inline const char *icehub_refusal_text(uint32_t refusal)
     case ICEHUB_LEFT_OVER: return "bytes follow the record";
     case ICEHUB_LIST_TOO_SHORT: return "the lent list is too short";
     case ICEHUB_BAD_ROW: return "writer: a row is wrong, missing, out of order or outside the buffer";
-    case ICEHUB_BAD_ROW_BYTES: return "writer: the bytes are not exactly a value of the member's type";
+    case ICEHUB_BAD_ROW_BYTES: return "writer, set: the bytes are not exactly a value of the member's type";
     case ICEHUB_OUTPUT_TOO_LONG: return "the output is longer than its room or 65,536 bytes";
     case ICEHUB_BAD_FORMAT: return "writer: the format is not 1 or 2, or 2 for a class";
     case ICEHUB_BAD_TEXT: return "a string is not well-formed UTF-8";
@@ -630,6 +697,10 @@ static inline const char *icehub_refusal_text(uint32_t refusal)
         return "an entry of a plan breaks a rule with the entries before it, or messages are missing";
     case ICEHUB_NOT_COMPACT: return "converter: the message is no compact record";
     case ICEHUB_SKIPPED: return "converter: something in the message is skipped, as the table does not know it";
+    case ICEHUB_NOT_OPTIONAL:
+        return "set, remove: the member is not an optional of the message's type or of a base of it";
+    case ICEHUB_NOT_THERE: return "remove: the message does not have the member";
+    case ICEHUB_IS_COMPACT: return "set, remove: the message is a compact record";
     default: return "";
     }
 }

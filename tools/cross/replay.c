@@ -18,7 +18,8 @@
 enum { LENT = 0xAA, MOST_LINE = 1 << 20, MOST_INPUT = 1 << 18 };
 
 /* The kinds of records, and how many numbers begin one. */
-enum { TABLE, READ, VIEW, WRITE, RECORDS, CHECK, CONVERT, NIGHT = 9, ENDPOINT = 12, ENDPOINT_WRITE, CHECK_PLAN = 15, PLAN };
+enum { TABLE, READ, VIEW, WRITE, RECORDS, CHECK, CONVERT, SET, REMOVE, NIGHT };
+enum { ENDPOINT = 12, ENDPOINT_WRITE, CHECK_PLAN = 15, PLAN };
 enum { KINDS = 17, HEAD = 7 };
 
 static uint8_t table[ICEHUB_MOST_BYTES], input[MOST_INPUT], rows[ICEHUB_MOST_BYTES], again[ICEHUB_MOST_BYTES],
@@ -225,6 +226,39 @@ static void convert_call(uint32_t top, const uint8_t *message, size_t message_le
     if (!is_kept(out + length, sizeof out - length)) {
         put(" touched");
     }
+}
+
+/* The line of a change: its numbers, and the result that is in `out`. */
+static void put_change(uint32_t refusal, uint32_t place, uint32_t length, size_t room)
+{
+    put("%" PRIu32 " %" PRIu32 " %" PRIu32 " ", refusal, place, length);
+    if (length > room) {
+        put("more bytes than room");
+        return;
+    }
+    put_hex(out, length);
+    if (!is_kept(out + length, sizeof out - length)) {
+        put(" touched");
+    }
+}
+
+static void set_call(uint32_t top, const uint8_t *message, size_t message_len, uint32_t member, const uint8_t *bytes,
+                     size_t bytes_len, size_t room)
+{
+    uint32_t refusal;
+    memset(out, LENT, sizeof out);
+    refusal = icehub_set(table, table_len, top, message, message_len, member, bytes, bytes_len, out, room);
+    put_change(refusal, icehub_set_place(table, table_len, top, message, message_len, member, bytes, bytes_len, room),
+               icehub_set_length(table, table_len, top, message, message_len, member, bytes, bytes_len, room), room);
+}
+
+static void remove_call(uint32_t top, const uint8_t *message, size_t message_len, uint32_t member, size_t room)
+{
+    uint32_t refusal;
+    memset(out, LENT, sizeof out);
+    refusal = icehub_remove(table, table_len, top, message, message_len, member, out, room);
+    put_change(refusal, icehub_remove_place(table, table_len, top, message, message_len, member, room),
+               icehub_remove_length(table, table_len, top, message, message_len, member, room), room);
 }
 
 static void view_call(uint32_t top, const uint8_t *message, size_t message_len, uint32_t member,
@@ -440,6 +474,18 @@ static void replay(FILE *calls, FILE *answers)
             }
             convert_call(n[2], input, length, n[3]);
             break;
+        case SET:
+            if (n[4] > length || n[5] > sizeof out) {
+                stop("a call is too long");
+            }
+            set_call(n[2], input, n[4], n[3], input + n[4], length - n[4], n[5]);
+            break;
+        case REMOVE:
+            if (n[4] > sizeof out) {
+                stop("an output is too long");
+            }
+            remove_call(n[2], input, length, n[3], n[4]);
+            break;
         case NIGHT:
             if (n[3] > sizeof out || n[4] > sizeof rows) {
                 stop("a list is too long");
@@ -492,8 +538,9 @@ int main(int argc, char **argv)
         stop("more answers than calls");
     }
     printf("%lu of %lu recorded calls agree: %lu readings, %lu writings, %lu views, %lu row records, %lu tables, "
-           "%lu conversions, %lu nights, %lu endpoints, %lu checks of burst plans, %lu plans\n",
+           "%lu conversions, %lu sets, %lu removals, %lu nights, %lu endpoints, %lu checks of burst plans, %lu plans\n",
            lines - differed, lines, agreed[READ], agreed[WRITE], agreed[VIEW], agreed[RECORDS], agreed[CHECK],
-           agreed[CONVERT], agreed[NIGHT], agreed[ENDPOINT] + agreed[ENDPOINT_WRITE], agreed[CHECK_PLAN], agreed[PLAN]);
+           agreed[CONVERT], agreed[SET], agreed[REMOVE], agreed[NIGHT], agreed[ENDPOINT] + agreed[ENDPOINT_WRITE],
+           agreed[CHECK_PLAN], agreed[PLAN]);
     return differed > 0 || lines == 0;
 }

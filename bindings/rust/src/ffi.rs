@@ -49,6 +49,28 @@ extern "C" {
         out: *mut u8,
         out_len: usize,
     ) -> u32;
+    fn icehub_set(
+        table: *const u8,
+        table_len: usize,
+        top: u32,
+        message: *const u8,
+        message_len: usize,
+        member: u32,
+        bytes: *const u8,
+        bytes_len: usize,
+        out: *mut u8,
+        out_len: usize,
+    ) -> u32;
+    fn icehub_remove(
+        table: *const u8,
+        table_len: usize,
+        top: u32,
+        message: *const u8,
+        message_len: usize,
+        member: u32,
+        out: *mut u8,
+        out_len: usize,
+    ) -> u32;
 }
 
 /// Checks a table: 0, or the number of the first rule that it breaks.
@@ -152,6 +174,103 @@ pub fn convert(table: &[u8], top: u32, message: &[u8], out: &mut [u8]) -> u32 {
     // SAFETY: each pointer comes with the length of its slice; only `out` is written.
     unsafe {
         icehub_convert(table.as_ptr(), table.len(), top, message.as_ptr(), message.len(), out.as_mut_ptr(), out.len())
+    }
+}
+
+/// Sets an optional: 0, and the result is in `out`, or the number of a refusal.
+pub fn set(table: &[u8], top: u32, message: &[u8], member: u32, bytes: &[u8], out: &mut [u8]) -> u32 {
+    // SAFETY: each pointer comes with the length of its slice; only `out` is written.
+    unsafe {
+        icehub_set(
+            table.as_ptr(),
+            table.len(),
+            top,
+            message.as_ptr(),
+            message.len(),
+            member,
+            bytes.as_ptr(),
+            bytes.len(),
+            out.as_mut_ptr(),
+            out.len(),
+        )
+    }
+}
+
+/// Removes an optional: 0, and the result is in `out`, or the number of a refusal.
+pub fn remove(table: &[u8], top: u32, message: &[u8], member: u32, out: &mut [u8]) -> u32 {
+    // SAFETY: as above.
+    unsafe {
+        icehub_remove(
+            table.as_ptr(),
+            table.len(),
+            top,
+            message.as_ptr(),
+            message.len(),
+            member,
+            out.as_mut_ptr(),
+            out.len(),
+        )
+    }
+}
+
+/// The other numbers of a change with an output of so many bytes.
+macro_rules! change_numbers {
+    (set { $($set:ident = $icehub_set:ident;)* } remove { $($remove:ident = $icehub_remove:ident;)* }) => {
+        extern "C" {
+            $(fn $icehub_set(
+                table: *const u8,
+                table_len: usize,
+                top: u32,
+                message: *const u8,
+                message_len: usize,
+                member: u32,
+                bytes: *const u8,
+                bytes_len: usize,
+                out_len: usize,
+            ) -> u32;)*
+            $(fn $icehub_remove(
+                table: *const u8,
+                table_len: usize,
+                top: u32,
+                message: *const u8,
+                message_len: usize,
+                member: u32,
+                out_len: usize,
+            ) -> u32;)*
+        }
+        $(pub fn $set(table: &[u8], top: u32, message: &[u8], member: u32, bytes: &[u8], out_len: usize) -> u32 {
+            // SAFETY: each pointer comes with the length of its slice; nothing is written.
+            unsafe {
+                $icehub_set(
+                    table.as_ptr(),
+                    table.len(),
+                    top,
+                    message.as_ptr(),
+                    message.len(),
+                    member,
+                    bytes.as_ptr(),
+                    bytes.len(),
+                    out_len,
+                )
+            }
+        })*
+        $(pub fn $remove(table: &[u8], top: u32, message: &[u8], member: u32, out_len: usize) -> u32 {
+            // SAFETY: as above.
+            unsafe {
+                $icehub_remove(table.as_ptr(), table.len(), top, message.as_ptr(), message.len(), member, out_len)
+            }
+        })*
+    };
+}
+
+change_numbers! {
+    set {
+        set_place = icehub_set_place;
+        set_length = icehub_set_length;
+    }
+    remove {
+        remove_place = icehub_remove_place;
+        remove_length = icehub_remove_length;
     }
 }
 

@@ -32,6 +32,7 @@
 #![deny(missing_docs)]
 
 mod bursts;
+mod change;
 mod convert;
 mod endpoint;
 #[allow(unsafe_code)]
@@ -42,6 +43,7 @@ mod table;
 mod value;
 
 pub use bursts::{check_plan, plan, PlanRefusal, BURST_BYTES};
+pub use change::{remove, set};
 pub use convert::convert;
 pub use endpoint::{endpoint_at, open_endpoint, write_endpoint, Address, Opened};
 pub use night::{night, Answer, Answers, Night, ANSWER_SIZE};

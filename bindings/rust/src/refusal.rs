@@ -99,7 +99,7 @@ impl Reason {
 
 reasons! {
     BadType = 2, "BAD_TYPE": "the type is not in the table, or is no exception, class or parameter list", "0";
-    InputTooLong = 3, "INPUT_TOO_LONG": "the message, or the writer's buffer, is over 65,536 bytes long", "0";
+    InputTooLong = 3, "INPUT_TOO_LONG": "the message, the writer's buffer, or what is to be set is over 65,536 bytes long", "0";
     CutOff = 4, "CUT_OFF": "an item or a declared length runs past what holds it", "its first byte";
     BadOuterSize = 5, "BAD_OUTER_SIZE": "the encapsulation's size is under 6 or not the message's length", "0";
     BadVersion = 6, "BAD_VERSION": "the encoding's version is neither 1.1 nor 1.0, or is 1.0 with a class as the top", "4";
@@ -127,8 +127,8 @@ reasons! {
     LeftOver = 18, "LEFT_OVER": "bytes follow the record", "the first of them";
     ListTooShort = 19, "LIST_TOO_SHORT": "the lent list is too short", "the number of rows or entries needed";
     BadRow = 20, "BAD_ROW": "writer: a row is wrong, missing, out of order or outside the buffer", "the row's number";
-    BadRowBytes = 21, "BAD_ROW_BYTES": "writer: the bytes are not exactly a value of the member's type",
-        "the row's number";
+    BadRowBytes = 21, "BAD_ROW_BYTES": "writer, set: the bytes are not exactly a value of the member's type",
+        "the row's number; 0 in setting";
     OutputTooLong = 22, "OUTPUT_TOO_LONG": "the output is longer than its room or 65,536 bytes",
         "the number of bytes needed";
     BadFormat = 23, "BAD_FORMAT": "writer: the format is not 1 or 2, or 2 for a class", "0";
@@ -169,6 +169,10 @@ reasons! {
         "the entry's number; the number of entries where only messages are missing";
     NotCompact = 47, "NOT_COMPACT": "converter: the message is no compact record", "0";
     Skipped = 48, "SKIPPED": "converter: something in the message is skipped, as the table does not know it", "0";
+    NotOptional = 49, "NOT_OPTIONAL":
+        "set, remove: the member is not an optional of the message's type or of a base of it", "0";
+    NotThere = 50, "NOT_THERE": "remove: the message does not have the member", "0";
+    IsCompact = 51, "IS_COMPACT": "set, remove: the message is a compact record", "0";
 }
 
 /// `refusal 19 at 3 (the number of rows or entries needed): the lent list is too short`; without the brackets where the place is
@@ -236,12 +240,12 @@ mod tests {
     fn numbers() {
         assert_eq!(
             Reason::ALL.iter().map(|reason| reason.number()).collect::<Vec<_>>(),
-            (2..=27).chain(31..=39).chain(45..=48).collect::<Vec<_>>()
+            (2..=27).chain(31..=39).chain(45..=51).collect::<Vec<_>>()
         );
         for reason in Reason::ALL {
             assert_eq!(Reason::from_number(reason.number()), Some(*reason));
         }
-        assert!([0, 1, 28, 30, 40, 44, 49].into_iter().all(|number| Reason::from_number(number).is_none()));
+        assert!([0, 1, 28, 30, 40, 44, 52].into_iter().all(|number| Reason::from_number(number).is_none()));
     }
 
     #[test]

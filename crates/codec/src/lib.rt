@@ -1,4 +1,8 @@
 // The public calls, for the layers above: what document 01 says under "What a call gives". No call asks anything of its input.
+pub use change::remove;
+pub use change::remove_answer;
+pub use change::set;
+pub use change::set_answer;
 pub use convert::convert;
 pub use convert::converted;
 pub use night::night;

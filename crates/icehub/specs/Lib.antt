@@ -2,6 +2,7 @@
 pub mod TableNumbers
 pub mod Numbers
 pub mod WriteNumbers
+pub mod ChangeNumbers
 pub mod ConvertNumbers
 pub mod EndpointNumbers
 pub mod PlanNumbers

@@ -1,7 +1,7 @@
 -- Each row is of its piece: the message is the encoding of the pieces, so the content of a piece is where its row says.
 --
 --   level-listed, slices-listed   of the pieces of an owner; of slices
---   listed-rows                   of a message
+--   rows-listed, listed-rows      of a message: of pieces that conform; the promise
 use mathlib.Core.Path.{_≡_, refl, sym, ap, _∙_, subst}
 use mathlib.Core.Bool.{true}
 use mathlib.Core.Option.{Option, some}
@@ -95,7 +95,7 @@ module _ (T m : List ℕ) where
 
 -- ---- a message
 
-rows-listed : (T : List ℕ) → faults T ≡ fine → (top : ℕ) (f : Encoding) (p : Pieces) → Conform T top f p → Listed T (encapsulate f (encode f p)) top p (rows T top f p)
+pub rows-listed : (T : List ℕ) → faults T ≡ fine → (top : ℕ) (f : Encoding) (p : Pieces) → Conform T top f p → Listed T (encapsulate f (encode f p)) top p (rows T top f p)
 unfolding rows encode
 rows-listed T right top (v11 g) (list ps) (k, i, L) = owned-listed T _ (v11 g) top ps L 6 (stands-encapsulated (v11 g) _)
 rows-listed T right top (v11 g) (exception ss) (k, C) = slices-listed T _ right top (v11 g) ss C first 6 (stands-encapsulated (v11 g) _)

@@ -106,7 +106,7 @@ fn part_form(
 }
 
 // Puts a row as an optional of a tag and form and returns its end.
-fn put_optional(
+pub fn put_optional(
     out: &mut [u8],
     at: usize,
     tag: usize,

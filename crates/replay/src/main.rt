@@ -7,12 +7,15 @@
 //   4  a call of the reader with eight row records: top; the bytes are the message
 //   5  a check of the table: no bytes
 //   6  a call of the converter: top, bytes of the output; the bytes are the message
+//   7  a call that sets a member: top, member row, length of the message, bytes of the output; the bytes are message and new bytes
+//   8  a call that removes a member: top, member row, bytes of the output; the bytes are the message
 //   9  a call for many messages: top, bytes of the list of answers, bytes of the list of rows; the bytes are the buffer
 //   12 an endpoint opened: bytes lent for its numbers, 0; the bytes are the endpoint. Or found: bytes lent for its numbers, 1, its number; the bytes are the proxy
 //   13 an endpoint written: type, port, timeout, compress, bytes of the output; the bytes are the host
 //   15 a check of a burst plan: how many numbers the messages have; the bytes are messages and entries, eight bytes a number
 //   16 a call of the planner: the numbers of the lent list; the bytes are the messages
-// print.rt prints, reads.rt, writes.rt, records.rt, tables.rt, conversions.rt, nights.rt, endpoints.rt and plans.rt make the calls.
+// print.rt prints, reads.rt, writes.rt, records.rt, tables.rt, conversions.rt, changes.rt, nights.rt, endpoints.rt and plans.rt make the calls.
+mod changes;
 mod conversions;
 mod endpoints;
 mod nights;
@@ -61,6 +64,38 @@ fn split_call<'a, 't>(
         &input[n..],
         lent,
     );
+}
+
+// A call that sets a member; its bytes have two parts, the first of n bytes.
+fn set_call(head: &[u8; 28], table: &[u8], input: &[u8], lent: &mut [u8]) {
+    let n = wire::int_at(head, 16);
+    let room = wire::int_at(head, 20);
+    if n <= input.len() {
+        if room <= lent.len() {
+            changes::set_call(
+                table,
+                field(head, 8),
+                &input[0..n],
+                field(head, 12),
+                &input[n..],
+                &mut lent[0..room],
+            );
+        }
+    }
+}
+
+// A call that removes a member.
+fn remove_call(head: &[u8; 28], table: &[u8], input: &[u8], lent: &mut [u8]) {
+    let room = wire::int_at(head, 16);
+    if room <= lent.len() {
+        changes::remove_call(
+            table,
+            field(head, 8),
+            input,
+            field(head, 12),
+            &mut lent[0..room],
+        );
+    }
 }
 
 // A call that writes an endpoint.
@@ -127,6 +162,14 @@ fn call<'a, 't>(head: &[u8; 28], table: &'t [u8], input: &'a [u8], lent: &mut [u
         if room <= lent.len() {
             conversions::convert_call(table, field(head, 8), input, &mut lent[0..room]);
         }
+        return;
+    }
+    if kind == 7 {
+        set_call(head, table, input, lent);
+        return;
+    }
+    if kind == 8 {
+        remove_call(head, table, input, lent);
         return;
     }
     if kind == 9 {

@@ -14,21 +14,6 @@ fn show(out: &[u8], n: usize) {
     io::write_all(STDOUT_FILENO, b"\n");
 }
 
-// A call of the writer with an output of just these bytes.
-pub fn write_call(
-    table: &[u8],
-    top: u32,
-    format: u32,
-    count: u32,
-    rows: &[u8],
-    buffer: &[u8],
-    out: &mut [u8],
-) {
-    print::mark(out);
-    let a = codec::write(table, top, format, count, rows, buffer, out);
-    show_answer(a, out);
-}
-
 // Prints an answer and the message in its output.
 pub fn show_answer(a: Writing, out: &[u8]) {
     match a {
@@ -45,4 +30,19 @@ pub fn show_answer(a: Writing, out: &[u8]) {
             show(out, 0);
         }
     }
+}
+
+// A call of the writer with an output of just these bytes.
+pub fn write_call(
+    table: &[u8],
+    top: u32,
+    format: u32,
+    count: u32,
+    rows: &[u8],
+    buffer: &[u8],
+    out: &mut [u8],
+) {
+    print::mark(out);
+    let a = codec::write(table, top, format, count, rows, buffer, out);
+    show_answer(a, out);
 }

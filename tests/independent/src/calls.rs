@@ -4,7 +4,7 @@ use crate::bursts::{PlanAnswer, PlanCall};
 use crate::endpoint::{EndpointAnswer, EndpointCall};
 use crate::json::{hex, Json};
 use crate::night::{Night, Walked};
-use crate::{check, convert, member, read, write, Reading, Refusal};
+use crate::{check, convert, member, read, remove, set, write, Reading, Refusal};
 
 #[derive(Clone, Debug)]
 pub enum Call {
@@ -42,6 +42,23 @@ pub enum Call {
         message: Vec<u8>,
         room: usize,
     },
+    /// `room` bytes of the output.
+    Set {
+        table: Vec<u8>,
+        top: u32,
+        message: Vec<u8>,
+        member: u32,
+        bytes: Vec<u8>,
+        room: usize,
+    },
+    /// `room` bytes of the output.
+    Remove {
+        table: Vec<u8>,
+        top: u32,
+        message: Vec<u8>,
+        member: u32,
+        room: usize,
+    },
     Night(Night),
     Endpoint(EndpointCall),
     Plan(PlanCall),
@@ -58,7 +75,7 @@ pub enum Answer {
         reading: Reading,
         rows: Vec<[u32; 3]>,
     },
-    /// The converter's too.
+    /// The converter's too, and that of a change.
     Write {
         refusal: Refusal,
         out: Vec<u8>,
@@ -85,7 +102,9 @@ impl Call {
             | Call::Read { table, .. }
             | Call::Write { table, .. }
             | Call::View { table, .. }
-            | Call::Convert { table, .. } => table,
+            | Call::Convert { table, .. }
+            | Call::Set { table, .. }
+            | Call::Remove { table, .. } => table,
             Call::Night(night) => &night.table,
             Call::Endpoint(_) | Call::Plan(_) => &[],
         }
@@ -123,6 +142,16 @@ impl Call {
             Call::Convert { table, top, message, room } => {
                 let mut out = vec![LENT; *room];
                 let result = convert(table, *top, message, &mut out);
+                Answer::of_write(result.err().unwrap_or_default(), result.unwrap_or_default(), &out)
+            }
+            Call::Set { table, top, message, member, bytes, room } => {
+                let mut out = vec![LENT; *room];
+                let result = set(table, *top, message, *member, bytes, &mut out);
+                Answer::of_write(result.err().unwrap_or_default(), result.unwrap_or_default(), &out)
+            }
+            Call::Remove { table, top, message, member, room } => {
+                let mut out = vec![LENT; *room];
+                let result = remove(table, *top, message, *member, &mut out);
                 Answer::of_write(result.err().unwrap_or_default(), result.unwrap_or_default(), &out)
             }
             Call::Night(night) => night.answer().map_or(Answer::Astray, Answer::Night),
@@ -204,6 +233,16 @@ impl Call {
                 let call = Call::Convert { table, top, message: call.bytes("msg")?, room };
                 (call, Answer::Write { refusal: refusal()?, out })
             }
+            op @ ("set" | "remove") => {
+                let (top, member, room) = (call.number("top")?, call.number("member")?, call.number("room")? as usize);
+                let (message, out) = (call.bytes("msg")?, expect.bytes("out")?);
+                let call = if op == "set" {
+                    Call::Set { table, top, message, member, bytes: call.bytes("bytes")?, room }
+                } else {
+                    Call::Remove { table, top, message, member, room }
+                };
+                (call, Answer::Write { refusal: refusal()?, out })
+            }
             "night" => (Call::Night(Night::parse(&call)?), Answer::Night(Walked::parse(expect)?)),
             _ => return None,
         })
@@ -231,6 +270,17 @@ impl Call {
             Call::Convert { table, top, message, room } => {
                 format!(r#""op":"convert","table":"{}","top":{top},"msg":"{}","room":{room}"#, hex(table), hex(message))
             }
+            Call::Set { table, top, message, member, bytes, room } => format!(
+                r#""op":"set","table":"{}","top":{top},"msg":"{}","member":{member},"bytes":"{}","room":{room}"#,
+                hex(table),
+                hex(message),
+                hex(bytes)
+            ),
+            Call::Remove { table, top, message, member, room } => format!(
+                r#""op":"remove","table":"{}","top":{top},"msg":"{}","member":{member},"room":{room}"#,
+                hex(table),
+                hex(message)
+            ),
             Call::Night(night) => night.json(),
             Call::Endpoint(call) => call.json(),
             Call::Plan(call) => call.json(),

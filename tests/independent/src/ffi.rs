@@ -64,12 +64,34 @@ extern "C" {
         out: *mut u8,
         out_length: usize,
     ) -> u32;
+    fn icehub_set(
+        table: *const u8,
+        table_length: usize,
+        top: u32,
+        message: *const u8,
+        message_length: usize,
+        member: u32,
+        bytes: *const u8,
+        bytes_length: usize,
+        out: *mut u8,
+        out_length: usize,
+    ) -> u32;
+    fn icehub_remove(
+        table: *const u8,
+        table_length: usize,
+        top: u32,
+        message: *const u8,
+        message_length: usize,
+        member: u32,
+        out: *mut u8,
+        out_length: usize,
+    ) -> u32;
 }
 
-/// Declares the further calls of the reader, which the converter's are like, and of the writer; they differ in their
-/// names only.
+/// Declares the further calls of the reader, which the converter's are like, of the writer, and of set and remove; they
+/// differ in their names only.
 macro_rules! further {
-    (read: $($read:ident)*; write: $($write:ident)*) => {
+    (read: $($read:ident)*; write: $($write:ident)*; set: $($set:ident)*; remove: $($remove:ident)*) => {
         extern "C" {
             $(fn $read(
                 table: *const u8,
@@ -91,6 +113,26 @@ macro_rules! further {
                 buffer_length: usize,
                 out_length: usize,
             ) -> u32;)*
+            $(fn $set(
+                table: *const u8,
+                table_length: usize,
+                top: u32,
+                message: *const u8,
+                message_length: usize,
+                member: u32,
+                bytes: *const u8,
+                bytes_length: usize,
+                out_length: usize,
+            ) -> u32;)*
+            $(fn $remove(
+                table: *const u8,
+                table_length: usize,
+                top: u32,
+                message: *const u8,
+                message_length: usize,
+                member: u32,
+                out_length: usize,
+            ) -> u32;)*
         }
     };
 }
@@ -99,7 +141,9 @@ further! {
     read: icehub_read_place icehub_read_type icehub_read_format icehub_read_count
         icehub_read_optionals_skipped icehub_read_slices_skipped
         icehub_convert_place icehub_convert_length;
-    write: icehub_write_place icehub_write_length
+    write: icehub_write_place icehub_write_length;
+    set: icehub_set_place icehub_set_length;
+    remove: icehub_remove_place icehub_remove_length
 }
 
 /// The reader: 0 or the refusal number.
@@ -179,9 +223,47 @@ pub fn convert(table: &[u8], top: u32, message: &[u8], out: &mut [u8]) -> u32 {
     }
 }
 
+/// Sets an optional: 0 or the refusal number.
+pub fn set(table: &[u8], top: u32, message: &[u8], member: u32, bytes: &[u8], out: &mut [u8]) -> u32 {
+    // SAFETY: as above; only `out` is written.
+    unsafe {
+        icehub_set(
+            table.as_ptr(),
+            table.len(),
+            top,
+            message.as_ptr(),
+            message.len(),
+            member,
+            bytes.as_ptr(),
+            bytes.len(),
+            out.as_mut_ptr(),
+            out.len(),
+        )
+    }
+}
+
+/// Removes an optional: 0 or the refusal number.
+pub fn remove(table: &[u8], top: u32, message: &[u8], member: u32, out: &mut [u8]) -> u32 {
+    // SAFETY: as above; only `out` is written.
+    unsafe {
+        icehub_remove(
+            table.as_ptr(),
+            table.len(),
+            top,
+            message.as_ptr(),
+            message.len(),
+            member,
+            out.as_mut_ptr(),
+            out.len(),
+        )
+    }
+}
+
 type ReadNumber = unsafe extern "C" fn(*const u8, usize, u32, *const u8, usize, usize) -> u32;
 type WriteNumber =
     unsafe extern "C" fn(*const u8, usize, u32, u32, u32, *const u8, usize, *const u8, usize, usize) -> u32;
+type SetNumber = unsafe extern "C" fn(*const u8, usize, u32, *const u8, usize, u32, *const u8, usize, usize) -> u32;
+type RemoveNumber = unsafe extern "C" fn(*const u8, usize, u32, *const u8, usize, u32, usize) -> u32;
 
 /// The further calls, by their names.
 const READ_NUMBERS: [(&str, ReadNumber); 6] = [
@@ -196,6 +278,10 @@ const CONVERT_NUMBERS: [(&str, ReadNumber); 2] =
     [("icehub_convert_place", icehub_convert_place), ("icehub_convert_length", icehub_convert_length)];
 const WRITE_NUMBERS: [(&str, WriteNumber); 2] =
     [("icehub_write_place", icehub_write_place), ("icehub_write_length", icehub_write_length)];
+const SET_NUMBERS: [(&str, SetNumber); 2] =
+    [("icehub_set_place", icehub_set_place), ("icehub_set_length", icehub_set_length)];
+const REMOVE_NUMBERS: [(&str, RemoveNumber); 2] =
+    [("icehub_remove_place", icehub_remove_place), ("icehub_remove_length", icehub_remove_length)];
 
 /// The bytes of the numbers of a reading, and of a member view.
 const NUMBERS: usize = 20;
@@ -339,9 +425,46 @@ pub fn each(call: &Call, mut run: impl FnMut(&'static str, &mut dyn FnMut())) {
                 });
             }
         }
+        Call::Set { table, top, message, member, bytes, room } => {
+            let mut lent = vec![LENT; *room];
+            run("icehub_set", &mut || {
+                black_box(set(table, *top, message, *member, bytes, &mut lent));
+            });
+            for (name, number) in SET_NUMBERS {
+                run(name, &mut || {
+                    black_box(set_number(number, (table, *top, message), *member, bytes, *room));
+                });
+            }
+        }
+        Call::Remove { table, top, message, member, room } => {
+            let mut lent = vec![LENT; *room];
+            run("icehub_remove", &mut || {
+                black_box(remove(table, *top, message, *member, &mut lent));
+            });
+            for (name, number) in REMOVE_NUMBERS {
+                run(name, &mut || {
+                    black_box(remove_number(number, (table, *top, message), *member, *room));
+                });
+            }
+        }
         Call::Endpoint(call) => endpoint::each(call, run),
         Call::Plan(call) => each_plan(call, &mut run),
     }
+}
+
+/// A further call of `set`.
+fn set_number(number: SetNumber, call: (&[u8], u32, &[u8]), member: u32, bytes: &[u8], room: usize) -> u32 {
+    let (table, top, message) = call;
+    let (table, length) = (table.as_ptr(), table.len());
+    // SAFETY: each pointer comes with the length of its slice; nothing is written.
+    unsafe { number(table, length, top, message.as_ptr(), message.len(), member, bytes.as_ptr(), bytes.len(), room) }
+}
+
+/// A further call of `remove`.
+fn remove_number(number: RemoveNumber, call: (&[u8], u32, &[u8]), member: u32, room: usize) -> u32 {
+    let (table, top, message) = call;
+    // SAFETY: as above.
+    unsafe { number(table.as_ptr(), table.len(), top, message.as_ptr(), message.len(), member, room) }
 }
 
 /// The library's answer to a call; none to a call that C does not have.
@@ -388,6 +511,18 @@ pub fn answer(call: &Call) -> Option<Answer> {
                 number(table.as_ptr(), table.len(), *top, message.as_ptr(), message.len(), *room)
             };
             Some(Answer::of_write((refusal, further(icehub_convert_place)), further(icehub_convert_length), &lent))
+        }
+        Call::Set { table, top, message, member, bytes, room } => {
+            let mut lent = vec![LENT; *room];
+            let refusal = set(table, *top, message, *member, bytes, &mut lent);
+            let further = |number| set_number(number, (table, *top, message), *member, bytes, *room);
+            Some(Answer::of_write((refusal, further(icehub_set_place)), further(icehub_set_length), &lent))
+        }
+        Call::Remove { table, top, message, member, room } => {
+            let mut lent = vec![LENT; *room];
+            let refusal = remove(table, *top, message, *member, &mut lent);
+            let further = |number| remove_number(number, (table, *top, message), *member, *room);
+            Some(Answer::of_write((refusal, further(icehub_remove_place)), further(icehub_remove_length), &lent))
         }
         Call::View { table, top, message, member, fallback } => Some(view((table, *top, message), *member, fallback)),
         Call::Check { table } => {

@@ -2,6 +2,7 @@
 //! formats with unknown optionals and slices in them, conforming, with wrong items in them, with strings that are no text, or damaged;
 //! right and wrong rows for the writer.
 
+mod changes;
 mod endpoints;
 mod message;
 mod night;
@@ -9,6 +10,7 @@ mod plans;
 mod text;
 mod types;
 
+pub use changes::{Change, Changes};
 pub use endpoints::endpoint_calls;
 pub use message::{message, Message, Wrong};
 pub use night::night;

@@ -4,6 +4,7 @@
 //! - [`read`]: the rows of a message, [`member`]: the bytes of one member.
 //! - [`write`]: a message from rows and the buffer they point into.
 //! - [`convert`]: the sliced form of a compact record.
+//! - [`set`], [`remove`]: a message with one optional changed, and all else passed on.
 //! - [`night::night`]: the answers to the messages of a buffer.
 //! - [`endpoint`]: one endpoint of a proxy, opened, written, and found in its proxy.
 //! - [`bursts`]: the check of a burst plan, and a planner.
@@ -21,12 +22,14 @@ pub mod night;
 pub mod replay;
 pub mod spec;
 
+mod change;
 mod convert;
 mod read;
 mod table;
 mod value;
 mod write;
 
+pub use change::{remove, set};
 pub use convert::convert;
 pub use read::{member, read, Reading};
 pub use table::{check, forms};

@@ -59,6 +59,11 @@ impl<'a> Records<'a> {
             4 => Call::Read { table: held, top: a, message: bytes.to_vec(), room: RECORDS },
             5 => Call::Check { table: held },
             6 => Call::Convert { table: held, top: a, message: bytes.to_vec(), room: b as usize },
+            7 => {
+                let (message, bytes) = parts(c)?;
+                Call::Set { table: held, top: a, message, member: b, bytes, room: d as usize }
+            }
+            8 => Call::Remove { table: held, top: a, message: bytes.to_vec(), member: b, room: c as usize },
             9 => {
                 let (answers, rows) = (b as usize, c as usize);
                 Call::Night(Night { table: held, top: a, buffer: bytes.to_vec(), answers, rows })
@@ -100,6 +105,12 @@ impl Recorded {
                 ([3, *of, *format, *count, rows.len() as u32, *room as u32], [&rows[..], buffer].concat())
             }
             Call::Convert { top, message, room, .. } => ([6, *top, *room as u32, 0, 0, 0], message.clone()),
+            Call::Set { top, message, member, bytes, room, .. } => {
+                ([7, *top, *member, message.len() as u32, *room as u32, 0], [&message[..], bytes].concat())
+            }
+            Call::Remove { top, message, member, room, .. } => {
+                ([8, *top, *member, *room as u32, 0, 0], message.clone())
+            }
             Call::Night(Night { top, buffer, answers, rows, .. }) => {
                 ([9, *top, *answers as u32, *rows as u32, 0, 0], buffer.clone())
             }

@@ -19,6 +19,7 @@ const PAGES: &[&str] = &[
     "docs/changes/M-107.md",
     "docs/changes/M-106.md",
     "docs/changes/M-110.md",
+    "docs/changes/M-112.md",
     "samples/README.md",
     "bindings/rust/README.md",
     "tests/independent/README.md",
@@ -94,7 +95,8 @@ fn links_lead_somewhere() {
 fn every_promise_is_named() {
     let read = |name: &str| fs::read_to_string(root().join(name)).expect(name);
     let pages = [read("README.md"), read("docs/RULES.md")];
-    let promises = read("crates/laws/specs/Promises.antt") + &read("crates/bursts/specs/BurstPromises.antt");
+    let files = ["laws/specs/Promises", "edit/specs/ChangePromises", "bursts/specs/BurstPromises"];
+    let promises = files.map(|file| read(&format!("crates/{file}.antt"))).concat();
     let fields = promises.lines().filter_map(|line| line.strip_prefix("  pub ")?.split_once(" : "));
     let named = |promise: &str| pages.iter().all(|page| page.contains(&format!("`{promise}`")));
     let missing: Vec<_> = fields.map(|(_, promise)| promise).filter(|promise| !named(promise)).collect();

@@ -11,7 +11,11 @@ const ANSWERS: &str = include_str!("../recorded/M-111.answers");
 /// The message that a call is given, if it is given one.
 fn message(call: &Call) -> Option<&[u8]> {
     match call {
-        Call::Read { message, .. } | Call::View { message, .. } | Call::Convert { message, .. } => Some(message),
+        Call::Read { message, .. }
+        | Call::View { message, .. }
+        | Call::Convert { message, .. }
+        | Call::Set { message, .. }
+        | Call::Remove { message, .. } => Some(message),
         _ => None,
     }
 }

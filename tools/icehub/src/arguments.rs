@@ -1,7 +1,7 @@
 //! The command line, and the help.
 
 use crate::input::Source;
-use crate::{convert, night, plan, show};
+use crate::{change, convert, night, plan, show};
 use std::ffi::OsString;
 
 /// What is to be done.
@@ -12,6 +12,7 @@ pub enum Command {
     Show(show::Request),
     Table(Source),
     Convert(convert::Request),
+    Change(change::Request),
     Night(night::Request),
     Plan(plan::Request),
 }
@@ -22,6 +23,8 @@ icehub: shows messages of Ice encodings 1.1 and 1.0 by their type table
   icehub show [--json] [--hex] TABLE TOP FILE..   show messages, or why they are refused
   icehub table TABLE                              show a type table, or where it breaks a rule
   icehub convert TABLE TOP FILE.. --to DIR        convert compact records to sliced ones
+  icehub set TABLE TOP IN MEMBER VALUE OUT        set one optional member, and pass on the rest
+  icehub remove TABLE TOP IN MEMBER OUT           remove one optional member, and pass on the rest
   icehub night [--json] TABLE TOP FILE            read a file of many messages, a line for each
   icehub plan FILE                                plan the satellite bursts of waiting messages
   icehub plan --check FILE PLAN                   check a plan, and say what is wrong with it
@@ -88,6 +91,31 @@ converted is written. A summary comes at the end.
 Exit status: 0 all records converted, 1 some refused, 2 something could not be done (arguments, files).
 ";
 
+const CHANGE_HELP: &str = "\
+icehub set [--hex] [--overwrite] TABLE TOP IN MEMBER VALUE OUT
+icehub remove [--hex] [--overwrite] TABLE TOP IN MEMBER OUT
+
+Sets or removes one optional member of a message: a parameter list or a sliced record, also of a newer sender. Setting adds
+the member or replaces its value. Everything else keeps its bytes and order, also what TABLE does not know. Says how many
+bytes were written, or why the change was refused: 49 MEMBER is no optional of the message's type, 50 there is nothing to
+remove, 51 a compact record (see icehub convert), 21 a VALUE that the type does not allow.
+
+  TABLE        the type table, a file
+  TOP          the wanted type: the number of its row, counted from 0, or the name of an exception or class
+  IN           the message, a file; - is standard input
+  MEMBER       the number of the member, as icehub table and icehub show have it
+  VALUE        in the member's type: a number or an enumerator's number in decimal, true or false, the text of a string; of
+               a struct, sequence, dictionary or proxy its bytes in hex, as a message has them, with their own size
+  OUT          the file for the result; - is standard output
+  --overwrite  OUT may be overwritten; without this a file that is there already stays, and the tool says so
+  --hex        IN is hex text: pairs of digits, with any white space between them
+  --           what follows is no option, as for a text that begins with -
+
+  icehub set fault.table ::Guard::Fault fault.message 1 3600 fault.changed
+
+Exit status: 0 changed, 1 refused, 2 something could not be done (arguments, files).
+";
+
 const NIGHT_HELP: &str = "\
 icehub night [--json] TABLE TOP FILE
 
@@ -144,6 +172,8 @@ pub fn parse(words: impl IntoIterator<Item = OsString>) -> Result<Command, Strin
         Some("show") => parse_show(words),
         Some("table") => parse_table(words),
         Some("convert") => parse_convert(words),
+        Some("set") => parse_change(words, "set"),
+        Some("remove") => parse_change(words, "remove"),
         Some("night") => parse_night(words),
         Some("plan") => parse_plan(words),
         _ => Err(format!("{} is no command; see icehub --help", first.to_string_lossy())),
@@ -169,7 +199,9 @@ fn split(
     let mut words = words;
     while let Some(word) = words.next() {
         let text = word.to_str().unwrap_or_default();
-        if ended || !text.starts_with('-') || text == "-" {
+        // A VALUE may be a negative number.
+        let is_number = command == "set" && text.strip_prefix('-').is_some_and(|rest| rest.parse::<f64>().is_ok());
+        if ended || !text.starts_with('-') || text == "-" || is_number {
             found.operands.push(word);
         } else if text == "--" {
             ended = true;
@@ -231,6 +263,36 @@ fn parse_convert(words: impl Iterator<Item = OsString>) -> Result<Command, Strin
     let is = |option| options.contains(&option);
     let (hex, overwrite) = (is("--hex"), is("--overwrite"));
     Ok(Command::Convert(convert::Request { hex, overwrite, table, top, files, to: to.into() }))
+}
+
+/// `set` with its VALUE, or `remove`.
+fn parse_change(words: impl Iterator<Item = OsString>, command: &str) -> Result<Command, String> {
+    let Some(Words { options, operands, .. }) = split(words, &["--hex", "--overwrite"], command)? else {
+        return Ok(Command::Help(CHANGE_HELP));
+    };
+    let is_set = command == "set";
+    let takes = if is_set { "TABLE TOP IN MEMBER VALUE OUT" } else { "TABLE TOP IN MEMBER OUT" };
+    let wrong = || format!("{command} takes {takes}; see icehub {command} --help");
+    if operands.len() != takes.split(' ').count() {
+        return Err(wrong());
+    }
+    let mut operands = operands.into_iter();
+    let mut next = || operands.next().ok_or_else(wrong);
+    let text = |word: OsString, what: &str| {
+        word.into_string().map_err(|word| format!("{what} is no text: {}", word.to_string_lossy()))
+    };
+    let (table, top, message) = (Source::new(next()?), text(next()?, "TOP")?, Source::new(next()?));
+    let member = text(next()?, "MEMBER")?;
+    let member = member.parse().map_err(|_| format!("MEMBER is no number of a member: {member}"))?;
+    let value = if is_set { Some(text(next()?, "VALUE")?) } else { None };
+    let to = next()?;
+    if table == Source::Standard && message == Source::Standard {
+        return Err("- is named twice: standard input can be read only once".to_string());
+    }
+    let is = |option| options.contains(&option);
+    let (hex, overwrite) = (is("--hex"), is("--overwrite"));
+    let to = if to == "-" { None } else { Some(to.into()) };
+    Ok(Command::Change(change::Request { hex, overwrite, table, top, message, member, value, to }))
 }
 
 fn parse_table(words: impl Iterator<Item = OsString>) -> Result<Command, String> {

@@ -80,7 +80,7 @@ fn convert(request: &Request, file: &Source, table: &[u8], top: u32) -> Result<R
 }
 
 /// Writes a file; one that is there only if it may be overwritten.
-fn put(path: &Path, bytes: &[u8], overwrite: bool) -> io::Result<()> {
+pub fn put(path: &Path, bytes: &[u8], overwrite: bool) -> io::Result<()> {
     let mut options = File::options();
     options.write(true);
     if overwrite {
@@ -91,7 +91,8 @@ fn put(path: &Path, bytes: &[u8], overwrite: bool) -> io::Result<()> {
     options.open(path)?.write_all(bytes)
 }
 
-fn shown(path: &Path) -> String {
+/// A path, fit to be shown.
+pub fn shown(path: &Path) -> String {
     words::plain(&path.to_string_lossy())
 }
 

@@ -66,7 +66,7 @@ impl Source {
 }
 
 /// The bytes of hex text: pairs of digits, with any white space between them.
-fn unhex(text: &[u8]) -> Result<Vec<u8>, String> {
+pub fn unhex(text: &[u8]) -> Result<Vec<u8>, String> {
     let mut bytes = vec![];
     let mut half = None;
     for (line, words) in text.split(|&byte| byte == b'\n').enumerate() {

@@ -1,4 +1,5 @@
-//! icehub: shows messages and type tables and converts compact records, for the depot and the office.
+//! icehub: shows messages and type tables, converts compact records and changes single members, for the depot and the
+//! office.
 //!
 //! What is accepted or refused comes from the library's calls; this program only shows it.
 //!
@@ -6,6 +7,7 @@
 //! - `input`: files, standard input, hex text
 //! - `show`: the command `show`, with its summary and progress line
 //! - `convert`: the command `convert`
+//! - `change`: the commands `set` and `remove`
 //! - `night`: the command `night`, for a file of many messages
 //! - `table`: the command `table`; `broken`: what is wrong with a table that breaks a rule
 //! - `accepted`, `refused`: a message for a person; `json`: a message as a line of JSON
@@ -16,6 +18,7 @@
 mod accepted;
 mod arguments;
 mod broken;
+mod change;
 mod convert;
 mod endpoints;
 mod input;
@@ -82,6 +85,7 @@ fn run(out: &mut impl Write, status: &mut Status) -> io::Result<()> {
         Ok(Command::Show(request)) => show::run(&request, out, status),
         Ok(Command::Table(source)) => table::run(&source, out, status),
         Ok(Command::Convert(request)) => convert::run(&request, out, status),
+        Ok(Command::Change(request)) => change::run(&request, out, status),
         Ok(Command::Night(request)) => night::run(&request, out, status),
         Ok(Command::Plan(request)) => plan::run(&request, out, status),
         Err(wrong) => {

@@ -8,7 +8,7 @@ use independent::endpoint::{self, Given};
 use independent::ffi::endpoint as endpoint_ffi;
 use independent::night::night;
 use independent::spec::Spec;
-use independent::{bursts, convert, ffi, read, write};
+use independent::{bursts, convert, ffi, read, set, write};
 use std::cell::RefCell;
 use std::env;
 use std::hint::black_box;
@@ -30,6 +30,9 @@ const LONG: f64 = 2.0;
 const LONG_SHORTS: f64 = 1.2;
 const WRITTEN: f64 = 1.1;
 const BOOLS: f64 = 2.8;
+
+/// Setting a member takes at most so many times the time of reading the message (M-112).
+const SETTING: f64 = 1.5;
 
 /// A table and a message under it, with the rows that the reader gives.
 #[derive(Clone)]
@@ -165,6 +168,45 @@ impl Case {
             || ffi::read(black_box(table), *top, black_box(compact), &mut lent),
             0,
         );
+    }
+
+    /// Setting the last member listed to the bytes that it has.
+    fn run_setting(&self) {
+        let Case { name, table, top, message, .. } = self;
+        let (member, bytes) = self.last();
+        let mut out = vec![0; message.len()];
+        let mut other = out.clone();
+        report(
+            &format!("{name}: set"),
+            || ffi::set(black_box(table), *top, black_box(message), member, black_box(bytes), &mut out),
+            || number(set(black_box(table), *top, black_box(message), member, black_box(bytes), &mut other)),
+            0,
+        );
+        assert!(out == *message);
+    }
+
+    /// The same against the reader of the message; if its bar is missed, by what.
+    fn run_setting_call(&self) -> Result<(), String> {
+        let Case { name, table, top, message, rows, .. } = self;
+        let (member, bytes) = self.last();
+        let (mut out, mut lent) = (vec![0; message.len()], vec![0; rows.len()]);
+        compare(
+            &format!("{name}: icehub_set"),
+            || ffi::set(black_box(table), *top, black_box(message), member, black_box(bytes), &mut out),
+            || ffi::read(black_box(table), *top, black_box(message), &mut lent),
+            0,
+            Some(SETTING),
+        )
+    }
+
+    /// The last member listed, and its bytes in the message.
+    fn last(&self) -> (u32, &[u8]) {
+        let mut rows = self.rows.clone();
+        ffi::read(&self.table, self.top, &self.message, &mut rows);
+        let last = &rows[rows.len() - 12..];
+        let number = |at: usize| u32::from_le_bytes([last[at], last[at + 1], last[at + 2], last[at + 3]]);
+        let (place, length) = (number(4) as usize, number(8) as usize);
+        (number(0), &self.message[place..place + length])
     }
 
     /// The reader of this message, of 1.0, against that of the same in 1.1.
@@ -470,10 +512,11 @@ fn logs() -> Vec<String> {
 }
 
 fn main() -> ExitCode {
+    let mut missed = vec![];
     if env::args().nth(1).is_none_or(|only| only != "logs") {
-        all_but_logs();
+        missed.extend(all_but_logs());
     }
-    let missed = logs();
+    missed.extend(logs());
     for bar in &missed {
         eprintln!("missed: {bar}");
     }
@@ -484,8 +527,8 @@ fn main() -> ExitCode {
     }
 }
 
-/// Everything else.
-fn all_but_logs() {
+/// Everything else; gives the bar that was missed.
+fn all_but_logs() -> Option<String> {
     heads("library", "independent");
 
     let mut spec = Spec::default();
@@ -536,6 +579,7 @@ fn all_but_logs() {
     record.run();
     let compact = compact(&record.message);
     record.run_conversion(&compact);
+    record.run_setting();
     let (new, old) = (exception(1), exception(2));
     new.run();
     old.run();
@@ -628,6 +672,7 @@ fn all_but_logs() {
     println!();
     heads("call", "icehub_read");
     record.run_conversion_call(&compact);
+    let setting = record.run_setting_call();
     old.run_against(&new);
     for case in [p2, record, many] {
         case.run_calls();
@@ -646,4 +691,5 @@ fn all_but_logs() {
     println!();
     heads("call", "from_utf8");
     texts.iter().for_each(Case::run_text);
+    setting.err()
 }

@@ -1,13 +1,14 @@
 //! fuzz [CALLS [SEED]]: makes calls (1,000,000 by default) of the reader, the writer and the table check, and a member
 //! view, a conversion and a night of each message read, and with each an endpoint opened, one written and one found in a
-//! proxy, a burst plan checked and one made, and compares the proved library with this implementation in every number and
-//! every lent byte. A difference is printed as a line like those of the recorded calls, the library's answer after it as
-//! `got`; with any, the exit status is 1.
+//! proxy, a burst plan checked and one made, and an optional set or removed, mostly under an older table of a newer message,
+//! and the result read under both. It compares the proved library with this implementation in every number and every lent
+//! byte. A difference is printed as a line like those of the recorded calls, the library's answer after it as `got`; with
+//! any, or with a change that passes on not all of the rest, the exit status is 1.
 
 use independent::bursts::{flat, PlanCall};
 use independent::calls::{Answer, Call};
 use independent::ffi;
-use independent::gen::{endpoint_calls, night, plan_calls, Calls, Rng, Text};
+use independent::gen::{endpoint_calls, night, plan_calls, Calls, Changes, Rng, Text};
 use std::time::{Instant, SystemTime, UNIX_EPOCH};
 use std::{env, process};
 
@@ -28,7 +29,8 @@ fn main() {
 
     let start = Instant::now();
     let mut differences = 0;
-    let (mut refusals, mut conversions) = ([[0; 49]; 2], [0; 49]);
+    let (mut refusals, mut conversions, mut changes) = ([[0; 52]; 2], [0; 52], [0; 52]);
+    let mut not_passed_on = 0;
     let mut compare = |call: &Call, expected: &Answer| {
         let Some(got) = ffi::answer(call) else { return };
         if got != *expected {
@@ -40,11 +42,24 @@ fn main() {
         }
     };
     let mut strings = Text::ALL.map(|what| (what, 0));
-    let mut made = Calls::new(seed);
+    let (mut made, mut changed) = (Calls::new(seed), Changes::new(seed));
     let (mut nights, mut other, mut walked, mut stops) = (Rng(seed), vec![], 0, [0; 40]);
     let (mut endpoints, mut endpoint_refusals) = (Rng(!seed), [[0; 40]; 3]);
     let (mut plans, mut plan_refusals) = (Rng(!seed), [[0; 47]; 2]);
     for index in 0..calls {
+        let Some(change) = changed.next() else { break };
+        let answer = change.call.answer();
+        compare(&change.call, &answer);
+        changes[answer.refusal() as usize] += 1;
+        if let Answer::Write { refusal: (0, _), out } = &answer {
+            for reading in change.readings(out) {
+                compare(&reading, &reading.answer());
+            }
+            if !change.is_passed_on(out, |call| ffi::answer(call).unwrap_or(Answer::Astray)) {
+                not_passed_on += 1;
+                println!("not passed on: {}", change.call.json(&answer));
+            }
+        }
         let Some(call) = made.next() else { break };
         let expected = call.answer();
         refusals[usize::from(call.is_of_version_2())][expected.refusal() as usize] += 1;
@@ -107,6 +122,9 @@ fn main() {
     let met = conversions.iter().enumerate().filter(|(_, calls)| **calls != 0);
     let reached: Vec<_> = met.map(|(number, calls)| format!("{number}: {calls}")).collect();
     println!("conversions by refusal number: {}", reached.join(", "));
+    let met = changes.iter().enumerate().filter(|(_, calls)| **calls != 0);
+    let reached: Vec<_> = met.map(|(number, calls)| format!("{number}: {calls}")).collect();
+    println!("changes by refusal number: {}; {not_passed_on} not passed on", reached.join(", "));
     let strings: Vec<_> = strings.iter().map(|(what, calls)| format!("{what:?} {calls}")).collect();
     let stops: Vec<_> = stops
         .iter()
@@ -127,5 +145,5 @@ fn main() {
         println!("answers by refusal number, {what}: {}", reached.join(", "));
     }
     println!("{differences} differences in {calls} calls from seed {seed}, {:.1} s", start.elapsed().as_secs_f64());
-    process::exit(i32::from(differences != 0));
+    process::exit(i32::from(differences != 0 || not_passed_on != 0));
 }

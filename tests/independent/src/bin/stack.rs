@@ -3,9 +3,9 @@
 //! next. A PATH has recorded calls: crates/replay, another directory with *.jsonl in it, or a file of that kind. Each
 //! call runs on a painted stack of its own: where the paint ends is how deep it went. x86-64 only.
 
-use independent::calls::Call;
+use independent::calls::{Answer, Call};
 use independent::ffi;
-use independent::gen::Calls;
+use independent::gen::{Calls, Changes};
 use independent::replay;
 use independent::spec::Spec;
 use std::arch::asm;
@@ -83,8 +83,9 @@ fn recorded(path: &str) -> Result<Vec<Call>, String> {
     Ok(calls)
 }
 
-/// A reading and a writing under a table of 256 types: a list of the deepest, in which each holds one of the next.
-fn nested(leaf: (u8, &[u8]), kind: u8, before: &[u8]) -> [Call; 2] {
+/// A reading, a writing, a setting and a removal under a table of 256 types: a list of the deepest, in which each holds one
+/// of the next, and an optional of the same type.
+fn nested(leaf: (u8, &[u8]), kind: u8, before: &[u8]) -> [Call; 4] {
     let mut spec = Spec::default();
     let mut part = spec.basic(leaf.0);
     let mut value = leaf.1.to_vec();
@@ -97,16 +98,21 @@ fn nested(leaf: (u8, &[u8]), kind: u8, before: &[u8]) -> [Call; 2] {
         };
         value.splice(0..0, before.iter().copied());
     }
-    let top = spec.owner(15, &[(part, None)]).into();
+    let top = spec.owner(15, &[(part, None), (part, Some(1))]).into();
     let table = spec.bytes();
     let length = value.len() as u32;
     let message = [&(6 + length).to_le_bytes()[..], &[1, 1], &value].concat();
     let member = spec.members.len() as u32 - 1;
-    let rows = [member, 0, length].iter().flat_map(|number| number.to_le_bytes()).collect();
-    [
-        Call::Read { table: table.clone(), top, message, room: 12 },
-        Call::Write { table, of: top, format: 1, count: 1, rows, buffer: value, room: 65_536 },
-    ]
+    let rows = [member - 1, 0, length].iter().flat_map(|number| number.to_le_bytes()).collect();
+    let reading = Call::Read { table: table.clone(), top, message: message.clone(), room: 12 };
+    let setting = Call::Set { table: table.clone(), top, message, member, bytes: value.clone(), room: 65_536 };
+    let with = match setting.answer() {
+        Answer::Write { out, .. } => out,
+        _ => vec![],
+    };
+    let removal = Call::Remove { table: table.clone(), top, message: with, member, room: 65_536 };
+    let writing = Call::Write { table, of: top, format: 1, count: 1, rows, buffer: value, room: 65_536 };
+    [reading, writing, setting, removal]
 }
 
 fn main() {
@@ -129,7 +135,8 @@ fn main() {
     let mut stack = Stack::new();
     let own = stack.depth(&mut || {});
     let mut deepest = BTreeMap::new();
-    let generated: Vec<_> = Calls::new(SEED).take(GENERATED).collect();
+    let changes = Changes::new(SEED).take(GENERATED).map(|change| change.call);
+    let generated: Vec<_> = Calls::new(SEED).take(GENERATED).chain(changes).collect();
     println!("{} recorded, {} generated and {} nested calls", recorded.len(), generated.len(), nested.len());
     for (column, calls) in [recorded, generated, nested].iter().enumerate() {
         for call in calls {

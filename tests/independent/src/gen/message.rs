@@ -70,6 +70,15 @@ pub fn message(rng: &mut Rng, types: &Types, top: u16, wrong: Wrong) -> Message 
     made
 }
 
+/// The bytes of a value, in encoding 1.1.
+pub(super) fn value(rng: &mut Rng, types: &Types, of: u16) -> Vec<u8> {
+    let budget = rng.pick(&[0, 30, 100, 300]);
+    let made = Message { bytes: vec![], rows: vec![], reading: Reading::default(), strings: vec![] };
+    let mut maker = Maker { rng, types, out: vec![], budget, wrong: Wrong::Nothing, old: false, made };
+    maker.value(of, Text::Optional);
+    maker.out
+}
+
 /// Sets the encapsulation's size right.
 pub(super) fn mend(bytes: &mut [u8]) {
     let length = bytes.len() as u32;

@@ -1,0 +1,2 @@
+-- What the search for an optional answers.
+pub mod Located

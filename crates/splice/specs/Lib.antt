@@ -1,0 +1,3 @@
+-- A message with the bytes of one optional exchanged, as the code puts it.
+pub mod Spliced
+pub mod SplicedLaws
