@@ -1,8 +1,2 @@
 -- Laws that the proofs of the exported calls cite.
-pub mod Judged
-pub mod Numbering
-pub mod Numbered
-pub mod Viewed
 pub mod Counted
-pub mod Dialling
-pub mod Planning

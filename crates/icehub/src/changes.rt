@@ -4,7 +4,6 @@ ghost use lib.ListN.{length};
 ghost use Rattle.encoding.specs.Write.{output};
 ghost use Rattle.edit.specs.Change.{set as setting, remove as removing};
 ghost use Rattle.icehub.specs.ChangeNumbers.{setNumber, removeNumber};
-use crate::written_number;
 
 // Number i of the answer to `set` for an output of `room` bytes.
 fn set_number(
@@ -18,7 +17,7 @@ fn set_number(
 ) -> u32
     ensures { λ r. ⌜ r ≡ setNumber (now (table .entry)) top (now (message .entry)) member (now (bytes .entry)) room i ⌝ }
 {
-    written_number(
+    numbers::written_number(
         change::set_answer(table, top, message, member, bytes, room),
         i,
     )
@@ -38,7 +37,7 @@ pub extern "C" fn icehub_set(
     ensures { λ r. ⌜ r ≡ setNumber (now (table .entry)) top (now (message .entry)) member (now (bytes .entry)) (length (now (out .entry))) 0 ⌝ }
     ensures { λ _. ⌜ now (out .exit) ≡ output (setting (now (table .entry)) top (now (message .entry)) member (now (bytes .entry)) (length (now (out .entry)))) (now (out .entry)) ⌝ }
 {
-    written_number(change::set(table, top, message, member, bytes, out), 0)
+    numbers::written_number(change::set(table, top, message, member, bytes, out), 0)
 }
 
 // The refusal's place; 0 if there is a result.
@@ -77,7 +76,7 @@ pub extern "C" fn icehub_set_length(
 fn remove_number(table: &[u8], top: u32, message: &[u8], member: u32, room: usize, i: usize) -> u32
     ensures { λ r. ⌜ r ≡ removeNumber (now (table .entry)) top (now (message .entry)) member room i ⌝ }
 {
-    written_number(change::remove_answer(table, top, message, member, room), i)
+    numbers::written_number(change::remove_answer(table, top, message, member, room), i)
 }
 
 // Removes an optional of a message: 0 or the refusal number, and the result at the output's start.
@@ -93,7 +92,7 @@ pub extern "C" fn icehub_remove(
     ensures { λ r. ⌜ r ≡ removeNumber (now (table .entry)) top (now (message .entry)) member (length (now (out .entry))) 0 ⌝ }
     ensures { λ _. ⌜ now (out .exit) ≡ output (removing (now (table .entry)) top (now (message .entry)) member (length (now (out .entry)))) (now (out .entry)) ⌝ }
 {
-    written_number(change::remove(table, top, message, member, out), 0)
+    numbers::written_number(change::remove(table, top, message, member, out), 0)
 }
 
 // The refusal's place; 0 if there is a result.

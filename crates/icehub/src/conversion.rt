@@ -9,7 +9,7 @@ ghost use Rattle.icehub.specs.ConvertNumbers.{convertNumber};
 fn convert_number(table: &[u8], top: u32, message: &[u8], room: usize, i: usize) -> u32
     ensures { λ r. ⌜ r ≡ convertNumber (now (table .entry)) top (now (message .entry)) room i ⌝ }
 {
-    crate::written_number(convert::converted(table, top, message, room), i)
+    numbers::written_number(convert::converted(table, top, message, room), i)
 }
 
 // The converter: 0 or the refusal number, and the sliced form of a compact record at the output's start.
@@ -19,7 +19,7 @@ pub extern "C" fn icehub_convert(table: &[u8], top: u32, message: &[u8], out: &m
     ensures { λ r. ⌜ r ≡ convertNumber (now (table .entry)) top (now (message .entry)) (length (now (out .entry))) 0 ⌝ }
     ensures { λ _. ⌜ now (out .exit) ≡ output (converting (now (table .entry)) top (now (message .entry)) (length (now (out .entry)))) (now (out .entry)) ⌝ }
 {
-    crate::written_number(convert::convert(table, top, message, out), 0)
+    numbers::written_number(convert::convert(table, top, message, out), 0)
 }
 
 // The refusal's place; 0 if converted.

@@ -1,36 +1,11 @@
 // The calls on one endpoint of a proxy, and where it is in its proxy.
 ghost use mathlib.Core.Path.{_≡_};
-ghost use lib.ListN.{length, getD};
+ghost use lib.ListN.{length};
 ghost use Rattle.encoding.specs.Write.{output};
-ghost use Rattle.endpoint.specs.Endpoint.{openEndpoint, openedOf, openedNumbers, openedWithin, withOpened, endpointWriting};
-ghost use Rattle.locate.specs.Locate.{locating, locatedOf, locatedNumbers, locatedWithin, withLocated};
+ghost use Rattle.endpoint.specs.Endpoint.{openEndpoint, openedOf, openedWithin, withOpened, endpointWriting};
+ghost use Rattle.locate.specs.Locate.{locating, locatedOf, locatedWithin, withLocated};
 ghost use Rattle.endpoint.specs.Layout.{bit};
 ghost use Rattle.icehub.specs.EndpointNumbers.{openNumber, locateNumber, endpointWriteNumber};
-use crate::written_number;
-use endpoint::Opened;
-use locate::Located;
-
-// The refusal number of an answer; 0 if it refuses nothing.
-fn refusal(o: Opened) -> u32
-    ensures { λ r. ⌜ r ≡ getD (openedNumbers o) 0 0 ⌝ }
-{
-    match o {
-        Opened::Is(k, a, n, p, t, c) => 0,
-        Opened::Unopened(k) => 0,
-        Opened::Refused(c, p) => c,
-    }
-}
-
-// The place of its refusal.
-fn place(o: Opened) -> u32
-    ensures { λ r. ⌜ r ≡ getD (openedNumbers o) 1 0 ⌝ }
-{
-    match o {
-        Opened::Is(k, a, n, p, t, c) => 0,
-        Opened::Unopened(k) => 0,
-        Opened::Refused(c, p) => p,
-    }
-}
 
 // Opens one endpoint: 0 or the refusal number, and opened or not, type, host's place and length, port, timeout and compress in the lent numbers.
 // Wrong and ruled out: the refusal's place in place of its number; a call that leaves the numbers as they were.
@@ -39,7 +14,7 @@ pub extern "C" fn icehub_endpoint(bytes: &[u8], numbers: &mut [u8]) -> u32
     ensures { λ r. ⌜ r ≡ openNumber (now (bytes .entry)) (length (now (numbers .entry))) 0 ⌝ }
     ensures { λ _. ⌜ now (numbers .exit) ≡ withOpened (openedWithin (length (now (numbers .entry))) (openedOf (openEndpoint (now (bytes .entry))))) (now (numbers .entry)) ⌝ }
 {
-    refusal(endpoint::open_numbers(bytes, numbers))
+    numbers::opened(endpoint::open_numbers(bytes, numbers))
 }
 
 // The refusal's place; 0 if opened or answered as unopened.
@@ -48,7 +23,7 @@ pub extern "C" fn icehub_endpoint(bytes: &[u8], numbers: &mut [u8]) -> u32
 pub extern "C" fn icehub_endpoint_place(bytes: &[u8], room: usize) -> u32
     ensures { λ r. ⌜ r ≡ openNumber (now (bytes .entry)) room 1 ⌝ }
 {
-    place(endpoint::answer(bytes, room))
+    numbers::opened_place(endpoint::answer(bytes, room))
 }
 
 // The writer of one endpoint: 0 or the refusal number, and the endpoint at the output's start.
@@ -65,7 +40,7 @@ pub extern "C" fn icehub_endpoint_write(
     ensures { λ r. ⌜ r ≡ endpointWriteNumber kind (now (host .entry)) port timeout (bit compress) (length (now (out .entry))) 0 ⌝ }
     ensures { λ _. ⌜ now (out .exit) ≡ output (endpointWriting kind (now (host .entry)) port timeout (bit compress) (length (now (out .entry)))) (now (out .entry)) ⌝ }
 {
-    written_number(
+    numbers::written_number(
         endpoint::write_endpoint(kind, host, port, timeout, compress, out),
         0,
     )
@@ -84,7 +59,7 @@ pub extern "C" fn icehub_endpoint_write_place(
 ) -> u32
     ensures { λ r. ⌜ r ≡ endpointWriteNumber kind (now (host .entry)) port timeout (bit compress) room 1 ⌝ }
 {
-    written_number(
+    numbers::written_number(
         endpoint::endpoint_written(kind, host, port, timeout, compress, room),
         1,
     )
@@ -103,30 +78,10 @@ pub extern "C" fn icehub_endpoint_write_length(
 ) -> u32
     ensures { λ r. ⌜ r ≡ endpointWriteNumber kind (now (host .entry)) port timeout (bit compress) room 2 ⌝ }
 {
-    written_number(
+    numbers::written_number(
         endpoint::endpoint_written(kind, host, port, timeout, compress, room),
         2,
     )
-}
-
-// The refusal number of an answer; 0 if it refuses nothing.
-fn located_refusal(o: Located) -> u32
-    ensures { λ r. ⌜ r ≡ getD (locatedNumbers o) 0 0 ⌝ }
-{
-    match o {
-        Located::At(n, a, l) => 0,
-        Located::Refused(c, p) => c,
-    }
-}
-
-// The place of its refusal.
-fn located_place(o: Located) -> u32
-    ensures { λ r. ⌜ r ≡ getD (locatedNumbers o) 1 0 ⌝ }
-{
-    match o {
-        Located::At(n, a, l) => 0,
-        Located::Refused(c, p) => p,
-    }
 }
 
 // Endpoint n of a proxy: 0 or the refusal number, and the number of endpoints, place and length of the n-th in the lent numbers.
@@ -136,7 +91,7 @@ pub extern "C" fn icehub_proxy_endpoint(proxy: &[u8], n: u32, numbers: &mut [u8]
     ensures { λ r. ⌜ r ≡ locateNumber (now (proxy .entry)) n (length (now (numbers .entry))) 0 ⌝ }
     ensures { λ _. ⌜ now (numbers .exit) ≡ withLocated (locatedWithin (length (now (numbers .entry))) (locatedOf (locating n (now (proxy .entry))))) (now (numbers .entry)) ⌝ }
 {
-    located_refusal(locate::endpoint_at_numbers(proxy, n, numbers))
+    numbers::located(locate::endpoint_at_numbers(proxy, n, numbers))
 }
 
 // The refusal's place; 0 if the proxy is accepted.
@@ -145,5 +100,5 @@ pub extern "C" fn icehub_proxy_endpoint(proxy: &[u8], n: u32, numbers: &mut [u8]
 pub extern "C" fn icehub_proxy_endpoint_place(proxy: &[u8], n: u32, room: usize) -> u32
     ensures { λ r. ⌜ r ≡ locateNumber (now (proxy .entry)) n room 1 ⌝ }
 {
-    located_place(locate::endpoint_at_answer(proxy, n, room))
+    numbers::located_place(locate::endpoint_at_answer(proxy, n, room))
 }

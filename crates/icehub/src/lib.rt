@@ -1,5 +1,5 @@
 // The calls of the firmware in C, with numbers and byte slices only: 0 or the refusal number comes back, place and other numbers by further calls on the same input.
-// `room` is the length in bytes of the lent list or output, so that a further call judges what the first one judged.
+// The numbers of an answer are those of `numbers`. `room` is the length in bytes of the lent list or output, so that a further call judges what the first one judged.
 // changes.rt has the calls that set and remove a member, conversion.rt the converter's, nights.rt those for many messages in one buffer, endpoints.rt those for endpoints, plans.rt those for burst plans.
 mod changes;
 mod conversion;
@@ -9,38 +9,14 @@ mod plans;
 
 ghost use mathlib.Core.Path.{_≡_};
 ghost use lib.ListN.{length, getD};
-ghost use Rattle.encoding.specs.Table.{verdictNumbers};
 ghost use Rattle.encoding.specs.Message.{reading, listed, readingOf, readingNumbers};
-ghost use Rattle.encoding.specs.Write.{writing, output, writingNumbers};
+ghost use Rattle.encoding.specs.Write.{writing, output};
 ghost use Rattle.reading.specs.Numbers.{readingNumbered, withNumbers};
 ghost use Rattle.view.specs.Views.{viewAnswer, viewWithin, withView};
+ghost use Rattle.numbers.specs.ViewNumber.{viewNumber};
 ghost use Rattle.icehub.specs.TableNumbers.{tableNumber};
-ghost use Rattle.icehub.specs.Numbers.{readNumber, viewNumber};
+ghost use Rattle.icehub.specs.Numbers.{readNumber};
 ghost use Rattle.icehub.specs.WriteNumbers.{writeNumber};
-use encoding::Reading;
-use encoding::Verdict;
-use encoding::Writing;
-use view::View;
-
-// The number of a verdict.
-fn rule(v: Verdict) -> u32
-    ensures { λ r. ⌜ r ≡ getD (verdictNumbers v) 0 0 ⌝ }
-{
-    match v {
-        Verdict::Sound => 0,
-        Verdict::Broken(c, p) => c,
-    }
-}
-
-// The place of a verdict.
-fn rule_place(v: Verdict) -> u32
-    ensures { λ r. ⌜ r ≡ getD (verdictNumbers v) 1 0 ⌝ }
-{
-    match v {
-        Verdict::Sound => 0,
-        Verdict::Broken(c, p) => p,
-    }
-}
 
 // The check of a table by itself: 0, or the number of the first rule that it breaks, 31 to 39.
 // Wrong and ruled out: the rule's place in place of its number; 1 for every rule.
@@ -48,7 +24,7 @@ fn rule_place(v: Verdict) -> u32
 pub extern "C" fn icehub_table(table: &[u8]) -> u32
     ensures { λ r. ⌜ r ≡ tableNumber (now (table .entry)) 0 ⌝ }
 {
-    rule(verdict::check(table))
+    numbers::rule(verdict::check(table))
 }
 
 // The place of the first broken rule; 0 if the table breaks none.
@@ -57,35 +33,14 @@ pub extern "C" fn icehub_table(table: &[u8]) -> u32
 pub extern "C" fn icehub_table_place(table: &[u8]) -> u32
     ensures { λ r. ⌜ r ≡ tableNumber (now (table .entry)) 1 ⌝ }
 {
-    rule_place(verdict::check(table))
-}
-
-// Number i of an answer.
-fn number(a: Reading, i: usize) -> u32
-    ensures { λ r. ⌜ r ≡ getD (readingNumbers a) i 0 ⌝ }
-{
-    match a {
-        Reading::Accepted(first, format, n, optionals, slices) => match i {
-            2 => first,
-            3 => format,
-            4 => n,
-            5 => optionals,
-            6 => slices,
-            _ => 0,
-        },
-        Reading::Refused(c, p) => match i {
-            0 => c,
-            1 => p,
-            _ => 0,
-        },
-    }
+    numbers::rule_place(verdict::check(table))
 }
 
 // Number i of the reader's answer with a lent list of `room` bytes.
 fn read_number(table: &[u8], top: u32, message: &[u8], room: usize, i: usize) -> u32
     ensures { λ r. ⌜ r ≡ readNumber (now (table .entry)) top (now (message .entry)) room i ⌝ }
 {
-    number(reading::answer(table, top, message, room), i)
+    numbers::number(reading::answer(table, top, message, room), i)
 }
 
 // The reader: 0 or the refusal number, and the rows in the lent list.
@@ -95,7 +50,7 @@ pub extern "C" fn icehub_read(table: &[u8], top: u32, message: &[u8], rows: &mut
     ensures { λ r. ⌜ r ≡ readNumber (now (table .entry)) top (now (message .entry)) (length (now (rows .entry))) 0 ⌝ }
     ensures { λ _. ⌜ now (rows .exit) ≡ listed (reading (now (table .entry)) top (now (message .entry)) (length (now (rows .entry)))) (now (rows .entry)) ⌝ }
 {
-    number(reading::read(table, top, message, rows), 0)
+    numbers::number(reading::read(table, top, message, rows), 0)
 }
 
 // The refusal's place; 0 if accepted.
@@ -176,19 +131,7 @@ pub extern "C" fn icehub_read_numbers(
     ensures { λ _. ⌜ now (rows .exit) ≡ listed (readingNumbered (now (table .entry)) top (now (message .entry)) (length (now (rows .entry))) (length (now (numbers .entry)))) (now (rows .entry)) ⌝ }
     ensures { λ _. ⌜ now (numbers .exit) ≡ withNumbers (readingOf (readingNumbered (now (table .entry)) top (now (message .entry)) (length (now (rows .entry))) (length (now (numbers .entry))))) (now (numbers .entry)) ⌝ }
 {
-    number(reading::read_numbers(table, top, message, rows, numbers), 0)
-}
-
-// The refusal number of the view's answer; 0 if it refuses nothing.
-fn view_number(v: View) -> u32
-    ensures { λ r. ⌜ r ≡ viewNumber v ⌝ }
-{
-    match v {
-        View::Part(p, l) => 0,
-        View::Fallback => 0,
-        View::Nothing => 0,
-        View::Refused(c, p) => c,
-    }
+    numbers::number(reading::read_numbers(table, top, message, rows, numbers), 0)
 }
 
 // The member view: 0 or the refusal number, and origin, place and length in the lent numbers.
@@ -204,24 +147,7 @@ pub extern "C" fn icehub_member(
     ensures { λ r. ⌜ r ≡ viewNumber (viewWithin (length (now (numbers .entry))) (viewAnswer (now (table .entry)) top (now (message .entry)) member)) ⌝ }
     ensures { λ _. ⌜ now (numbers .exit) ≡ withView (viewWithin (length (now (numbers .entry))) (viewAnswer (now (table .entry)) top (now (message .entry)) member)) (now (numbers .entry)) ⌝ }
 {
-    view_number(view::member_numbers(table, top, message, member, numbers))
-}
-
-// Number i of the writer's answer.
-pub fn written_number(a: Writing, i: usize) -> u32
-    ensures { λ r. ⌜ r ≡ getD (writingNumbers a) i 0 ⌝ }
-{
-    match a {
-        Writing::Written(n) => match i {
-            2 => n,
-            _ => 0,
-        },
-        Writing::Rejected(c, p) => match i {
-            0 => c,
-            1 => p,
-            _ => 0,
-        },
-    }
+    numbers::view_number(view::member_numbers(table, top, message, member, numbers))
 }
 
 // Number i of the writer's answer for an output of `room` bytes.
@@ -237,7 +163,7 @@ fn write_number(
 ) -> u32
     ensures { λ r. ⌜ r ≡ writeNumber (now (table .entry)) top format count (now (rows .entry)) (now (buffer .entry)) room i ⌝ }
 {
-    written_number(
+    numbers::written_number(
         writing::written(table, top, format, count, rows, buffer, room),
         i,
     )
@@ -258,7 +184,7 @@ pub extern "C" fn icehub_write(
     ensures { λ r. ⌜ r ≡ writeNumber (now (table .entry)) top format count (now (rows .entry)) (now (buffer .entry)) (length (now (out .entry))) 0 ⌝ }
     ensures { λ _. ⌜ now (out .exit) ≡ output (writing (now (table .entry)) top format count (now (rows .entry)) (now (buffer .entry)) (length (now (out .entry)))) (now (out .entry)) ⌝ }
 {
-    written_number(
+    numbers::written_number(
         writing::write(table, top, format, count, rows, buffer, out),
         0,
     )

@@ -1,50 +1,8 @@
 // The calls for burst plans. Lists are 64-bit numbers in pairs; `room` is how many numbers the lent list has.
 ghost use mathlib.Core.Path.{_≡_};
-ghost use lib.ListN.{length, getD};
-ghost use Rattle.bursts.specs.Bursts.{planning, planListed, checkedNumbers, plannedNumbers};
+ghost use lib.ListN.{length};
+ghost use Rattle.bursts.specs.Bursts.{planning, planListed};
 ghost use Rattle.icehub.specs.PlanNumbers.{checkNumber, planNumber};
-use bursts::Checked;
-use bursts::Planned;
-
-// The refusal number of the check; 0 if the plan is accepted.
-fn checked(c: Checked) -> u32
-    ensures { λ r. ⌜ r ≡ getD (checkedNumbers c) 0 0 ⌝ }
-{
-    match c {
-        Checked::Sound => 0,
-        Checked::Breaks(p) => 46,
-    }
-}
-
-// The place of the check's refusal.
-fn checked_place(c: Checked) -> u64
-    ensures { λ r. ⌜ r ≡ getD (checkedNumbers c) 1 0 ⌝ }
-{
-    match c {
-        Checked::Sound => 0,
-        Checked::Breaks(p) => p,
-    }
-}
-
-// The refusal number of the planner; 0 if a plan is made.
-fn planned(p: Planned) -> u32
-    ensures { λ r. ⌜ r ≡ getD (plannedNumbers p) 0 0 ⌝ }
-{
-    match p {
-        Planned::Made(n) => 0,
-        Planned::Unplanned(c, q) => c,
-    }
-}
-
-// The place of the planner's refusal.
-fn planned_place(p: Planned) -> u64
-    ensures { λ r. ⌜ r ≡ getD (plannedNumbers p) 1 0 ⌝ }
-{
-    match p {
-        Planned::Made(n) => 0,
-        Planned::Unplanned(c, q) => q,
-    }
-}
 
 // The check of a plan: 0 or 46.
 // Wrong and ruled out: the place of 46 in place of its number; the entries taken for the messages.
@@ -52,7 +10,7 @@ fn planned_place(p: Planned) -> u64
 pub extern "C" fn icehub_check_plan(messages: &[u64], entries: &[u64]) -> u32
     ensures { λ r. ⌜ r ≡ checkNumber (now (messages .entry)) (now (entries .entry)) 0 ⌝ }
 {
-    checked(bursts::check_plan(messages, entries))
+    numbers::checked(bursts::check_plan(messages, entries))
 }
 
 // The place of 46; 0 if the plan is accepted.
@@ -61,7 +19,7 @@ pub extern "C" fn icehub_check_plan(messages: &[u64], entries: &[u64]) -> u32
 pub extern "C" fn icehub_check_plan_place(messages: &[u64], entries: &[u64]) -> u64
     ensures { λ r. ⌜ r ≡ checkNumber (now (messages .entry)) (now (entries .entry)) 1 ⌝ }
 {
-    checked_place(bursts::check_plan(messages, entries))
+    numbers::checked_place(bursts::check_plan(messages, entries))
 }
 
 // The planner: 0 or the refusal number, and the plan at the start of the lent list.
@@ -71,7 +29,7 @@ pub extern "C" fn icehub_plan(messages: &[u64], entries: &mut [u64]) -> u32
     ensures { λ r. ⌜ r ≡ planNumber (now (messages .entry)) (length (now (entries .entry))) 0 ⌝ }
     ensures { λ _. ⌜ now (entries .exit) ≡ planListed (planning (now (messages .entry)) (length (now (entries .entry)))) (now (entries .entry)) ⌝ }
 {
-    planned(bursts::plan(messages, entries))
+    numbers::planned(bursts::plan(messages, entries))
 }
 
 // The place of the planner's refusal; 0 if a plan is made.
@@ -80,5 +38,5 @@ pub extern "C" fn icehub_plan(messages: &[u64], entries: &mut [u64]) -> u32
 pub extern "C" fn icehub_plan_place(messages: &[u64], room: usize) -> u64
     ensures { λ r. ⌜ r ≡ planNumber (now (messages .entry)) room 1 ⌝ }
 {
-    planned_place(bursts::answer(messages, room))
+    numbers::planned_place(bursts::answer(messages, room))
 }

@@ -1,6 +1,6 @@
 -- The number is that of the view's answer, and the lent numbers are as the view leaves them. Assumes nothing.
 use borrow.Author.Needs.{needs}
-use Rattle.icehub.proofs.Viewed.{same-view}
+use Rattle.numbers.proofs.Viewed.{same-view}
 use Rattle.icehub.proofs.icehub_member.Statement.{statement}
 use Rattle.icehub.proofs.icehub_member.Tie as tie
 

@@ -1,6 +1,6 @@
 -- The number is that of the reader's answer, and the list is as the reader leaves it. Assumes nothing.
 use borrow.Author.Needs.{needs}
-use Rattle.icehub.proofs.Numbering.{number-same}
+use Rattle.numbers.proofs.Numbering.{number-same}
 use Rattle.icehub.proofs.icehub_read.Statement.{statement}
 use Rattle.icehub.proofs.icehub_read.Tie as tie
 

@@ -1,6 +1,6 @@
 -- The number is that of the reader's answer; list and numbers are as the reader leaves them. Assumes nothing.
 use borrow.Author.Needs.{needs}
-use Rattle.icehub.proofs.Numbering.{number-same}
+use Rattle.numbers.proofs.Numbering.{number-same}
 use Rattle.icehub.proofs.icehub_read_numbers.Statement.{statement}
 use Rattle.icehub.proofs.icehub_read_numbers.Tie as tie
 

@@ -1,6 +1,6 @@
 -- The number is that of the verdict on the table. Assumes nothing.
 use borrow.Author.Needs.{needs}
-use Rattle.icehub.proofs.Judged.{rule-same}
+use Rattle.numbers.proofs.Judged.{rule-same}
 use Rattle.icehub.proofs.icehub_table.Statement.{statement}
 use Rattle.icehub.proofs.icehub_table.Tie as tie
 

@@ -1,6 +1,6 @@
 -- The number is that of the verdict on the table. Assumes nothing.
 use borrow.Author.Needs.{needs}
-use Rattle.icehub.proofs.Judged.{place-same}
+use Rattle.numbers.proofs.Judged.{place-same}
 use Rattle.icehub.proofs.icehub_table_place.Statement.{statement}
 use Rattle.icehub.proofs.icehub_table_place.Tie as tie
 

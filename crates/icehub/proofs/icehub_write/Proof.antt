@@ -1,6 +1,6 @@
 -- The number is that of the writer's answer, and the output is the call's. Assumes nothing.
 use borrow.Author.Needs.{needs}
-use Rattle.icehub.proofs.Numbered.{same-number}
+use Rattle.numbers.proofs.Numbered.{same-number}
 use Rattle.icehub.proofs.icehub_write.Statement.{statement}
 use Rattle.icehub.proofs.icehub_write.Tie as tie
 

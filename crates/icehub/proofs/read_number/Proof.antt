@@ -1,6 +1,6 @@
 -- The number is that of the reader's answer. Assumes nothing.
 use borrow.Author.Needs.{needs}
-use Rattle.icehub.proofs.Numbering.{number-same}
+use Rattle.numbers.proofs.Numbering.{number-same}
 use Rattle.icehub.proofs.read_number.Statement.{statement}
 use Rattle.icehub.proofs.read_number.Tie as tie
 

@@ -1,6 +1,6 @@
 -- The number is that of the writer's answer. Assumes nothing.
 use borrow.Author.Needs.{needs}
-use Rattle.icehub.proofs.Numbered.{same-number}
+use Rattle.numbers.proofs.Numbered.{same-number}
 use Rattle.icehub.proofs.write_number.Statement.{statement}
 use Rattle.icehub.proofs.write_number.Tie as tie
 

@@ -1,6 +1,6 @@
 -- The number is that of the answer, and the output is the call's. Assumes nothing.
 use borrow.Author.Needs.{needs}
-use Rattle.icehub.proofs.Numbered.{same-number}
+use Rattle.numbers.proofs.Numbered.{same-number}
 use Rattle.icehub.proofs.changes.icehub_set.Statement.{statement}
 use Rattle.icehub.proofs.changes.icehub_set.Tie as tie
 

@@ -1,6 +1,6 @@
 -- The number is that of the answer. Assumes nothing.
 use borrow.Author.Needs.{needs}
-use Rattle.icehub.proofs.Numbered.{same-number}
+use Rattle.numbers.proofs.Numbered.{same-number}
 use Rattle.icehub.proofs.changes.remove_number.Statement.{statement}
 use Rattle.icehub.proofs.changes.remove_number.Tie as tie
 

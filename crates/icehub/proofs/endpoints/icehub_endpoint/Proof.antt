@@ -1,6 +1,6 @@
 -- The number is that of the answer, and the lent numbers are as the call leaves them. Assumes nothing.
 use borrow.Author.Needs.{needs}
-use Rattle.icehub.proofs.Dialling.{opened-same}
+use Rattle.numbers.proofs.Dialling.{opened-same}
 use Rattle.icehub.proofs.endpoints.icehub_endpoint.Statement.{statement}
 use Rattle.icehub.proofs.endpoints.icehub_endpoint.Tie as tie
 

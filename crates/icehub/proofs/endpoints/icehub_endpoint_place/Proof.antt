@@ -1,6 +1,6 @@
 -- The place is that of the answer. Assumes nothing.
 use borrow.Author.Needs.{needs}
-use Rattle.icehub.proofs.Dialling.{opened-same}
+use Rattle.numbers.proofs.Dialling.{opened-same}
 use Rattle.icehub.proofs.endpoints.icehub_endpoint_place.Statement.{statement}
 use Rattle.icehub.proofs.endpoints.icehub_endpoint_place.Tie as tie
 

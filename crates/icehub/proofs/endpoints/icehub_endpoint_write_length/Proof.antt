@@ -1,6 +1,6 @@
 -- The length is that of the writer's answer. Assumes nothing.
 use borrow.Author.Needs.{needs}
-use Rattle.icehub.proofs.Numbered.{same-number}
+use Rattle.numbers.proofs.Numbered.{same-number}
 use Rattle.icehub.proofs.endpoints.icehub_endpoint_write_length.Statement.{statement}
 use Rattle.icehub.proofs.endpoints.icehub_endpoint_write_length.Tie as tie
 

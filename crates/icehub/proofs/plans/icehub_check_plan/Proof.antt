@@ -1,6 +1,6 @@
 -- The number is that of the check's answer. Assumes nothing.
 use borrow.Author.Needs.{needs}
-use Rattle.icehub.proofs.Planning.{check-same}
+use Rattle.numbers.proofs.Planning.{check-same}
 use Rattle.icehub.proofs.plans.icehub_check_plan.Statement.{statement}
 use Rattle.icehub.proofs.plans.icehub_check_plan.Tie as tie
 

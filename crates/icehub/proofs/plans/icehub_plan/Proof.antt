@@ -1,6 +1,6 @@
 -- The number is that of the planner's answer, and the list is the planner's. Assumes nothing.
 use borrow.Author.Needs.{needs}
-use Rattle.icehub.proofs.Planning.{plan-same}
+use Rattle.numbers.proofs.Planning.{plan-same}
 use Rattle.icehub.proofs.plans.icehub_plan.Statement.{statement}
 use Rattle.icehub.proofs.plans.icehub_plan.Tie as tie
 

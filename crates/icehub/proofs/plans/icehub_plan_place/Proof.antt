@@ -1,6 +1,6 @@
 -- The place is that of the planner's answer. Assumes nothing.
 use borrow.Author.Needs.{needs}
-use Rattle.icehub.proofs.Planning.{plan-same}
+use Rattle.numbers.proofs.Planning.{plan-same}
 use Rattle.icehub.proofs.plans.icehub_plan_place.Statement.{statement}
 use Rattle.icehub.proofs.plans.icehub_plan_place.Tie as tie
 
