@@ -129,9 +129,9 @@ module _ (old : Bool) (T : List ℕ) (t e : ℕ) (s : List ℕ) where
     unfolding rowTy value asOld
     as-double z g = by-row (num double) (rw (sym q ∙ z)) (rw (plain-as old (num double) refl) g)
 
-    pub as-string : k ≡ 7 → r ≡ stepOf (Proxy.text s) → r ≡ stepOf (value (typeAs old (partTy T t e)) s)
+    pub as-string : k ≡ 7 → (v : Step) → v ≡ stepOf (Proxy.text (take (length s - 0) (drop 0 s))) → r ≡ v → r ≡ stepOf (value (typeAs old (partTy T t e)) s)
     unfolding rowTy value asOld
-    as-string z g = by-row string (rw (sym q ∙ z)) (rw (plain-as old string refl) g)
+    as-string z v g h = by-row string (rw (sym q ∙ z)) (rw (plain-as old string refl) (h ∙ g ∙ ap (λ (b : List ℕ). stepOf (Proxy.text b)) (rest-is s 0)))
 
     pub as-enum : k ≡ 8 → r ≡ stepOf (value (typeAs old (enum (allowed T e))) s) → r ≡ stepOf (value (typeAs old (partTy T t e)) s)
     unfolding rowTy
@@ -149,9 +149,9 @@ module _ (old : Bool) (T : List ℕ) (t e : ℕ) (s : List ℕ) where
     unfolding rowTy partTy
     as-dict z g = by-row (dict (partTy T e (field T e 0)) (partTy T e (field T e 1))) (rw (sym q ∙ z)) g
 
-    pub as-proxy : k ≡ 12 → r ≡ stepOf (Proxy.proxy old s) → r ≡ stepOf (value (typeAs old (partTy T t e)) s)
+    pub as-proxy : k ≡ 12 → (v : Step) → v ≡ stepOf (Proxy.proxy old (take (length s - 0) (drop 0 s))) → r ≡ v → r ≡ stepOf (value (typeAs old (partTy T t e)) s)
     unfolding rowTy
-    as-proxy z g = by-row proxy (rw (sym q ∙ z)) (rw (proxy-as old) g)
+    as-proxy z v g h = by-row proxy (rw (sym q ∙ z)) (rw (proxy-as old) (h ∙ g ∙ ap (λ (b : List ℕ). stepOf (Proxy.proxy old b)) (rest-is s 0)))
 
     -- a kind past the last that a value may have
     pub as-other : (k ≡ 0 → ⊥) → (k ≡ 1 → ⊥) → (k ≡ 2 → ⊥) → (k ≡ 3 → ⊥) → (k ≡ 4 → ⊥) → (k ≡ 5 → ⊥) → (k ≡ 6 → ⊥) → (k ≡ 7 → ⊥) → (k ≡ 8 → ⊥)

@@ -2,9 +2,9 @@
 --
 --   skip-cut, -whole           k bytes of any content
 --   bool-none, -high, -whole   a bool
---   enum-allowed, -other, -none   an enum; enum-upto, enum-above up to a greatest
---   byte-cut .. int-whole      the number of an enumerator of 1.0; old-allowed, -other, -none the enumerator
---   enum-old, enum-new         an enum in either encoding
+--   enum-none, -allowed, -other   an enum, by its number
+--   upto-none, -allowed, -above   an enum of 1.1, up to a greatest
+--   byte-cut .. int-whole      the number of an enumerator of 1.0; number-old, number-new in either encoding
 use mathlib.Core.Path.{_≡_, refl, sym, ap, _∙_}
 use mathlib.Core.Bool.{Bool, true, false}
 use mathlib.Core.List.{List}
@@ -14,7 +14,7 @@ use borrow.Author.Tests.{le-leb, lt-leb, lt-ltb, le-ltb}
 use Rattle.encoding.specs.Result.{Parser, chunk, skip, judged, must, made, mapc}
 use Rattle.encoding.specs.Number.{number, byte, boolForm, bool, size}
 use Rattle.encoding.specs.Table.{at}
-use Rattle.encoding.specs.Types.{Allowed, upto, allows, most, enum, oldEnum}
+use Rattle.encoding.specs.Types.{Allowed, upto, allows, most, enum}
 use Rattle.encoding.specs.Value.{enumForm, enumWidth, value}
 use Rattle.encoding.specs.Old.{asOld, typeAs}
 use Rattle.wire.specs.declared.Step.{Step}
@@ -23,6 +23,7 @@ use Rattle.wire.specs.declared.Sized.{Sized}
 use Rattle.wire.specs.declared.Sized.the-variants.{Is, Isnt}
 use Rattle.wire.specs.Steps.{stepOf, sizedOf}
 use Rattle.wire.specs.StepLaws.{sized-is, sized-isnt}
+use Rattle.value.specs.Parts.{enumNumber}
 
 module _ (s : List ℕ) (k : ℕ) where
   pub skip-cut : length s < k → Fault 4 0 ≡ stepOf (skip k s)
@@ -65,28 +66,36 @@ module _ (num : Parser ℕ) (s : List ℕ) (a : Allowed) (r : Sized) (e : r ≡ 
     unfolding mapc made must judged enumForm stepOf
     judged-other h = rw (sized-is (num s) n k (sym q ∙ e), ← eb, h)
 
-module _ (s : List ℕ) (a : Allowed) (r : Sized) (e : r ≡ sizedOf (size s)) where
-  pub enum-none : (f p : ℕ) → r ≡ Isnt f p → Fault f p ≡ stepOf (value (enum a) s)
-  unfolding value
-  enum-none f p q = judged-none size s a r e f p q
+-- an enum in either encoding
+enum-as : (old : Bool) (a : Allowed) (s : List ℕ) → value (typeAs old (enum a)) s ≡ chosen a (enumNumber old a) s
+unfolding value asOld enumNumber
+enum-as true a s = refl
+enum-as false a s = refl
+
+module _ (old : Bool) (s : List ℕ) (a : Allowed) (r : Sized) (e : r ≡ sizedOf (enumNumber old a s)) where
+  pub enum-none : (f p : ℕ) → r ≡ Isnt f p → Fault f p ≡ stepOf (value (typeAs old (enum a)) s)
+  enum-none f p q = rw (enum-as old a s) (judged-none (enumNumber old a) s a r e f p q)
 
   module _ (n k : ℕ) (q : r ≡ Is n k) (b : Bool) (eb : b ≡ allows a n) where
-    pub enum-allowed : b ≡ true → Took k ≡ stepOf (value (enum a) s)
-    unfolding value
-    enum-allowed h = judged-allowed size s a r e n k q b eb h
+    pub enum-allowed : b ≡ true → Took k ≡ stepOf (value (typeAs old (enum a)) s)
+    enum-allowed h = rw (enum-as old a s) (judged-allowed (enumNumber old a) s a r e n k q b eb h)
 
-    pub enum-other : b ≡ false → Fault 9 0 ≡ stepOf (value (enum a) s)
-    unfolding value
-    enum-other h = judged-other size s a r e n k q b eb h
+    pub enum-other : b ≡ false → Fault 9 0 ≡ stepOf (value (typeAs old (enum a)) s)
+    enum-other h = rw (enum-as old a s) (judged-other (enumNumber old a) s a r e n k q b eb h)
 
-module _ (s : List ℕ) (g : ℕ) (r : Sized) (e : r ≡ sizedOf (size s)) (n k : ℕ) (q : r ≡ Is n k) where
-  pub enum-upto : n ≤ g → Took k ≡ stepOf (value (enum (upto g)) s)
-  unfolding allows
-  enum-upto h = enum-allowed s (upto g) r e n k q true (sym (le-leb n g h)) refl
+module _ (s : List ℕ) (g : ℕ) (r : Sized) (e : r ≡ sizedOf (size s)) where
+  pub upto-none : (f p : ℕ) → r ≡ Isnt f p → Fault f p ≡ stepOf (value (enum (upto g)) s)
+  unfolding enumNumber
+  upto-none f p q = enum-none false s (upto g) r e f p q
 
-  pub enum-above : g < n → Fault 9 0 ≡ stepOf (value (enum (upto g)) s)
-  unfolding allows
-  enum-above h = enum-other s (upto g) r e n k q false (sym (lt-leb n g h)) refl
+  module _ (n k : ℕ) (q : r ≡ Is n k) where
+    pub upto-allowed : n ≤ g → Took k ≡ stepOf (value (enum (upto g)) s)
+    unfolding allows enumNumber
+    upto-allowed h = enum-allowed false s (upto g) r e n k q true (sym (le-leb n g h)) refl
+
+    pub upto-above : g < n → Fault 9 0 ≡ stepOf (value (enum (upto g)) s)
+    unfolding allows enumNumber
+    upto-above h = enum-other false s (upto g) r e n k q false (sym (lt-leb n g h)) refl
 
 -- ---- encoding 1.0
 
@@ -130,29 +139,12 @@ module _ (g : ℕ) (s : List ℕ) where
       unfolding enumWidth
       int-whole n e l = rw (lt-leb g 126 h, lt-leb g 32766 k) (number-whole s 4 n e l)
 
-module _ (s : List ℕ) (a : Allowed) (g : ℕ) (eg : g ≡ most a) (r : Sized) (e : r ≡ sizedOf (number (enumWidth g) s)) where
-  -- the number is that of the greatest
-  num-is : r ≡ sizedOf (number (enumWidth (most a)) s)
-  num-is = e ∙ ap (λ (i : ℕ). sizedOf (number (enumWidth i) s)) eg
+-- in either encoding
+module _ (old : Bool) (s : List ℕ) (a : Allowed) (r : Sized) where
+  pub number-old : old ≡ true → (g : ℕ) → g ≡ most a → r ≡ sizedOf (number (enumWidth g) s) → r ≡ sizedOf (enumNumber old a s)
+  unfolding enumNumber
+  number-old h g eg e = rw h (e ∙ ap (λ (i : ℕ). sizedOf (number (enumWidth i) s)) eg)
 
-  pub old-none : (f p : ℕ) → r ≡ Isnt f p → Fault f p ≡ stepOf (value (oldEnum a) s)
-  unfolding value
-  old-none f p q = judged-none (number (enumWidth (most a))) s a r num-is f p q
-
-  module _ (n k : ℕ) (q : r ≡ Is n k) (b : Bool) (eb : b ≡ allows a n) where
-    pub old-allowed : b ≡ true → Took k ≡ stepOf (value (oldEnum a) s)
-    unfolding value
-    old-allowed h = judged-allowed (number (enumWidth (most a))) s a r num-is n k q b eb h
-
-    pub old-other : b ≡ false → Fault 9 0 ≡ stepOf (value (oldEnum a) s)
-    unfolding value
-    old-other h = judged-other (number (enumWidth (most a))) s a r num-is n k q b eb h
-
--- in either
-module _ (s : List ℕ) (a : Allowed) (old : Bool) (r : Step) where
-  pub enum-old : old ≡ true → r ≡ stepOf (value (oldEnum a) s) → r ≡ stepOf (value (typeAs old (enum a)) s)
-  unfolding asOld
-  enum-old h e = rw h e
-
-  pub enum-new : old ≡ false → r ≡ stepOf (value (enum a) s) → r ≡ stepOf (value (typeAs old (enum a)) s)
-  enum-new h e = rw h e
+  pub number-new : old ≡ false → r ≡ sizedOf (size s) → r ≡ sizedOf (enumNumber old a s)
+  unfolding enumNumber
+  number-new h e = rw h e

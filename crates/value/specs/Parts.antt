@@ -2,6 +2,7 @@
 --
 --   isTextBelow    row e is a string as a part of row t, by the array of shapes
 --   typesAs old ts   the types of a struct's members as an encoding has them
+--   enumNumber old a   the number of an enumerator, before it is judged
 --   entry k v      one entry of a dictionary
 --   AreBools s i k   the k bytes at i are there, each 0 or 1
 use mathlib.Core.Bool.{Bool, true, false}
@@ -10,8 +11,9 @@ use Prim.Native.Nat.{ℕ, _+_, _≤_, _<_}
 use lib.ListN.{length, getD}
 use lib.Dec.{leb}
 use Rattle.encoding.specs.Result.{Parser, pick, _>>=_}
-use Rattle.encoding.specs.Types.{Ty, Tys}
-use Rattle.encoding.specs.Value.{value}
+use Rattle.encoding.specs.Number.{size, number}
+use Rattle.encoding.specs.Types.{Allowed, most, Ty, Tys}
+use Rattle.encoding.specs.Value.{enumWidth, value}
 use Rattle.encoding.specs.Old.{asOlds}
 use Rattle.shapes.specs.Shapes.{isTextIn}
 
@@ -23,6 +25,11 @@ isTextBelow l t e = pick (leb t e) false (isTextIn l e)
 abbrev pub typesAs : Bool → Tys → Tys
 typesAs true ts = asOlds ts
 typesAs false ts = ts
+
+-- the number of an enumerator: in 1.0 of so many bytes as the greatest needs, in 1.1 a size
+unfoldable pub enumNumber : Bool → Allowed → Parser ℕ
+enumNumber true a = number (enumWidth (most a))
+enumNumber false a = size
 
 -- a key, then a value
 unfoldable pub entry : Ty → Ty → Parser (Unit {0})

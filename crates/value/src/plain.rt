@@ -6,12 +6,12 @@ ghost use lib.ListN.{length};
 ghost use Rattle.encoding.specs.Result.{skip, times};
 ghost use Rattle.encoding.specs.Number.{bool, number};
 ghost use Rattle.encoding.specs.Proxy.{text};
-ghost use Rattle.encoding.specs.Types.{upto, enum, oldEnum};
+ghost use Rattle.encoding.specs.Types.{upto, enum};
 ghost use Rattle.encoding.specs.Table.{typesAt, allowed};
 ghost use Rattle.encoding.specs.Value.{enumWidth, value};
 ghost use Rattle.encoding.specs.Old.{typeAs};
 ghost use Rattle.wire.specs.Steps.{stepOf, sizedOf};
-ghost use Rattle.value.specs.Parts.{AreBools};
+ghost use Rattle.value.specs.Parts.{enumNumber, AreBools};
 use wire::Sized;
 use wire::Step;
 
@@ -110,23 +110,6 @@ pub fn texts(s: &[u8], n: usize) -> Step
     Step::Took(at)
 }
 
-// An enum: a size that enum row t of the table allows.
-fn enumerator(table: &[u8], t: usize, s: &[u8]) -> Step
-    ensures { λ r. ⌜ r ≡ stepOf (value (enum (allowed (now (table .entry)) t)) (now (s .entry))) ⌝ }
-{
-    let z = wire::read_size(s);
-    match z {
-        Sized::Is(n, k) => {
-            if table::allows(table, t, n) {
-                Step::Took(k)
-            } else {
-                Step::Fault(9, 0)
-            }
-        }
-        Sized::Isnt(f, p) => Step::Fault(f, p),
-    }
-}
-
 // An enum of all numbers up to g: what an enum is in a table without lists.
 pub fn upto(g: usize, s: &[u8]) -> Step
     ensures { λ r. ⌜ r ≡ stepOf (value (enum (upto g)) (now (s .entry))) ⌝ }
@@ -167,12 +150,23 @@ fn old_number(g: usize, s: &[u8]) -> Sized
     Sized::Is(wire::int_at(s, 0), 4)
 }
 
-// An enum in encoding 1.0: a number that enum row t of the table allows. Here and below, `begin` is where the type rows begin.
-fn old_enumerator(table: &[u8], begin: usize, t: usize, s: &[u8]) -> Step
+// The number of an enumerator of enum row t, in either encoding. Here and below, `begin` is where the type rows begin.
+fn enum_number(table: &[u8], begin: usize, t: usize, s: &[u8], old: bool) -> Sized
     requires { ⌜ begin ≡ typesAt (now table) ⌝ }
-    ensures { λ r. ⌜ r ≡ stepOf (value (oldEnum (allowed (now (table .entry)) t)) (now (s .entry))) ⌝ }
+    ensures { λ r. ⌜ r ≡ sizedOf (enumNumber old (allowed (now (table .entry)) t) (now (s .entry))) ⌝ }
 {
-    let z = old_number(table::most(table, begin, t), s);
+    if old {
+        return old_number(table::most(table, begin, t), s);
+    }
+    wire::read_size(s)
+}
+
+// An enum in either encoding: a number that enum row t of the table allows. One function, so that `allows` is called from one place and inlined.
+pub fn enumerator(table: &[u8], begin: usize, t: usize, s: &[u8], old: bool) -> Step
+    requires { ⌜ begin ≡ typesAt (now table) ⌝ }
+    ensures { λ r. ⌜ r ≡ stepOf (value (typeAs old (enum (allowed (now (table .entry)) t))) (now (s .entry))) ⌝ }
+{
+    let z = enum_number(table, begin, t, s, old);
     match z {
         Sized::Is(n, k) => {
             if table::allows(table, t, n) {
@@ -183,15 +177,4 @@ fn old_enumerator(table: &[u8], begin: usize, t: usize, s: &[u8]) -> Step
         }
         Sized::Isnt(f, p) => Step::Fault(f, p),
     }
-}
-
-// An enum in either encoding.
-pub fn enumerator_as(table: &[u8], begin: usize, t: usize, s: &[u8], old: bool) -> Step
-    requires { ⌜ begin ≡ typesAt (now table) ⌝ }
-    ensures { λ r. ⌜ r ≡ stepOf (value (typeAs old (enum (allowed (now (table .entry)) t))) (now (s .entry))) ⌝ }
-{
-    if old {
-        return old_enumerator(table, begin, t, s);
-    }
-    enumerator(table, t, s)
 }

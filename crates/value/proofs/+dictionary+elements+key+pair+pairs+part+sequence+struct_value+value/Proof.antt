@@ -56,8 +56,9 @@ use Rattle.shapes.proofs.width.Reads as width-reads
 use Rattle.shapes.proofs.width_below.Reads as width-below-reads
 use Rattle.table.proofs.type_row.Reads as type-row-reads
 use Rattle.value.proofs.is_text_below.Reads as is-text-below-reads
+use Rattle.value.proofs.same.Reads as same-reads
 use Rattle.value.proofs.plain.bool.Reads as bool-reads
-use Rattle.value.proofs.plain.enumerator_as.Reads as enumerator-as-reads
+use Rattle.value.proofs.plain.enumerator.Reads as enumerator-reads
 use Rattle.value.proofs.plain.skip.Reads as skip-reads
 use Rattle.text.proofs.read_text.Reads as read-text-reads
 use Rattle.value.proofs.plain.texts.Reads as texts-reads
@@ -173,7 +174,7 @@ abbrev struct-value-calls : ℕ → struct-value-lts.Claims
 struct-value-calls t = (members-reads.Asked, members-reads.Learnt, members-at-reads.Asked, members-at-reads.Learnt, type-row-reads.Asked, type-row-reads.Learnt, member-row-from-reads.Asked, member-row-from-reads.Learnt, part-below t, part.Post)
 
 abbrev value-calls : ℕ → value-lts.Claims
-value-calls t = (kind-reads.Asked, kind-reads.Learnt, bool-reads.Asked, bool-reads.Learnt, skip-reads.Asked, skip-reads.Learnt, read-text-reads.Asked, read-text-reads.Learnt, enumerator-as-reads.Asked, enumerator-as-reads.Learnt, struct-value-below t, struct-value.Post, sequence-below t, sequence.Post, dictionary-below t, dictionary.Post, proxy-reads.Asked, proxy-reads.Learnt)
+value-calls t = (kind-reads.Asked, kind-reads.Learnt, bool-reads.Asked, bool-reads.Learnt, skip-reads.Asked, skip-reads.Learnt, read-text-reads.Asked, read-text-reads.Learnt, same-reads.Asked, same-reads.Learnt, enumerator-reads.Asked, enumerator-reads.Learnt, struct-value-below t, struct-value.Post, sequence-below t, sequence.Post, dictionary-below t, dictionary.Post, proxy-reads.Asked, proxy-reads.Learnt)
 
 abbrev elements-Inv-loop : elements-lts.InvT-loop
 elements-Inv-loop table begin shapes t e n s old left₀ at₀ left at = Left s (stepOf (times n (value-of (typeAs old (partTy table t e))) s)) (times left (value-of (typeAs old (partTy table t e)))) at
@@ -335,12 +336,20 @@ pub +dictionary+elements+key+pair+pairs+part+sequence+struct-value+value-spec : 
     (λ c κs. search needs)  -- skip-requires-4
     (λ c κs. search needs)  -- skip-requires-5
     (λ c κs. search needs)  -- skip-requires-6
+    (λ c. search needs)  -- sub-read-text
+    (λ c. search needs)  -- part-read-text-start
+    (λ c. search needs)  -- part-read-text-end
     (λ c κs. search needs)  -- read-text-requires
-    (λ c κs. search needs)  -- enumerator-as-requires
+    (λ c κs. search needs)  -- same-requires
+    (λ c κs. search needs)  -- enumerator-requires
     (λ c κs. search needs)  -- struct-value-requires
     (λ c κs. search needs)  -- sequence-requires
     (λ c κs. search needs)  -- dictionary-requires
+    (λ c. search needs)  -- sub-proxy
+    (λ c. search needs)  -- part-proxy-start
+    (λ c. search needs)  -- part-proxy-end
     (λ c κs. search needs)  -- proxy-requires
+    (λ c κs. search needs)  -- same-requires-2
     (λ c. search as-bool)  -- returns-2
     (λ c. search as-byte)  -- returns-3
     (λ c. search as-short)  -- returns-4

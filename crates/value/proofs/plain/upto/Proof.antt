@@ -1,6 +1,6 @@
 -- An enum: its size, compared with the greatest, or the size's refusal. Assumes nothing.
 use borrow.Author.Needs.{needs}
-use Rattle.value.proofs.PlainLaws.{enum-upto, enum-above, enum-none}
+use Rattle.value.proofs.PlainLaws.{upto-allowed, upto-above, upto-none}
 use Rattle.value.proofs.plain.upto.Statement.{statement}
 use Rattle.value.proofs.plain.upto.Tie as tie
 
@@ -11,6 +11,6 @@ upto-spec =
     (λ c κs. search needs)  -- read-size-requires
     (λ c. search needs)  -- enum-known-z
     (λ c. search needs)  -- enum-known-z-2
-    (λ c. search enum-upto)  -- returns
-    (λ c. search enum-above)  -- returns-2
-    (λ c. search enum-none))  -- returns-3
+    (λ c. search upto-allowed)  -- returns
+    (λ c. search upto-above)  -- returns-2
+    (λ c. search upto-none))  -- returns-3
