@@ -17,8 +17,7 @@ fn has_optionals(table: &[u8], begin: usize, t: usize) -> bool
     let mut m = owner.a;
     let mut left = owner.b;
     while left > 0 {
-        let row = table::member_row_from(table, first, m);
-        if row.mark != 0 {
+        if table::mark_from(table, first, m) != 0 {
             return true;
         }
         m += 1;

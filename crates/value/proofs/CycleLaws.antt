@@ -205,13 +205,13 @@ module _ (old : Bool) (T shapes : List ℕ) (f : shapes ≡ shapesOf T) where
     unfolding value asOld
     row-bool g h q = rw (bool-row T t shapes f (sym g ∙ h), plain-as old bool refl) q
 
-    -- in 1.1, without lists, up to the greatest
-    pub row-enum : b ≡ isEnumIn shapes t → b ≡ true → (w : Bool) → w ≡ withLists T → not w ≡ true → not old ≡ true → (row : TypeRow) → IsTypeRow T t row
-        → (n : ℕ) → n ≡ greatestOf row → r ≡ stepOf (value (enum (upto n)) s) → r ≡ stepOf (value (typeAs old (tyOf T t)) s)
+    -- without lists, up to the greatest
+    pub row-enum : b ≡ isEnumIn shapes t → b ≡ true → (w : Bool) → w ≡ withLists T → not w ≡ true → (row : TypeRow) → IsTypeRow T t row
+        → (n : ℕ) → n ≡ greatestOf row → r ≡ stepOf (value (typeAs old (enum (upto n))) s) → r ≡ stepOf (value (typeAs old (tyOf T t)) s)
     unfolding allowed greatest
-    row-enum g h w ew none new row i n en q =
+    row-enum g h w ew none row i n en q =
         let z : n ≡ field T t 0 + 65536 * field T t 1 = omega (arith, i .a-is, i .b-is) in
-        rw (not-true old new, enum-row T t shapes f (sym g ∙ h), ← ew, not-true w none, ← z) q
+        rw (enum-row T t shapes f (sym g ∙ h), ← ew, not-true w none, ← z) q
 
   module _ (t e : ℕ) (l : e < t) where
     part-takes : (s : List ℕ) (w : ℕ) → w ≡ widthIn shapes e → 0 < w → w ≤ length s → value (typeAs old (partTy T t e)) s ≡ ok tt w

@@ -3,7 +3,7 @@
 --   skip-cut, -whole           k bytes of any content
 --   bool-none, -high, -whole   a bool
 --   enum-none, -allowed, -other   an enum, by its number
---   upto-none, -allowed, -above   an enum of 1.1, up to a greatest
+--   upto-none, -allowed, -above   an enum up to a greatest
 --   byte-cut .. int-whole      the number of an enumerator of 1.0; number-old, number-new in either encoding
 use mathlib.Core.Path.{_≡_, refl, sym, ap, _∙_}
 use mathlib.Core.Bool.{Bool, true, false}
@@ -83,19 +83,18 @@ module _ (old : Bool) (s : List ℕ) (a : Allowed) (r : Sized) (e : r ≡ sizedO
     pub enum-other : b ≡ false → Fault 9 0 ≡ stepOf (value (typeAs old (enum a)) s)
     enum-other h = rw (enum-as old a s) (judged-other (enumNumber old a) s a r e n k q b eb h)
 
-module _ (s : List ℕ) (g : ℕ) (r : Sized) (e : r ≡ sizedOf (size s)) where
-  pub upto-none : (f p : ℕ) → r ≡ Isnt f p → Fault f p ≡ stepOf (value (enum (upto g)) s)
-  unfolding enumNumber
-  upto-none f p q = enum-none false s (upto g) r e f p q
+module _ (old : Bool) (s : List ℕ) (g : ℕ) (r : Sized) (e : r ≡ sizedOf (enumNumber old (upto g) s)) where
+  pub upto-none : (f p : ℕ) → r ≡ Isnt f p → Fault f p ≡ stepOf (value (typeAs old (enum (upto g))) s)
+  upto-none f p q = enum-none old s (upto g) r e f p q
 
   module _ (n k : ℕ) (q : r ≡ Is n k) where
-    pub upto-allowed : n ≤ g → Took k ≡ stepOf (value (enum (upto g)) s)
-    unfolding allows enumNumber
-    upto-allowed h = enum-allowed false s (upto g) r e n k q true (sym (le-leb n g h)) refl
+    pub upto-allowed : n ≤ g → Took k ≡ stepOf (value (typeAs old (enum (upto g))) s)
+    unfolding allows
+    upto-allowed h = enum-allowed old s (upto g) r e n k q true (sym (le-leb n g h)) refl
 
-    pub upto-above : g < n → Fault 9 0 ≡ stepOf (value (enum (upto g)) s)
-    unfolding allows enumNumber
-    upto-above h = enum-other false s (upto g) r e n k q false (sym (lt-leb n g h)) refl
+    pub upto-above : g < n → Fault 9 0 ≡ stepOf (value (typeAs old (enum (upto g))) s)
+    unfolding allows
+    upto-above h = enum-other old s (upto g) r e n k q false (sym (lt-leb n g h)) refl
 
 -- ---- encoding 1.0
 
@@ -148,3 +147,12 @@ module _ (old : Bool) (s : List ℕ) (a : Allowed) (r : Sized) where
   pub number-new : old ≡ false → r ≡ sizedOf (size s) → r ≡ sizedOf (enumNumber old a s)
   unfolding enumNumber
   number-new h e = rw h e
+
+-- the number of an enum up to a greatest
+module _ (old : Bool) (g : ℕ) (s : List ℕ) (r : Sized) where
+  pub upto-old : old ≡ true → r ≡ sizedOf (number (enumWidth g) s) → r ≡ sizedOf (enumNumber old (upto g) s)
+  unfolding most
+  upto-old h e = number-old old s (upto g) r h g refl e
+
+  pub upto-new : old ≡ false → r ≡ sizedOf (size s) → r ≡ sizedOf (enumNumber old (upto g) s)
+  upto-new h e = number-new old s (upto g) r h e

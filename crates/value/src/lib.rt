@@ -369,10 +369,8 @@ pub fn read_member(
     }
     if shapes::is_enum(shapes, t) {
         if !table::with_lists(table, begin) {
-            if !old {
-                let row = table::type_row(table, begin, t);
-                return plain::upto(table::greatest(row), s);
-            }
+            let row = table::type_row(table, begin, t);
+            return plain::upto(table::greatest(row), s, old);
         }
     }
     read_value(table, begin, shapes, t, s, old)

@@ -110,11 +110,21 @@ pub fn texts(s: &[u8], n: usize) -> Step
     Step::Took(at)
 }
 
-// An enum of all numbers up to g: what an enum is in a table without lists.
-pub fn upto(g: usize, s: &[u8]) -> Step
-    ensures { λ r. ⌜ r ≡ stepOf (value (enum (upto g)) (now (s .entry))) ⌝ }
+// The number of an enumerator of at most g, in either encoding.
+fn number_upto(g: usize, s: &[u8], old: bool) -> Sized
+    ensures { λ r. ⌜ r ≡ sizedOf (enumNumber old (upto g) (now (s .entry))) ⌝ }
 {
-    let z = wire::read_size(s);
+    if old {
+        return old_number(g, s);
+    }
+    wire::read_size(s)
+}
+
+// An enum of all numbers up to g: what an enum is in a table without lists.
+pub fn upto(g: usize, s: &[u8], old: bool) -> Step
+    ensures { λ r. ⌜ r ≡ stepOf (value (typeAs old (enum (upto g))) (now (s .entry))) ⌝ }
+{
+    let z = number_upto(g, s, old);
     match z {
         Sized::Is(n, k) => {
             if n <= g {

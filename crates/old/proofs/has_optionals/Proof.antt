@@ -20,7 +20,7 @@ has-optionals-spec =
     (λ c κs. search needs)  -- members-at-requires
     (λ c κs. search needs)  -- type-row-requires
     (λ c. search members-begin)  -- loop-holds
-    (λ c κs. search needs)  -- member-row-from-requires
+    (λ c κs. search needs)  -- mark-from-requires
     (λ c. search members-here)  -- returns
     (λ c. omega arith)  -- add-m
     (λ c. omega arith)  -- sub-left

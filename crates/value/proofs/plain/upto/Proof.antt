@@ -1,4 +1,4 @@
--- An enum: its size, compared with the greatest, or the size's refusal. Assumes nothing.
+-- An enum: its number, compared with the greatest, or the number's refusal. Assumes nothing.
 use borrow.Author.Needs.{needs}
 use Rattle.value.proofs.PlainLaws.{upto-allowed, upto-above, upto-none}
 use Rattle.value.proofs.plain.upto.Statement.{statement}
@@ -8,7 +8,7 @@ pub upto-spec : {M : Type 1} → statement M
 upto-spec =
     tie.close
     (tie.spec
-    (λ c κs. search needs)  -- read-size-requires
+    (λ c κs. search needs)  -- number-upto-requires
     (λ c. search needs)  -- enum-known-z
     (λ c. search needs)  -- enum-known-z-2
     (λ c. search upto-allowed)  -- returns
