@@ -8,11 +8,11 @@
  *
  * What a caller owes:
  *   - Bytes are lent as a pointer and a length in bytes. The pointer is not NULL, also where the length is 0,
- *     and that many bytes from it on may be read; those of `rows` of the reader, `answers`, `numbers` and `out` may be
- *     written too. A list of 64-bit numbers is lent as a pointer to them and their number; `entries` of the planner
- *     may be written.
- *   - Lent output (`rows` of the reader, `answers`, `numbers`, `out`, `entries` of the planner) overlaps nothing else that
- *     is lent to the same call.
+ *     and that many bytes from it on may be read; those of `rows` of the reader, `answers`, `numbers`, `out`, and `next` of
+ *     the frost guard (at its start, `state`) may be written too. A list of 64-bit numbers is lent as a pointer to them
+ *     and their number; `entries` of the planner may be written.
+ *   - Lent output (`rows` of the reader, `answers`, `numbers`, `out`, `entries` of the planner, `next`) overlaps nothing
+ *     else that is lent to the same call.
  *     Inputs may overlap each other.
  *   - Nobody else changes lent bytes, or reads lent output, until the call returns.
  *
@@ -52,7 +52,8 @@ enum {
     ICEHUB_PROXY_ENDPOINT_SIZE = 12, /* bytes of the numbers of icehub_proxy_endpoint */
     ICEHUB_MOST_ROWS = 1024,   /* no message has more rows */
     ICEHUB_MOST_BYTES = 65536, /* no message is longer, and no buffer of the writer */
-    ICEHUB_BURST_BYTES = 340   /* no satellite burst is longer */
+    ICEHUB_BURST_BYTES = 340,  /* no satellite burst is longer */
+    ICEHUB_GUARD_SIZE = 32     /* bytes of the state of a frost guard */
 };
 
 /* A row is three numbers of 32 bits, little-endian: the member row of the table, then the place and the length of
@@ -163,6 +164,12 @@ enum icehub_refusal {
      * not end with the greatest, or entries are left over. Place: the row's first byte, in the table; 0 for entries
      * left over. */
     ICEHUB_BAD_TABLE_ENUMERATORS = 39,
+    /* frost guard: the tick is negative or lower than the last. Place: 0. */
+    ICEHUB_BAD_TICK = 40,
+    /* frost guard: the delay is negative. Place: 0. */
+    ICEHUB_BAD_DELAY = 41,
+    /* frost guard: the report lacks its tick or its delay. Place: 0. */
+    ICEHUB_MISSING_FIELD = 42,
     /* planner: a message is longer than a burst, over 340 bytes. Place: the message's number. */
     ICEHUB_MESSAGE_TOO_LONG = 45,
     /* an entry of a plan breaks a rule with the entries before it, or messages are missing. Place: the entry's number; the
@@ -177,7 +184,10 @@ enum icehub_refusal {
     /* remove: the message does not have the member. Place: 0. */
     ICEHUB_NOT_THERE = 50,
     /* set, remove: the message is a compact record. Place: 0. */
-    ICEHUB_IS_COMPACT = 51
+    ICEHUB_IS_COMPACT = 51,
+    /* frost guard: the state has another length or mark, a negative tick, start or delay, or a start and no tick at or
+     * after it. Place: 0. */
+    ICEHUB_BAD_STATE = 52
 };
 
 /* ---- The table by itself ----
@@ -508,6 +518,45 @@ uint32_t icehub_plan(const uint64_t *messages, size_t messages_len, uint64_t *en
  * many entries are needed; 0 if a plan is made. */
 uint64_t icehub_plan_place(const uint64_t *messages, size_t messages_len, size_t entries_len);
 
+/* ---- The frost guard ----
+ *
+ * A layer over the reader: it takes the reports of one thermostat, one after another, and says when the timer fires. It
+ * holds the table of these reports itself: a parameter list of a short (the reading), an optional(7) long (the tick, in
+ * milliseconds) and an optional(8) int (the delay, in whole seconds).
+ *
+ * A reading at or below the set point starts a freeze at its tick, if none runs; one above ends it. A report says that
+ * the timer fires exactly if a freeze runs after it and its tick minus the start is at least a thousand times its delay.
+ *
+ * The state is kept by the caller, in ICEHUB_GUARD_SIZE bytes, little-endian: the set point (2 bytes), one byte each
+ * that is 1 if there is a tick, a freeze, a delay, three zero bytes, the last tick (8), the start of the freeze (8), the
+ * delay (4), four zero bytes. What is not there is 0. Nothing else has to be kept, and nothing overflows: ticks go up to
+ * the largest long.
+ *
+ *   set_point               a signed short, in the units of the readings
+ *   state, state_len        the state before the report, ICEHUB_GUARD_SIZE bytes
+ *   message, message_len    the report, one message
+ *   next, next_len          the lent bytes for the state after it; bytes beyond ICEHUB_GUARD_SIZE are unchanged
+ */
+
+/* Puts the state at the start, without tick, freeze or delay. Returns ICEHUB_OK; or ICEHUB_OUTPUT_TOO_LONG if state_len
+ * is below ICEHUB_GUARD_SIZE, and `state` is unchanged. */
+uint32_t icehub_guard_start(uint16_t set_point, uint8_t *state, size_t state_len);
+
+/* Takes a report. Returns ICEHUB_OK: `next` begins with the state after it. Or returns a refusal, and `next` is
+ * unchanged: go on with the old state. The order is ICEHUB_BAD_STATE, those of icehub_read, ICEHUB_MISSING_FIELD,
+ * ICEHUB_BAD_TICK, ICEHUB_BAD_DELAY, and ICEHUB_OUTPUT_TOO_LONG if next_len is below ICEHUB_GUARD_SIZE. A state that
+ * these calls made is never refused. `next` must not overlap `state`: copy it over afterwards. */
+uint32_t icehub_guard_report(const uint8_t *state, size_t state_len, const uint8_t *message, size_t message_len,
+                             uint8_t *next, size_t next_len);
+
+/* The place of the refusal; 0 where the report is accepted. */
+uint32_t icehub_guard_place(const uint8_t *state, size_t state_len, const uint8_t *message, size_t message_len,
+                            size_t next_len);
+
+/* 1 if the timer fires with this report, else 0; 0 where the report is refused. */
+uint32_t icehub_guard_fires(const uint8_t *state, size_t state_len, const uint8_t *message, size_t message_len,
+                            size_t next_len);
+
 /* ---- Rows, numbers and refusals, for C callers ----
  *
  * These functions are C, compiled with the caller: no proof is about them, and they call nothing. They check no length:
@@ -622,6 +671,9 @@ static inline const char *icehub_refusal_name(uint32_t refusal)
     case ICEHUB_BAD_TABLE_NAME: return "BAD_TABLE_NAME";
     case ICEHUB_BAD_TABLE_TAG: return "BAD_TABLE_TAG";
     case ICEHUB_BAD_TABLE_ENUMERATORS: return "BAD_TABLE_ENUMERATORS";
+    case ICEHUB_BAD_TICK: return "BAD_TICK";
+    case ICEHUB_BAD_DELAY: return "BAD_DELAY";
+    case ICEHUB_MISSING_FIELD: return "MISSING_FIELD";
     case ICEHUB_MESSAGE_TOO_LONG: return "MESSAGE_TOO_LONG";
     case ICEHUB_BAD_PLAN: return "BAD_PLAN";
     case ICEHUB_NOT_COMPACT: return "NOT_COMPACT";
@@ -629,6 +681,7 @@ static inline const char *icehub_refusal_name(uint32_t refusal)
     case ICEHUB_NOT_OPTIONAL: return "NOT_OPTIONAL";
     case ICEHUB_NOT_THERE: return "NOT_THERE";
     case ICEHUB_IS_COMPACT: return "IS_COMPACT";
+    case ICEHUB_BAD_STATE: return "BAD_STATE";
     default: return "";
     }
 }
@@ -692,6 +745,9 @@ static inline const char *icehub_refusal_text(uint32_t refusal)
     case ICEHUB_BAD_TABLE_ENUMERATORS:
         return "an enum's list of enumerators is not taken in turn, is empty, reaches beyond the entries, does not "
                "rise or does not end with the greatest, or entries are left over";
+    case ICEHUB_BAD_TICK: return "frost guard: the tick is negative or lower than the last";
+    case ICEHUB_BAD_DELAY: return "frost guard: the delay is negative";
+    case ICEHUB_MISSING_FIELD: return "frost guard: the report lacks its tick or its delay";
     case ICEHUB_MESSAGE_TOO_LONG: return "planner: a message is longer than a burst, over 340 bytes";
     case ICEHUB_BAD_PLAN:
         return "an entry of a plan breaks a rule with the entries before it, or messages are missing";
@@ -701,6 +757,9 @@ static inline const char *icehub_refusal_text(uint32_t refusal)
         return "set, remove: the member is not an optional of the message's type or of a base of it";
     case ICEHUB_NOT_THERE: return "remove: the message does not have the member";
     case ICEHUB_IS_COMPACT: return "set, remove: the message is a compact record";
+    case ICEHUB_BAD_STATE:
+        return "frost guard: the state has another length or mark, a negative tick, start or delay, or a start and no "
+               "tick at or after it";
     default: return "";
     }
 }

@@ -494,3 +494,55 @@ pub fn plan_place(messages: &[u64], room: usize) -> u64 {
     // SAFETY: as above; nothing is written.
     unsafe { icehub_plan_place(messages.as_ptr(), messages.len(), room) }
 }
+
+extern "C" {
+    fn icehub_guard_start(set_point: u16, state: *mut u8, state_len: usize) -> u32;
+    fn icehub_guard_report(
+        state: *const u8,
+        state_len: usize,
+        message: *const u8,
+        message_len: usize,
+        next: *mut u8,
+        next_len: usize,
+    ) -> u32;
+    fn icehub_guard_place(
+        state: *const u8,
+        state_len: usize,
+        message: *const u8,
+        message_len: usize,
+        next_len: usize,
+    ) -> u32;
+    fn icehub_guard_fires(
+        state: *const u8,
+        state_len: usize,
+        message: *const u8,
+        message_len: usize,
+        next_len: usize,
+    ) -> u32;
+}
+
+/// Puts the state of a frost guard at the start: 0 or 22.
+pub fn guard_start(set_point: u16, state: &mut [u8]) -> u32 {
+    // SAFETY: the pointer comes with the length of its slice; only `state` is written.
+    unsafe { icehub_guard_start(set_point, state.as_mut_ptr(), state.len()) }
+}
+
+/// A report to a frost guard: 0 or the refusal number.
+pub fn guard_report(state: &[u8], message: &[u8], next: &mut [u8]) -> u32 {
+    // SAFETY: as above; only `next` is written.
+    unsafe {
+        icehub_guard_report(state.as_ptr(), state.len(), message.as_ptr(), message.len(), next.as_mut_ptr(), next.len())
+    }
+}
+
+/// The place of its refusal, with `room` bytes for the state after it.
+pub fn guard_place(state: &[u8], message: &[u8], room: usize) -> u32 {
+    // SAFETY: as above; nothing is written.
+    unsafe { icehub_guard_place(state.as_ptr(), state.len(), message.as_ptr(), message.len(), room) }
+}
+
+/// Whether the timer fires with it: 1 or 0.
+pub fn guard_fires(state: &[u8], message: &[u8], room: usize) -> u32 {
+    // SAFETY: as above.
+    unsafe { icehub_guard_fires(state.as_ptr(), state.len(), message.as_ptr(), message.len(), room) }
+}

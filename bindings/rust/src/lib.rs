@@ -37,6 +37,7 @@ mod convert;
 mod endpoint;
 #[allow(unsafe_code)]
 mod ffi;
+mod guard;
 mod night;
 mod refusal;
 mod table;
@@ -46,6 +47,7 @@ pub use bursts::{check_plan, plan, PlanRefusal, BURST_BYTES};
 pub use change::{remove, set};
 pub use convert::convert;
 pub use endpoint::{endpoint_at, open_endpoint, write_endpoint, Address, Opened};
+pub use guard::{Guard, GUARD_SIZE};
 pub use night::{night, Answer, Answers, Night, ANSWER_SIZE};
 pub use refusal::{Reason, Refusal};
 pub use table::{Allowed, Enumerators, Kind, MemberRow, Table, TypeRow};

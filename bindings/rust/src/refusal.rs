@@ -162,6 +162,9 @@ reasons! {
         "an enum's list of enumerators is not taken in turn, is empty, reaches beyond the entries, does not rise or \
         does not end with the greatest, or entries are left over",
         "the row's first byte, in the table; 0 for entries left over";
+    BadTick = 40, "BAD_TICK": "frost guard: the tick is negative or lower than the last", "0";
+    BadDelay = 41, "BAD_DELAY": "frost guard: the delay is negative", "0";
+    MissingField = 42, "MISSING_FIELD": "frost guard: the report lacks its tick or its delay", "0";
     MessageTooLong = 45, "MESSAGE_TOO_LONG":
         "planner: a message is longer than a burst, over 340 bytes", "the message's number";
     BadPlan = 46, "BAD_PLAN":
@@ -173,6 +176,10 @@ reasons! {
         "set, remove: the member is not an optional of the message's type or of a base of it", "0";
     NotThere = 50, "NOT_THERE": "remove: the message does not have the member", "0";
     IsCompact = 51, "IS_COMPACT": "set, remove: the message is a compact record", "0";
+    BadState = 52, "BAD_STATE":
+        "frost guard: the state has another length or mark, a negative tick, start or delay, or a start and no tick at or \
+        after it",
+        "0";
 }
 
 /// `refusal 19 at 3 (the number of rows or entries needed): the lent list is too short`; without the brackets where the place is
@@ -240,12 +247,12 @@ mod tests {
     fn numbers() {
         assert_eq!(
             Reason::ALL.iter().map(|reason| reason.number()).collect::<Vec<_>>(),
-            (2..=27).chain(31..=39).chain(45..=51).collect::<Vec<_>>()
+            (2..=27).chain(31..=42).chain(45..=52).collect::<Vec<_>>()
         );
         for reason in Reason::ALL {
             assert_eq!(Reason::from_number(reason.number()), Some(*reason));
         }
-        assert!([0, 1, 28, 30, 40, 44, 52].into_iter().all(|number| Reason::from_number(number).is_none()));
+        assert!([0, 1, 28, 30, 43, 44, 53].into_iter().all(|number| Reason::from_number(number).is_none()));
     }
 
     #[test]

@@ -1,2 +1,3 @@
 -- Laws that the proofs of the exported calls cite.
 pub mod Counted
+pub mod Guarding

@@ -6,3 +6,4 @@ pub mod ChangeNumbers
 pub mod ConvertNumbers
 pub mod EndpointNumbers
 pub mod PlanNumbers
+pub mod GuardNumbers

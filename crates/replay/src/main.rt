@@ -12,12 +12,14 @@
 //   9  a call for many messages: top, bytes of the list of answers, bytes of the list of rows; the bytes are the buffer
 //   12 an endpoint opened: bytes lent for its numbers, 0; the bytes are the endpoint. Or found: bytes lent for its numbers, 1, its number; the bytes are the proxy
 //   13 an endpoint written: type, port, timeout, compress, bytes of the output; the bytes are the host
+//   14 a report to a frost guard: bytes lent for the state after it, length of the state; the bytes are state and message
 //   15 a check of a burst plan: how many numbers the messages have; the bytes are messages and entries, eight bytes a number
 //   16 a call of the planner: the numbers of the lent list; the bytes are the messages
-// print.rt prints, reads.rt, writes.rt, records.rt, tables.rt, conversions.rt, changes.rt, nights.rt, endpoints.rt and plans.rt make the calls.
+// print.rt prints, reads.rt, writes.rt, records.rt, tables.rt, conversions.rt, changes.rt, nights.rt, endpoints.rt, guards.rt and plans.rt make the calls.
 mod changes;
 mod conversions;
 mod endpoints;
+mod guards;
 mod nights;
 mod plans;
 mod print;
@@ -125,6 +127,17 @@ fn endpoint_call(head: &[u8; 28], input: &[u8], lent: &mut [u8]) {
     }
 }
 
+// A report to a frost guard.
+fn guard_call(head: &[u8; 28], input: &[u8], lent: &mut [u8]) {
+    let room = wire::int_at(head, 8);
+    let n = wire::int_at(head, 12);
+    if room <= lent.len() {
+        if n <= input.len() {
+            guards::report_call(&input[0..n], &input[n..], &mut lent[0..room]);
+        }
+    }
+}
+
 // A call with its bytes, and `lent` to be its list or output.
 fn call<'a, 't>(head: &[u8; 28], table: &'t [u8], input: &'a [u8], lent: &mut [u8]) {
     let kind = wire::int_at(head, 0);
@@ -191,6 +204,10 @@ fn call<'a, 't>(head: &[u8; 28], table: &'t [u8], input: &'a [u8], lent: &mut [u
     }
     if kind == 13 {
         endpoint_write_call(head, input, lent);
+        return;
+    }
+    if kind == 14 {
+        guard_call(head, input, lent);
         return;
     }
     if kind == 15 {

@@ -4,7 +4,7 @@ use encoding::Writing;
 use libc::STDOUT_FILENO;
 
 // Prints the first n bytes of the output, and whether it was touched after them.
-fn show(out: &[u8], n: usize) {
+pub fn show(out: &[u8], n: usize) {
     if n <= out.len() {
         print::hex(&out[0..n]);
         if print::is_touched(&out[n..]) {

@@ -2,6 +2,7 @@
 
 use crate::bursts::{PlanAnswer, PlanCall};
 use crate::endpoint::{EndpointAnswer, EndpointCall};
+use crate::frost::{GuardAnswer, GuardCall};
 use crate::json::{hex, Json};
 use crate::night::{Night, Walked};
 use crate::{check, convert, member, read, remove, set, write, Reading, Refusal};
@@ -62,6 +63,7 @@ pub enum Call {
     Night(Night),
     Endpoint(EndpointCall),
     Plan(PlanCall),
+    Guard(GuardCall),
 }
 
 #[derive(Clone, Debug, PartialEq)]
@@ -87,6 +89,7 @@ pub enum Answer {
     Night(Walked),
     Endpoint(EndpointAnswer),
     Plan(PlanAnswer),
+    Guard(GuardAnswer),
     /// A lent byte was touched that should have stayed, or more is claimed than was lent.
     Astray,
 }
@@ -106,7 +109,7 @@ impl Call {
             | Call::Set { table, .. }
             | Call::Remove { table, .. } => table,
             Call::Night(night) => &night.table,
-            Call::Endpoint(_) | Call::Plan(_) => &[],
+            Call::Endpoint(_) | Call::Plan(_) | Call::Guard(_) => &[],
         }
     }
 
@@ -157,6 +160,7 @@ impl Call {
             Call::Night(night) => night.answer().map_or(Answer::Astray, Answer::Night),
             Call::Endpoint(call) => call.answer(),
             Call::Plan(call) => call.answer(),
+            Call::Guard(call) => call.answer(),
         }
     }
 
@@ -191,6 +195,9 @@ impl Call {
         }
         if let Some(plan) = PlanCall::parse(line) {
             return Some(plan);
+        }
+        if let Some(guard) = GuardCall::parse(line) {
+            return Some(guard);
         }
         let call = Json::parse(line)?;
         let expect = call.get("expect")?;
@@ -284,6 +291,7 @@ impl Call {
             Call::Night(night) => night.json(),
             Call::Endpoint(call) => call.json(),
             Call::Plan(call) => call.json(),
+            Call::Guard(call) => call.json(),
         };
         format!(r#"{{{fields},"expect":{}}}"#, expect.json())
     }
@@ -319,6 +327,7 @@ impl Answer {
             Answer::Check { refusal } | Answer::Read { refusal, .. } | Answer::Write { refusal, .. } => refusal.0,
             Answer::Endpoint(endpoint) => endpoint.refusal().0,
             Answer::Plan(plan) => plan.refusal.0,
+            Answer::Guard(guard) => guard.refusal.0,
             Answer::View { .. } | Answer::Night(_) | Answer::Astray => 0,
         }
     }
@@ -344,6 +353,7 @@ impl Answer {
             Answer::Night(walked) => walked.json(),
             Answer::Endpoint(endpoint) => endpoint.json(),
             Answer::Plan(plan) => plan.json(),
+            Answer::Guard(guard) => guard.json(),
             Answer::Astray => r#"{"astray":1}"#.to_string(),
         }
     }
@@ -352,7 +362,9 @@ impl Answer {
 fn row(json: &Json) -> Option<[u32; 3]> {
     match json {
         Json::List(numbers) => match numbers[..] {
-            [Json::Number(member), Json::Number(place), Json::Number(length)] => Some([member, place, length]),
+            [Json::Number(member), Json::Number(place), Json::Number(length)] => {
+                Some([member.try_into().ok()?, place.try_into().ok()?, length.try_into().ok()?])
+            }
             _ => None,
         },
         _ => None,

@@ -6,6 +6,7 @@ pub mod night;
 
 use crate::bursts::{self, PlanAnswer, PlanCall};
 use crate::calls::{Answer, Call, LENT};
+use crate::frost::{GuardAnswer, GuardCall};
 use crate::Reading;
 use std::hint::black_box;
 
@@ -412,6 +413,7 @@ pub fn each(call: &Call, mut run: impl FnMut(&'static str, &mut dyn FnMut())) {
             });
         }
         Call::View { .. } => {}
+        Call::Guard(call) => each_guard(call, &mut run),
         Call::Convert { table, top, message, room } => {
             let mut lent = vec![LENT; *room];
             run("icehub_convert", &mut || {
@@ -525,6 +527,7 @@ pub fn answer(call: &Call) -> Option<Answer> {
             Some(Answer::of_write((refusal, further(icehub_remove_place)), further(icehub_remove_length), &lent))
         }
         Call::View { table, top, message, member, fallback } => Some(view((table, *top, message), *member, fallback)),
+        Call::Guard(call) => Some(guard_answer(call)),
         Call::Check { table } => {
             // SAFETY: each pointer comes with the length of its slice; nothing is written.
             let refusal =
@@ -614,4 +617,81 @@ fn each_plan(call: &PlanCall, run: &mut impl FnMut(&'static str, &mut dyn FnMut(
             });
         }
     }
+}
+
+extern "C" {
+    fn icehub_guard_start(set_point: u16, state: *mut u8, state_length: usize) -> u32;
+    fn icehub_guard_report(
+        state: *const u8,
+        state_length: usize,
+        message: *const u8,
+        message_length: usize,
+        next: *mut u8,
+        next_length: usize,
+    ) -> u32;
+    fn icehub_guard_place(
+        state: *const u8,
+        state_length: usize,
+        message: *const u8,
+        message_length: usize,
+        next_length: usize,
+    ) -> u32;
+    fn icehub_guard_fires(
+        state: *const u8,
+        state_length: usize,
+        message: *const u8,
+        message_length: usize,
+        next_length: usize,
+    ) -> u32;
+}
+
+/// The guard at the start: 0 or 22.
+pub fn guard_start(set_point: i16, state: &mut [u8]) -> u32 {
+    // SAFETY: the pointer comes with the length of its slice; only `state` is written.
+    unsafe { icehub_guard_start(set_point as u16, state.as_mut_ptr(), state.len()) }
+}
+
+/// A report: 0 or the refusal number.
+pub fn guard_report(state: &[u8], message: &[u8], next: &mut [u8]) -> u32 {
+    // SAFETY: as above; only `next` is written.
+    unsafe {
+        icehub_guard_report(state.as_ptr(), state.len(), message.as_ptr(), message.len(), next.as_mut_ptr(), next.len())
+    }
+}
+
+/// Place of the refusal, and whether the timer fires.
+fn guard_numbers(state: &[u8], message: &[u8], room: usize) -> [u32; 2] {
+    // SAFETY: as above; nothing is written.
+    unsafe {
+        [
+            icehub_guard_place(state.as_ptr(), state.len(), message.as_ptr(), message.len(), room),
+            icehub_guard_fires(state.as_ptr(), state.len(), message.as_ptr(), message.len(), room),
+        ]
+    }
+}
+
+/// The library's answer to a report.
+fn guard_answer(call: &GuardCall) -> Answer {
+    let GuardCall { state, message, room } = call;
+    let mut lent = vec![LENT; *room];
+    let refusal = guard_report(state, message, &mut lent);
+    match guard_numbers(state, message, *room) {
+        [place, fires @ 0..=1] => GuardAnswer::of((refusal, place), fires == 1, &lent),
+        _ => Answer::Astray,
+    }
+}
+
+/// Hands `run` each call of the library on this report, with its name, to be made once.
+fn each_guard(call: &GuardCall, run: &mut impl FnMut(&'static str, &mut dyn FnMut())) {
+    let GuardCall { state, message, room } = call;
+    let mut lent = vec![LENT; *room];
+    run("icehub_guard_report", &mut || {
+        black_box(guard_report(state, message, &mut lent));
+    });
+    run("icehub_guard_place, icehub_guard_fires", &mut || {
+        black_box(guard_numbers(state, message, *room));
+    });
+    run("icehub_guard_start", &mut || {
+        black_box(guard_start(0, &mut lent));
+    });
 }

@@ -4,6 +4,7 @@
 
 mod changes;
 mod endpoints;
+mod guard;
 mod message;
 mod night;
 mod plans;
@@ -12,6 +13,7 @@ mod types;
 
 pub use changes::{Change, Changes};
 pub use endpoints::endpoint_calls;
+pub use guard::{guard_call, season};
 pub use message::{message, Message, Wrong};
 pub use night::night;
 pub use plans::plan_calls;

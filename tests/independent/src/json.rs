@@ -2,7 +2,7 @@
 
 #[derive(Debug, PartialEq)]
 pub enum Json {
-    Number(u32),
+    Number(u64),
     Text(String),
     List(Vec<Json>),
     Object(Vec<(String, Json)>),
@@ -24,6 +24,10 @@ impl Json {
     }
 
     pub fn number(&self, key: &str) -> Option<u32> {
+        self.long(key)?.try_into().ok()
+    }
+
+    pub fn long(&self, key: &str) -> Option<u64> {
         match self.get(key)? {
             Json::Number(number) => Some(*number),
             _ => None,

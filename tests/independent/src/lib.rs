@@ -16,6 +16,7 @@ pub mod calls;
 pub mod endpoint;
 #[cfg(feature = "library")]
 pub mod ffi;
+pub mod frost;
 pub mod gen;
 pub mod json;
 pub mod night;

@@ -3,6 +3,7 @@
 use crate::bursts::PlanCall;
 use crate::calls::{Answer, Call};
 use crate::endpoint::EndpointCall;
+use crate::frost::GuardCall;
 use crate::json::hex;
 use crate::night::Night;
 use crate::{forms, write, Reading};
@@ -70,6 +71,10 @@ impl<'a> Records<'a> {
             }
             12 | 13 => Call::Endpoint(EndpointCall::of_record(kind, [a, b, c, d, e], bytes)),
             15 | 16 => Call::Plan(PlanCall::of_record(kind, a, bytes)?),
+            14 => {
+                let (state, message) = parts(b)?;
+                Call::Guard(GuardCall { state, message, room: a as usize })
+            }
             _ => return None,
         };
         Some(Some(Recorded { call, is_of_records: kind == 4 }))
@@ -119,6 +124,9 @@ impl Recorded {
                 let (kind, first, bytes) = call.record();
                 ([kind, first, 0, 0, 0, 0], bytes)
             }
+            Call::Guard(GuardCall { state, message, room }) => {
+                ([14, *room as u32, state.len() as u32, 0, 0, 0], [&state[..], message].concat())
+            }
         };
         let [kind, a, b, c, d, e] = numbers;
         record(kind, [a, b, c, d, e], &bytes)
@@ -148,6 +156,7 @@ impl Recorded {
             (_, Answer::Night(walked)) => walked.line(),
             (_, Answer::Endpoint(endpoint)) => endpoint.line(),
             (_, Answer::Plan(plan)) => plan.line(),
+            (_, Answer::Guard(guard)) => guard.line(),
             (_, Answer::Astray) => "touched".to_string(),
         }
     }
@@ -187,7 +196,7 @@ pub fn stdin(calls: &[Recorded]) -> Vec<u8> {
     let mut held = None;
     for call in calls {
         let table = call.call.table();
-        if held != Some(table) && !matches!(call.call, Call::Endpoint(_) | Call::Plan(_)) {
+        if held != Some(table) && !matches!(call.call, Call::Endpoint(_) | Call::Plan(_) | Call::Guard(_)) {
             held = Some(table);
             file.extend(record(0, [0; 5], table));
         }

@@ -1,7 +1,7 @@
 //! The command line, and the help.
 
 use crate::input::Source;
-use crate::{change, convert, night, plan, show};
+use crate::{change, convert, guard, night, plan, show};
 use std::ffi::OsString;
 
 /// What is to be done.
@@ -15,6 +15,7 @@ pub enum Command {
     Change(change::Request),
     Night(night::Request),
     Plan(plan::Request),
+    Guard(guard::Request),
 }
 
 const HELP: &str = "\
@@ -28,6 +29,7 @@ icehub: shows messages of Ice encodings 1.1 and 1.0 by their type table
   icehub night [--json] TABLE TOP FILE            read a file of many messages, a line for each
   icehub plan FILE                                plan the satellite bursts of waiting messages
   icehub plan --check FILE PLAN                   check a plan, and say what is wrong with it
+  icehub guard [--hex] SETPOINT FILE              replay the reports of a frost guard
   icehub --version                                print the version
   icehub --help, icehub COMMAND --help            print help
 
@@ -160,6 +162,24 @@ each burst has at most 340 bytes, and the messages of one cabin are in their wai
 Exit status: 0 planned or accepted, 1 refused, 2 something could not be done (arguments, files).
 ";
 
+const GUARD_HELP: &str = "\
+icehub guard [--hex] SETPOINT FILE
+
+Replays the reports of a frost guard, one after another from the start, and says after each what the guard keeps and
+whether the timer fires. A reading at or below the set point starts a freeze, one above ends it; the timer fires where the
+freeze has lasted for the report's delay. A refused report changes nothing.
+
+  SETPOINT  the set point, -32768 to 32767, in the units of the readings; write -- before a negative one
+  FILE      the reports, messages one after another; - is standard input
+  --hex     FILE is hex text: pairs of digits, with any white space between them
+  --        what follows is no option
+
+Reports are parameter lists of a short (the reading), an optional(7) long (the tick in milliseconds) and an optional(8) int
+(the delay in seconds).
+
+Exit status: 0 all reports accepted, 1 some refused, 2 something could not be done (arguments, files).
+";
+
 /// The command of these words, or what is wrong with them.
 pub fn parse(words: impl IntoIterator<Item = OsString>) -> Result<Command, String> {
     let mut words = words.into_iter();
@@ -176,6 +196,7 @@ pub fn parse(words: impl IntoIterator<Item = OsString>) -> Result<Command, Strin
         Some("remove") => parse_change(words, "remove"),
         Some("night") => parse_night(words),
         Some("plan") => parse_plan(words),
+        Some("guard") => parse_guard(words),
         _ => Err(format!("{} is no command; see icehub --help", first.to_string_lossy())),
     }
 }
@@ -336,5 +357,20 @@ fn parse_plan(words: impl Iterator<Item = OsString>) -> Result<Command, String> 
         }
         (Some(messages), plan @ Some(_), None, false) => Ok(Command::Plan(plan::Request { messages, plan })),
         _ => Err("plan takes one FILE, plan --check a FILE and a PLAN; see icehub plan --help".to_string()),
+    }
+}
+
+fn parse_guard(words: impl Iterator<Item = OsString>) -> Result<Command, String> {
+    let Some(Words { options, operands, .. }) = split(words, &["--hex"], "guard")? else {
+        return Ok(Command::Help(GUARD_HELP));
+    };
+    let Ok([set_point, file]) = <[OsString; 2]>::try_from(operands) else {
+        return Err("guard takes a SETPOINT and a FILE; see icehub guard --help".to_string());
+    };
+    match set_point.to_str().and_then(|text| text.parse().ok()) {
+        Some(set_point) => {
+            Ok(Command::Guard(guard::Request { set_point, hex: !options.is_empty(), file: Source::new(file) }))
+        }
+        None => Err(format!("{} is no set point, -32768 to 32767", set_point.to_string_lossy())),
     }
 }

@@ -8,6 +8,7 @@
 //! - `show`: the command `show`, with its summary and progress line
 //! - `convert`: the command `convert`
 //! - `change`: the commands `set` and `remove`
+//! - `guard`: the command `guard`
 //! - `night`: the command `night`, for a file of many messages
 //! - `table`: the command `table`; `broken`: what is wrong with a table that breaks a rule
 //! - `accepted`, `refused`: a message for a person; `json`: a message as a line of JSON
@@ -21,6 +22,7 @@ mod broken;
 mod change;
 mod convert;
 mod endpoints;
+mod guard;
 mod input;
 mod json;
 mod locate;
@@ -88,6 +90,7 @@ fn run(out: &mut impl Write, status: &mut Status) -> io::Result<()> {
         Ok(Command::Change(request)) => change::run(&request, out, status),
         Ok(Command::Night(request)) => night::run(&request, out, status),
         Ok(Command::Plan(request)) => plan::run(&request, out, status),
+        Ok(Command::Guard(request)) => guard::run(&request, out, status),
         Err(wrong) => {
             tell(&wrong);
             status.raise(Status::Failed);

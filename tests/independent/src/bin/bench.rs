@@ -1,5 +1,5 @@
 //! Times the proved library and this implementation on the same inputs, in one run: nanoseconds a call, each the least
-//! of several rounds, the rounds of the two in turn. Then times two calls of C against the reader's in the same way, the
+//! of several rounds, the rounds of the two in turn. Then times other calls of C against the reader's in the same way, the
 //! reader of a message that is one long string against the standard library's check of that string, and sequences of
 //! 20,000 elements against those of 20. Some ratios have a bar; one that is missed is told at the end, and the exit
 //! status is 1 then. With the argument `logs` only the sequences are timed.
@@ -8,7 +8,7 @@ use independent::endpoint::{self, Given};
 use independent::ffi::endpoint as endpoint_ffi;
 use independent::night::night;
 use independent::spec::Spec;
-use independent::{bursts, convert, ffi, read, set, write};
+use independent::{bursts, convert, ffi, frost, read, set, write};
 use std::cell::RefCell;
 use std::env;
 use std::hint::black_box;
@@ -25,11 +25,16 @@ const PATIENCE: u32 = 20;
 
 /// Bars. A long sequence of numbers is read in at most twice the time of a short one (document 02, M-103), and one of
 /// shorts in at most 1.2 times it. One of shorts is written in at most 1.1 times the time of plain Rust, and one of bools
-/// read in at most 2.8 times: a quarter of what it was when they were judged one by one.
+/// read in at most 2.8 times: a quarter of what it was when they were judged one by one. A report to a frost guard takes
+/// at most 1.3 times a read of its message.
 const LONG: f64 = 2.0;
 const LONG_SHORTS: f64 = 1.2;
 const WRITTEN: f64 = 1.1;
 const BOOLS: f64 = 2.8;
+const REPORT: f64 = 1.3;
+
+/// A frost guard in the middle of a freeze.
+const FREEZE: frost::Guard = frost::Guard { set: 0, tick: Some(1 << 31), start: Some(1 << 31), delay: Some(30) };
 
 /// Setting a member takes at most so many times the time of reading the message (M-112).
 const SETTING: f64 = 1.5;
@@ -207,6 +212,33 @@ impl Case {
         let number = |at: usize| u32::from_le_bytes([last[at], last[at + 1], last[at + 2], last[at + 3]]);
         let (place, length) = (number(4) as usize, number(8) as usize);
         (number(0), &self.message[place..place + length])
+    }
+
+    /// A report to a frost guard, this message, in the middle of a freeze.
+    fn run_report(&self) {
+        let state = FREEZE.bytes();
+        let (mut next, mut other) = ([0; frost::STATE], [0; frost::STATE]);
+        report(
+            &format!("{}: report to a frost guard", self.name),
+            || ffi::guard_report(black_box(&state), black_box(&self.message), &mut next),
+            || number(frost::report(black_box(&state), black_box(&self.message), &mut other)),
+            0,
+        );
+        assert_eq!(next, other);
+    }
+
+    /// The same against the reader of the message.
+    fn run_report_call(&self) -> Result<(), String> {
+        let Case { name, table, top, message, rows, .. } = self;
+        let state = FREEZE.bytes();
+        let (mut next, mut lent) = ([0; frost::STATE], vec![0; rows.len()]);
+        compare(
+            &format!("{name}: icehub_guard_report"),
+            || ffi::guard_report(black_box(&state), black_box(message), &mut next),
+            || ffi::read(black_box(table), *top, black_box(message), &mut lent),
+            0,
+            Some(REPORT),
+        )
     }
 
     /// The reader of this message, of 1.0, against that of the same in 1.1.
@@ -527,8 +559,8 @@ fn main() -> ExitCode {
     }
 }
 
-/// Everything else; gives the bar that was missed.
-fn all_but_logs() -> Option<String> {
+/// Everything else; gives the bars that were missed.
+fn all_but_logs() -> Vec<String> {
     heads("library", "independent");
 
     let mut spec = Spec::default();
@@ -668,12 +700,14 @@ fn all_but_logs() -> Option<String> {
 
     run_bursts(1_000);
     run_bursts(10_000);
+    p2.run_report();
 
     println!();
     heads("call", "icehub_read");
     record.run_conversion_call(&compact);
     let setting = record.run_setting_call();
     old.run_against(&new);
+    let reporting = p2.run_report_call();
     for case in [p2, record, many] {
         case.run_calls();
     }
@@ -691,5 +725,5 @@ fn all_but_logs() -> Option<String> {
     println!();
     heads("call", "from_utf8");
     texts.iter().for_each(Case::run_text);
-    setting.err()
+    [setting, reporting].into_iter().filter_map(Result::err).collect()
 }

@@ -1,14 +1,16 @@
 //! fuzz [CALLS [SEED]]: makes calls (1,000,000 by default) of the reader, the writer and the table check, and a member
 //! view, a conversion and a night of each message read, and with each an endpoint opened, one written and one found in a
-//! proxy, a burst plan checked and one made, and an optional set or removed, mostly under an older table of a newer message,
-//! and the result read under both. It compares the proved library with this implementation in every number and every lent
-//! byte. A difference is printed as a line like those of the recorded calls, the library's answer after it as `got`; with
-//! any, or with a change that passes on not all of the rest, the exit status is 1.
+//! proxy, a burst plan checked and one made, an optional set or removed, mostly under an older table of a newer message,
+//! and the result read under both, and with every tenth a season of reports to a frost guard. It compares the proved library
+//! with this implementation in every number and every lent byte. A difference is printed as a line like those of the recorded
+//! calls, the library's answer after it as `got`; with any, or with a change that passes on not all of the rest, the exit
+//! status is 1.
 
 use independent::bursts::{flat, PlanCall};
 use independent::calls::{Answer, Call};
 use independent::ffi;
-use independent::gen::{endpoint_calls, night, plan_calls, Calls, Changes, Rng, Text};
+use independent::frost::{Guard, GuardCall, History, STATE};
+use independent::gen::{endpoint_calls, guard_call, night, plan_calls, season, Calls, Changes, Rng, Text};
 use std::time::{Instant, SystemTime, UNIX_EPOCH};
 use std::{env, process};
 
@@ -46,6 +48,7 @@ fn main() {
     let (mut nights, mut other, mut walked, mut stops) = (Rng(seed), vec![], 0, [0; 40]);
     let (mut endpoints, mut endpoint_refusals) = (Rng(!seed), [[0; 40]; 3]);
     let (mut plans, mut plan_refusals) = (Rng(!seed), [[0; 47]; 2]);
+    let (mut seasons, mut reports, mut fired) = (Rng(!seed), [0; 53], 0);
     for index in 0..calls {
         let Some(change) = changed.next() else { break };
         let answer = change.call.answer();
@@ -114,6 +117,33 @@ fn main() {
             }
         }
     }
+    // Seasons of a frost guard, report by report: the library's state, the guard here, and the rule told by history.
+    for _ in 0..calls / 10 {
+        let (set, messages) = season(&mut seasons);
+        let mut state = vec![0; STATE];
+        assert_eq!(ffi::guard_start(set, &mut state), 0);
+        assert_eq!(state, Guard::new(set).bytes());
+        let mut history = History { set, ..History::default() };
+        for message in messages {
+            let call = GuardCall { state: state.clone(), message: message.clone(), room: STATE };
+            let expected = call.answer();
+            compare(&Call::Guard(call), &expected);
+            let Answer::Guard(answer) = expected else { continue };
+            let told = history.report(&message);
+            assert_eq!(told.err().unwrap_or_default(), answer.refusal);
+            assert_eq!(told.unwrap_or_default(), answer.fires);
+            reports[answer.refusal.0 as usize] += 1;
+            fired += usize::from(answer.fires);
+            if answer.refusal.0 == 0 {
+                state = answer.state;
+            }
+        }
+        // And a report on a state that need not be one of a guard.
+        let call = guard_call(&mut seasons);
+        let expected = call.answer();
+        reports[expected.refusal() as usize] += 1;
+        compare(&Call::Guard(call), &expected);
+    }
     for (version, refusals) in (1..).zip(refusals) {
         let met = refusals.iter().enumerate().filter(|(number, _)| !matches!(number, 1 | 27..=30 | 40..));
         let reached: Vec<_> = met.map(|(number, calls)| format!("{number}: {calls}")).collect();
@@ -125,6 +155,9 @@ fn main() {
     let met = changes.iter().enumerate().filter(|(_, calls)| **calls != 0);
     let reached: Vec<_> = met.map(|(number, calls)| format!("{number}: {calls}")).collect();
     println!("changes by refusal number: {}; {not_passed_on} not passed on", reached.join(", "));
+    let met = reports.iter().enumerate().filter(|(_, calls)| **calls != 0);
+    let reached: Vec<_> = met.map(|(number, calls)| format!("{number}: {calls}")).collect();
+    println!("reports to a frost guard by refusal number: {}; the timer fired {fired} times", reached.join(", "));
     let strings: Vec<_> = strings.iter().map(|(what, calls)| format!("{what:?} {calls}")).collect();
     let stops: Vec<_> = stops
         .iter()

@@ -54,7 +54,10 @@ fn main() {
 
 /// Whether a call is of a request that adds calls; these are after all others.
 fn is_more(call: &Call) -> bool {
-    matches!(call, Call::Night(_) | Call::Endpoint(_) | Call::Plan(_) | Call::Set { .. } | Call::Remove { .. })
+    matches!(
+        call,
+        Call::Night(_) | Call::Endpoint(_) | Call::Plan(_) | Call::Set { .. } | Call::Remove { .. } | Call::Guard(_)
+    )
 }
 
 /// Whether the program lends lists as long as this call's.

@@ -1,0 +1,2 @@
+-- Laws that the proofs of the frost guard cite.
+pub mod Telling

@@ -1,0 +1,19 @@
+-- The three numbers at the places of the rows.
+use borrow.Author.Needs.{needs}
+use Rattle.frost.proofs.Telling.{fields-told}
+use Rattle.frost.proofs.fields.Statement.{statement}
+use Rattle.frost.proofs.fields.Tie as tie
+
+pub fields-spec : {M : Type 1} → statement M
+fields-spec =
+    tie.close
+    (tie.spec
+    (λ c κs. search needs)  -- row-at-requires
+    (λ c κs. search needs)  -- row-at-requires-2
+    (λ c κs. search needs)  -- row-at-requires-3
+    (λ c κs. search needs)  -- short-at-requires
+    (λ c. search needs)  -- cast-t7
+    (λ c κs. search needs)  -- long-at-requires
+    (λ c κs. search needs)  -- int-at-requires
+    (λ c. search needs)  -- cast-t12
+    (λ c. search fields-told))  -- returns

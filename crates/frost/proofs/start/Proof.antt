@@ -1,0 +1,12 @@
+-- Nothing yet.
+use mathlib.Core.Path.{refl}
+use Rattle.frost.specs.Frost.{start}
+use Rattle.frost.proofs.start.Statement.{statement}
+use Rattle.frost.proofs.start.Tie as tie
+
+pub start-spec : {M : Type 1} → statement M
+unfolding start
+start-spec =
+    tie.close
+    (tie.spec
+    (λ c. refl))  -- returns

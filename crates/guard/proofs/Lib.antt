@@ -1,0 +1,2 @@
+-- Laws that the proofs of the guard's state cite.
+pub mod Storing
