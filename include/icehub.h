@@ -48,6 +48,7 @@ enum {
     ICEHUB_NUMBERS_SIZE = 20,  /* bytes of the numbers of icehub_read_numbers */
     ICEHUB_VIEW_SIZE = 12,     /* bytes of the numbers of icehub_member */
     ICEHUB_ANSWER_SIZE = 28,   /* bytes of one answer of icehub_night */
+    ICEHUB_SHEET_SIZE = 52,    /* bytes of a season sheet */
     ICEHUB_ENDPOINT_SIZE = 28, /* bytes of the numbers of icehub_endpoint */
     ICEHUB_PROXY_ENDPOINT_SIZE = 12, /* bytes of the numbers of icehub_proxy_endpoint */
     ICEHUB_MOST_ROWS = 1024,   /* no message has more rows */
@@ -170,6 +171,10 @@ enum icehub_refusal {
     ICEHUB_BAD_DELAY = 41,
     /* frost guard: the report lacks its tick or its delay. Place: 0. */
     ICEHUB_MISSING_FIELD = 42,
+    /* season sheet: the member is not in the table, or is neither a short nor an int. Place: 0. */
+    ICEHUB_BAD_MEMBER = 43,
+    /* season sheet: the messages of the buffer and those on the sheet are more than 1,000,000. Place: 0. */
+    ICEHUB_TOO_MANY_MESSAGES = 44,
     /* planner: a message is longer than a burst, over 340 bytes. Place: the message's number. */
     ICEHUB_MESSAGE_TOO_LONG = 45,
     /* an entry of a plan breaks a rule with the entries before it, or messages are missing. Place: the entry's number; the
@@ -187,7 +192,10 @@ enum icehub_refusal {
     ICEHUB_IS_COMPACT = 51,
     /* frost guard: the state has another length or mark, a negative tick, start or delay, or a start and no tick at or
      * after it. Place: 0. */
-    ICEHUB_BAD_STATE = 52
+    ICEHUB_BAD_STATE = 52,
+    /* season sheet: the sheet is not 52 bytes long, a mark is neither 0 nor 1, it has carriers and no smallest or largest
+     * value, or either without carriers, or its sum is not between their number times these. Place: 0. */
+    ICEHUB_BAD_SHEET = 53
 };
 
 /* ---- The table by itself ----
@@ -435,6 +443,31 @@ size_t icehub_night(const uint8_t *table, size_t table_len, uint32_t top, const 
 size_t icehub_night_place(const uint8_t *table, size_t table_len, uint32_t top, const uint8_t *buffer,
                           size_t buffer_len, size_t answers_len, size_t rows_len);
 
+/* ---- The season sheet ----
+ *
+ *   table, table_len      the type table; it is checked once for the whole buffer
+ *   top                   the number of the wanted type's row
+ *   buffer, buffer_len    messages, back to back, walked as by icehub_night with room for all
+ *   member                the number of a member row, of type short or int
+ *   sheet, sheet_len      the sheet: ICEHUB_SHEET_SIZE bytes; as many zero bytes are the empty one
+ *
+ * A sheet is, little-endian: how many messages carry the member, lack it, are refused, and the sum (8 bytes each); smallest
+ * and largest value, and the mean's whole part and remainder (4 bytes each); then marks of one byte, 1 where smallest,
+ * largest and mean are there, else 0; and a zero byte. Sum, smallest, largest and mean are signed. What is absent is 0. The
+ * sum is the mean times the carriers plus the remainder, which is not negative and below the number of carriers. */
+
+/* Adds what the messages of a buffer say of one member to the sheet. An accepted message whose list has no row of the member
+ * lacks it; what stops the walk is a refused message. A buffer may be added in parts, each ending after a message: the sheet is
+ * the same. Returns ICEHUB_OK, or the refusal, and the sheet is unchanged: the table's, ICEHUB_BAD_TYPE, ICEHUB_BAD_MEMBER,
+ * ICEHUB_TOO_MANY_MESSAGES and ICEHUB_BAD_SHEET in this order (but another length than ICEHUB_SHEET_SIZE comes right after
+ * ICEHUB_BAD_MEMBER). Mean, remainder, the mean's mark and the last byte of a given sheet are not judged. */
+uint32_t icehub_sheet(const uint8_t *table, size_t table_len, uint32_t top, const uint8_t *buffer, size_t buffer_len,
+                      uint32_t member, uint8_t *sheet, size_t sheet_len);
+
+/* The place of that refusal: in the table where a rule is broken, else 0. The sheet is the one before the call. */
+uint32_t icehub_sheet_place(const uint8_t *table, size_t table_len, uint32_t top, const uint8_t *buffer,
+                            size_t buffer_len, uint32_t member, const uint8_t *sheet, size_t sheet_len);
+
 /* ---- One endpoint of a proxy ----
  *
  * An endpoint is a type of two bytes and an encapsulation. Endpoints of TCP, SSL and UDP hold an address; what another
@@ -674,6 +707,8 @@ static inline const char *icehub_refusal_name(uint32_t refusal)
     case ICEHUB_BAD_TICK: return "BAD_TICK";
     case ICEHUB_BAD_DELAY: return "BAD_DELAY";
     case ICEHUB_MISSING_FIELD: return "MISSING_FIELD";
+    case ICEHUB_BAD_MEMBER: return "BAD_MEMBER";
+    case ICEHUB_TOO_MANY_MESSAGES: return "TOO_MANY_MESSAGES";
     case ICEHUB_MESSAGE_TOO_LONG: return "MESSAGE_TOO_LONG";
     case ICEHUB_BAD_PLAN: return "BAD_PLAN";
     case ICEHUB_NOT_COMPACT: return "NOT_COMPACT";
@@ -682,6 +717,7 @@ static inline const char *icehub_refusal_name(uint32_t refusal)
     case ICEHUB_NOT_THERE: return "NOT_THERE";
     case ICEHUB_IS_COMPACT: return "IS_COMPACT";
     case ICEHUB_BAD_STATE: return "BAD_STATE";
+    case ICEHUB_BAD_SHEET: return "BAD_SHEET";
     default: return "";
     }
 }
@@ -748,6 +784,9 @@ static inline const char *icehub_refusal_text(uint32_t refusal)
     case ICEHUB_BAD_TICK: return "frost guard: the tick is negative or lower than the last";
     case ICEHUB_BAD_DELAY: return "frost guard: the delay is negative";
     case ICEHUB_MISSING_FIELD: return "frost guard: the report lacks its tick or its delay";
+    case ICEHUB_BAD_MEMBER: return "season sheet: the member is not in the table, or is neither a short nor an int";
+    case ICEHUB_TOO_MANY_MESSAGES:
+        return "season sheet: the messages of the buffer and those on the sheet are more than 1,000,000";
     case ICEHUB_MESSAGE_TOO_LONG: return "planner: a message is longer than a burst, over 340 bytes";
     case ICEHUB_BAD_PLAN:
         return "an entry of a plan breaks a rule with the entries before it, or messages are missing";
@@ -760,6 +799,9 @@ static inline const char *icehub_refusal_text(uint32_t refusal)
     case ICEHUB_BAD_STATE:
         return "frost guard: the state has another length or mark, a negative tick, start or delay, or a start and no "
                "tick at or after it";
+    case ICEHUB_BAD_SHEET:
+        return "season sheet: the sheet is not 52 bytes long, a mark is neither 0 nor 1, it has carriers and no smallest or "
+               "largest value, or either without carriers, or its sum is not between their number times these";
     default: return "";
     }
 }

@@ -18,7 +18,7 @@
 enum { LENT = 0xAA, MOST_LINE = 1 << 20, MOST_INPUT = 1 << 18 };
 
 /* The kinds of records, and how many numbers begin one. */
-enum { TABLE, READ, VIEW, WRITE, RECORDS, CHECK, CONVERT, SET, REMOVE, NIGHT };
+enum { TABLE, READ, VIEW, WRITE, RECORDS, CHECK, CONVERT, SET, REMOVE, NIGHT, SHEET };
 enum { ENDPOINT = 12, ENDPOINT_WRITE, CHECK_PLAN = 15, PLAN };
 enum { KINDS = 17, HEAD = 7 };
 
@@ -350,6 +350,17 @@ static void night_call(uint32_t top, const uint8_t *buffer, size_t buffer_len, s
     }
 }
 
+static void sheet_call(uint32_t top, const uint8_t *buffer, size_t buffer_len, uint32_t member, const uint8_t *sheet,
+                       size_t sheet_len)
+{
+    uint32_t number;
+    memcpy(out, sheet, sheet_len);
+    number = icehub_sheet(table, table_len, top, buffer, buffer_len, member, out, sheet_len);
+    put("%" PRIu32 " %" PRIu32 " ", number,
+        icehub_sheet_place(table, table_len, top, buffer, buffer_len, member, sheet, sheet_len));
+    put_hex(out, sheet_len);
+}
+
 /* Opens an endpoint, or finds one in its proxy. */
 static void endpoint_call(size_t room, uint32_t is_found, uint32_t wanted, const uint8_t *bytes, size_t bytes_len)
 {
@@ -492,6 +503,12 @@ static void replay(FILE *calls, FILE *answers)
             }
             night_call(n[2], input, length, n[3], n[4]);
             break;
+        case SHEET:
+            if (n[4] > length || length - n[4] > sizeof out) {
+                stop("a call is too long");
+            }
+            sheet_call(n[2], input, n[4], n[3], input + n[4], length - n[4]);
+            break;
         case ENDPOINT:
             if (n[2] > sizeof rows) {
                 stop("a call is too long");
@@ -538,9 +555,9 @@ int main(int argc, char **argv)
         stop("more answers than calls");
     }
     printf("%lu of %lu recorded calls agree: %lu readings, %lu writings, %lu views, %lu row records, %lu tables, "
-           "%lu conversions, %lu sets, %lu removals, %lu nights, %lu endpoints, %lu checks of burst plans, %lu plans\n",
+           "%lu conversions, %lu sets, %lu removals, %lu nights, %lu season sheets, %lu endpoints, %lu checks of burst plans, %lu plans\n",
            lines - differed, lines, agreed[READ], agreed[WRITE], agreed[VIEW], agreed[RECORDS], agreed[CHECK],
-           agreed[CONVERT], agreed[SET], agreed[REMOVE], agreed[NIGHT], agreed[ENDPOINT] + agreed[ENDPOINT_WRITE],
+           agreed[CONVERT], agreed[SET], agreed[REMOVE], agreed[NIGHT], agreed[SHEET], agreed[ENDPOINT] + agreed[ENDPOINT_WRITE],
            agreed[CHECK_PLAN], agreed[PLAN]);
     return differed > 0 || lines == 0;
 }

@@ -378,6 +378,63 @@ pub fn night(table: &[u8], top: u32, buffer: &[u8], answers: &mut [u8], rows: &m
     }
 }
 
+extern "C" {
+    fn icehub_sheet(
+        table: *const u8,
+        table_len: usize,
+        top: u32,
+        buffer: *const u8,
+        buffer_len: usize,
+        member: u32,
+        sheet: *mut u8,
+        sheet_len: usize,
+    ) -> u32;
+    fn icehub_sheet_place(
+        table: *const u8,
+        table_len: usize,
+        top: u32,
+        buffer: *const u8,
+        buffer_len: usize,
+        member: u32,
+        sheet: *const u8,
+        sheet_len: usize,
+    ) -> u32;
+}
+
+/// Adds the messages of a buffer to a sheet: 0 or the refusal's number.
+pub fn sheet(table: &[u8], top: u32, buffer: &[u8], member: u32, sheet: &mut [u8]) -> u32 {
+    // SAFETY: each pointer comes with the length of its slice; only `sheet` is written.
+    unsafe {
+        icehub_sheet(
+            table.as_ptr(),
+            table.len(),
+            top,
+            buffer.as_ptr(),
+            buffer.len(),
+            member,
+            sheet.as_mut_ptr(),
+            sheet.len(),
+        )
+    }
+}
+
+/// The place of the refusal of that call.
+pub fn sheet_place(table: &[u8], top: u32, buffer: &[u8], member: u32, sheet: &[u8]) -> u32 {
+    // SAFETY: as above; nothing is written.
+    unsafe {
+        icehub_sheet_place(
+            table.as_ptr(),
+            table.len(),
+            top,
+            buffer.as_ptr(),
+            buffer.len(),
+            member,
+            sheet.as_ptr(),
+            sheet.len(),
+        )
+    }
+}
+
 /// The place of what stopped the walk over a buffer, or its length.
 pub fn night_place(table: &[u8], top: u32, buffer: &[u8], answers: usize, rows: usize) -> usize {
     // SAFETY: as above; nothing is written.

@@ -40,6 +40,7 @@ mod ffi;
 mod guard;
 mod night;
 mod refusal;
+mod sheet;
 mod table;
 mod value;
 
@@ -50,6 +51,7 @@ pub use endpoint::{endpoint_at, open_endpoint, write_endpoint, Address, Opened};
 pub use guard::{Guard, GUARD_SIZE};
 pub use night::{night, Answer, Answers, Night, ANSWER_SIZE};
 pub use refusal::{Reason, Refusal};
+pub use sheet::{Sheet, SHEET_SIZE};
 pub use table::{Allowed, Enumerators, Kind, MemberRow, Table, TypeRow};
 pub use value::{Elements, Endpoint, Endpoints, Entries, Fields, Proxy, Value};
 

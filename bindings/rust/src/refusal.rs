@@ -165,6 +165,9 @@ reasons! {
     BadTick = 40, "BAD_TICK": "frost guard: the tick is negative or lower than the last", "0";
     BadDelay = 41, "BAD_DELAY": "frost guard: the delay is negative", "0";
     MissingField = 42, "MISSING_FIELD": "frost guard: the report lacks its tick or its delay", "0";
+    BadMember = 43, "BAD_MEMBER": "season sheet: the member is not in the table, or is neither a short nor an int", "0";
+    TooManyMessages = 44, "TOO_MANY_MESSAGES":
+        "season sheet: the messages of the buffer and those on the sheet are more than 1,000,000", "0";
     MessageTooLong = 45, "MESSAGE_TOO_LONG":
         "planner: a message is longer than a burst, over 340 bytes", "the message's number";
     BadPlan = 46, "BAD_PLAN":
@@ -180,6 +183,9 @@ reasons! {
         "frost guard: the state has another length or mark, a negative tick, start or delay, or a start and no tick at or \
         after it",
         "0";
+    BadSheet = 53, "BAD_SHEET":
+        "season sheet: the sheet is not 52 bytes long, a mark is neither 0 nor 1, it has carriers and no smallest or \
+        largest value, or either without carriers, or its sum is not between their number times these", "0";
 }
 
 /// `refusal 19 at 3 (the number of rows or entries needed): the lent list is too short`; without the brackets where the place is
@@ -247,12 +253,12 @@ mod tests {
     fn numbers() {
         assert_eq!(
             Reason::ALL.iter().map(|reason| reason.number()).collect::<Vec<_>>(),
-            (2..=27).chain(31..=42).chain(45..=52).collect::<Vec<_>>()
+            (2..=27).chain(31..=53).collect::<Vec<_>>()
         );
         for reason in Reason::ALL {
             assert_eq!(Reason::from_number(reason.number()), Some(*reason));
         }
-        assert!([0, 1, 28, 30, 43, 44, 53].into_iter().all(|number| Reason::from_number(number).is_none()));
+        assert!([0, 1, 28, 30, 54].into_iter().all(|number| Reason::from_number(number).is_none()));
     }
 
     #[test]

@@ -1,3 +1,4 @@
 -- Laws that the proofs of the exported calls cite.
 pub mod Counted
 pub mod Guarding
+pub mod Seasonal

@@ -5,6 +5,7 @@ use crate::endpoint::{EndpointAnswer, EndpointCall};
 use crate::frost::{GuardAnswer, GuardCall};
 use crate::json::{hex, Json};
 use crate::night::{Night, Walked};
+use crate::sheet::{SheetAnswer, SheetCall};
 use crate::{check, convert, member, read, remove, set, write, Reading, Refusal};
 
 #[derive(Clone, Debug)]
@@ -61,6 +62,7 @@ pub enum Call {
         room: usize,
     },
     Night(Night),
+    Sheet(SheetCall),
     Endpoint(EndpointCall),
     Plan(PlanCall),
     Guard(GuardCall),
@@ -87,6 +89,7 @@ pub enum Answer {
         bytes: Vec<u8>,
     },
     Night(Walked),
+    Sheet(SheetAnswer),
     Endpoint(EndpointAnswer),
     Plan(PlanAnswer),
     Guard(GuardAnswer),
@@ -109,6 +112,7 @@ impl Call {
             | Call::Set { table, .. }
             | Call::Remove { table, .. } => table,
             Call::Night(night) => &night.table,
+            Call::Sheet(call) => &call.table,
             Call::Endpoint(_) | Call::Plan(_) | Call::Guard(_) => &[],
         }
     }
@@ -158,6 +162,7 @@ impl Call {
                 Answer::of_write(result.err().unwrap_or_default(), result.unwrap_or_default(), &out)
             }
             Call::Night(night) => night.answer().map_or(Answer::Astray, Answer::Night),
+            Call::Sheet(call) => Answer::Sheet(call.answer()),
             Call::Endpoint(call) => call.answer(),
             Call::Plan(call) => call.answer(),
             Call::Guard(call) => call.answer(),
@@ -251,6 +256,10 @@ impl Call {
                 (call, Answer::Write { refusal: refusal()?, out })
             }
             "night" => (Call::Night(Night::parse(&call)?), Answer::Night(Walked::parse(expect)?)),
+            "sheet" => {
+                let (call, answer) = SheetCall::parse(&call)?;
+                (Call::Sheet(call), Answer::Sheet(answer))
+            }
             _ => return None,
         })
     }
@@ -289,6 +298,7 @@ impl Call {
                 hex(message)
             ),
             Call::Night(night) => night.json(),
+            Call::Sheet(call) => call.json(),
             Call::Endpoint(call) => call.json(),
             Call::Plan(call) => call.json(),
             Call::Guard(call) => call.json(),
@@ -328,6 +338,7 @@ impl Answer {
             Answer::Endpoint(endpoint) => endpoint.refusal().0,
             Answer::Plan(plan) => plan.refusal.0,
             Answer::Guard(guard) => guard.refusal.0,
+            Answer::Sheet(sheet) => sheet.refusal.0,
             Answer::View { .. } | Answer::Night(_) | Answer::Astray => 0,
         }
     }
@@ -351,6 +362,7 @@ impl Answer {
             }
             Answer::View { from, bytes } => format!(r#"{{"from":"{from}","bytes":"{}"}}"#, hex(bytes)),
             Answer::Night(walked) => walked.json(),
+            Answer::Sheet(sheet) => sheet.json(),
             Answer::Endpoint(endpoint) => endpoint.json(),
             Answer::Plan(plan) => plan.json(),
             Answer::Guard(guard) => guard.json(),

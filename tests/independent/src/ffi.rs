@@ -3,6 +3,7 @@
 
 pub mod endpoint;
 pub mod night;
+pub mod sheet;
 
 use crate::bursts::{self, PlanAnswer, PlanCall};
 use crate::calls::{Answer, Call, LENT};
@@ -412,6 +413,16 @@ pub fn each(call: &Call, mut run: impl FnMut(&'static str, &mut dyn FnMut())) {
                 black_box(night::place(&call.table, call.top, &call.buffer, call.answers, call.rows));
             });
         }
+        Call::Sheet(call) => {
+            let mut lent = call.sheet.clone();
+            run("icehub_sheet", &mut || {
+                lent.copy_from_slice(&call.sheet);
+                black_box(sheet::sheet(&call.table, call.top, &call.buffer, call.member, &mut lent));
+            });
+            run("icehub_sheet_place", &mut || {
+                black_box(sheet::place(&call.table, call.top, &call.buffer, call.member, &call.sheet));
+            });
+        }
         Call::View { .. } => {}
         Call::Guard(call) => each_guard(call, &mut run),
         Call::Convert { table, top, message, room } => {
@@ -535,6 +546,7 @@ pub fn answer(call: &Call) -> Option<Answer> {
             Some(Answer::Check { refusal })
         }
         Call::Night(call) => Some(night::answer(call).map_or(Answer::Astray, Answer::Night)),
+        Call::Sheet(call) => Some(Answer::Sheet(sheet::answer(call))),
         Call::Endpoint(call) => Some(endpoint::answer(call)),
         Call::Plan(call) => Some(plan_answer(call)),
     }

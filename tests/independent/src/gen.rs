@@ -8,6 +8,7 @@ mod guard;
 mod message;
 mod night;
 mod plans;
+mod sheet;
 mod text;
 mod types;
 
@@ -17,6 +18,7 @@ pub use guard::{guard_call, season};
 pub use message::{message, Message, Wrong};
 pub use night::night;
 pub use plans::plan_calls;
+pub use sheet::sheet;
 pub use text::{Made, Text};
 pub use types::Types;
 

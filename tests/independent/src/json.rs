@@ -27,6 +27,7 @@ impl Json {
         self.long(key)?.try_into().ok()
     }
 
+    /// A number of up to 64 bits.
     pub fn long(&self, key: &str) -> Option<u64> {
         match self.get(key)? {
             Json::Number(number) => Some(*number),

@@ -6,6 +6,7 @@
 //! - [`convert`]: the sliced form of a compact record.
 //! - [`set`], [`remove`]: a message with one optional changed, and all else passed on.
 //! - [`night::night`]: the answers to the messages of a buffer.
+//! - [`sheet::sheet`]: the messages of a buffer added to a season sheet.
 //! - [`endpoint`]: one endpoint of a proxy, opened, written, and found in its proxy.
 //! - [`bursts`]: the check of a burst plan, and a planner.
 //!
@@ -21,6 +22,7 @@ pub mod gen;
 pub mod json;
 pub mod night;
 pub mod replay;
+pub mod sheet;
 pub mod spec;
 
 mod change;

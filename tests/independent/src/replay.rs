@@ -6,6 +6,7 @@ use crate::endpoint::EndpointCall;
 use crate::frost::GuardCall;
 use crate::json::hex;
 use crate::night::Night;
+use crate::sheet::SheetCall;
 use crate::{forms, write, Reading};
 
 /// A recorded call; one of the reader may be made with eight row records in place of the lent list.
@@ -69,6 +70,10 @@ impl<'a> Records<'a> {
                 let (answers, rows) = (b as usize, c as usize);
                 Call::Night(Night { table: held, top: a, buffer: bytes.to_vec(), answers, rows })
             }
+            10 => {
+                let (buffer, sheet) = parts(c)?;
+                Call::Sheet(SheetCall { table: held, top: a, buffer, member: b, sheet })
+            }
             12 | 13 => Call::Endpoint(EndpointCall::of_record(kind, [a, b, c, d, e], bytes)),
             15 | 16 => Call::Plan(PlanCall::of_record(kind, a, bytes)?),
             14 => {
@@ -119,6 +124,9 @@ impl Recorded {
             Call::Night(Night { top, buffer, answers, rows, .. }) => {
                 ([9, *top, *answers as u32, *rows as u32, 0, 0], buffer.clone())
             }
+            Call::Sheet(SheetCall { top, buffer, member, sheet, .. }) => {
+                ([10, *top, *member, buffer.len() as u32, 0, 0], [&buffer[..], sheet].concat())
+            }
             Call::Endpoint(call) => call.record(),
             Call::Plan(call) => {
                 let (kind, first, bytes) = call.record();
@@ -154,6 +162,7 @@ impl Recorded {
             (_, Answer::View { bytes, .. }) => hex(bytes),
             (_, Answer::Write { refusal: (no, place), out }) => numbers(&[*no, *place, out.len() as u32]) + &hex(out),
             (_, Answer::Night(walked)) => walked.line(),
+            (_, Answer::Sheet(sheet)) => sheet.line(),
             (_, Answer::Endpoint(endpoint)) => endpoint.line(),
             (_, Answer::Plan(plan)) => plan.line(),
             (_, Answer::Guard(guard)) => guard.line(),

@@ -20,6 +20,7 @@ const PAGES: &[&str] = &[
     "docs/changes/M-106.md",
     "docs/changes/M-110.md",
     "docs/changes/M-112.md",
+    "docs/changes/M-108.md",
     "samples/README.md",
     "bindings/rust/README.md",
     "tests/independent/README.md",

@@ -1,7 +1,7 @@
 //! The command line, and the help.
 
 use crate::input::Source;
-use crate::{change, convert, guard, night, plan, show};
+use crate::{change, convert, guard, night, plan, sheet, show};
 use std::ffi::OsString;
 
 /// What is to be done.
@@ -14,6 +14,7 @@ pub enum Command {
     Convert(convert::Request),
     Change(change::Request),
     Night(night::Request),
+    Sheet(sheet::Request),
     Plan(plan::Request),
     Guard(guard::Request),
 }
@@ -27,6 +28,7 @@ icehub: shows messages of Ice encodings 1.1 and 1.0 by their type table
   icehub set TABLE TOP IN MEMBER VALUE OUT        set one optional member, and pass on the rest
   icehub remove TABLE TOP IN MEMBER OUT           remove one optional member, and pass on the rest
   icehub night [--json] TABLE TOP FILE            read a file of many messages, a line for each
+  icehub sheet [--json] TABLE TOP MEMBER FILE..   sum up one member over files of many messages
   icehub plan FILE                                plan the satellite bursts of waiting messages
   icehub plan --check FILE PLAN                   check a plan, and say what is wrong with it
   icehub guard [--hex] SETPOINT FILE              replay the reports of a frost guard
@@ -143,6 +145,27 @@ own first byte.
 Exit status: 0 all messages accepted, 1 some refused, 2 something could not be done (arguments, files).
 ";
 
+const SHEET_HELP: &str = "\
+icehub sheet [--json] TABLE TOP MEMBER FILE..
+
+Sums up one short or int member over files of many messages, back to back, as a season sheet: how many messages carry it,
+lack it or are refused, its smallest and largest value, the exact sum, and the mean as whole part and remainder, the
+remainder never negative.
+
+  TABLE    the type table, a file
+  TOP      the wanted type: the number of its row, counted from 0, or the name of an exception or class
+  MEMBER   the number of the member row, counted from 0; icehub table shows it
+  FILE..   the messages; - is standard input
+  --json   one JSON object; what is absent is null
+  --       what follows is no option
+
+What stops the walk over a file (a size under 6, above 65,536, cut off or past its end) is a refused message. A season has
+at most 1,000,000 messages.
+
+Exit status: 0 all messages accepted, 1 some refused, or the member or the season, 2 something could not be done (arguments,
+files).
+";
+
 const PLAN_HELP: &str = "\
 icehub plan FILE
 icehub plan --check FILE PLAN
@@ -195,6 +218,7 @@ pub fn parse(words: impl IntoIterator<Item = OsString>) -> Result<Command, Strin
         Some("set") => parse_change(words, "set"),
         Some("remove") => parse_change(words, "remove"),
         Some("night") => parse_night(words),
+        Some("sheet") => parse_sheet(words),
         Some("plan") => parse_plan(words),
         Some("guard") => parse_guard(words),
         _ => Err(format!("{} is no command; see icehub --help", first.to_string_lossy())),
@@ -342,6 +366,21 @@ fn parse_night(words: impl Iterator<Item = OsString>) -> Result<Command, String>
         Err(top) => return Err(format!("TOP is no text: {}", top.to_string_lossy())),
     };
     Ok(Command::Night(night::Request { json: options.contains(&"--json"), table, top, file }))
+}
+
+fn parse_sheet(words: impl Iterator<Item = OsString>) -> Result<Command, String> {
+    let Some(Words { options, mut operands, .. }) = split(words, &["--json"], "sheet")? else {
+        return Ok(Command::Help(SHEET_HELP));
+    };
+    if operands.len() < 3 {
+        return Err("TABLE, TOP or MEMBER is missing; see icehub sheet --help".to_string());
+    }
+    let member = operands.remove(2);
+    let Some(member) = member.to_str().and_then(|member| member.parse().ok()) else {
+        return Err(format!("MEMBER is no row number: {}", member.to_string_lossy()));
+    };
+    let (table, top, files) = messages(operands, "sheet")?;
+    Ok(Command::Sheet(sheet::Request { json: options.contains(&"--json"), table, top, member, files }))
 }
 
 fn parse_plan(words: impl Iterator<Item = OsString>) -> Result<Command, String> {

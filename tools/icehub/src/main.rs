@@ -10,6 +10,7 @@
 //! - `change`: the commands `set` and `remove`
 //! - `guard`: the command `guard`
 //! - `night`: the command `night`, for a file of many messages
+//! - `sheet`: the command `sheet`, for the season sheet
 //! - `table`: the command `table`; `broken`: what is wrong with a table that breaks a rule
 //! - `accepted`, `refused`: a message for a person; `json`: a message as a line of JSON
 //! - `locate`: the slice and the member at a place of a refused message; `text`: the first bad byte of a string
@@ -29,6 +30,7 @@ mod locate;
 mod night;
 mod plan;
 mod refused;
+mod sheet;
 mod show;
 mod table;
 mod text;
@@ -89,6 +91,7 @@ fn run(out: &mut impl Write, status: &mut Status) -> io::Result<()> {
         Ok(Command::Convert(request)) => convert::run(&request, out, status),
         Ok(Command::Change(request)) => change::run(&request, out, status),
         Ok(Command::Night(request)) => night::run(&request, out, status),
+        Ok(Command::Sheet(request)) => sheet::run(&request, out, status),
         Ok(Command::Plan(request)) => plan::run(&request, out, status),
         Ok(Command::Guard(request)) => guard::run(&request, out, status),
         Err(wrong) => {

@@ -7,6 +7,7 @@
 use independent::endpoint::{self, Given};
 use independent::ffi::endpoint as endpoint_ffi;
 use independent::night::night;
+use independent::sheet::{sheet, SHEET};
 use independent::spec::Spec;
 use independent::{bursts, convert, ffi, frost, read, set, write};
 use std::cell::RefCell;
@@ -346,6 +347,41 @@ impl<'a> Night<'a> {
             *count as u32,
         );
         assert_eq!((answers, rows), (other, other_rows), "{name}");
+    }
+
+    /// The first member of all messages summed up.
+    fn run_sheet(&self) {
+        let Night { name, case: Case { table, top, .. }, buffer, .. } = self;
+        let (mut lent, mut other) = ([0; SHEET], [0; SHEET]);
+        report(
+            &format!("sheet of {name}"),
+            || {
+                lent = [0; SHEET];
+                ffi::sheet::sheet(black_box(table), *top, black_box(buffer), 0, &mut lent)
+            },
+            || {
+                other = [0; SHEET];
+                sheet(black_box(table), *top, black_box(buffer), 0, &mut other).map_or_else(|refusal| refusal.0, |()| 0)
+            },
+            0,
+        );
+        assert_eq!(lent, other, "{name}");
+    }
+
+    /// The same against the night of these messages: at most 1.1 of its time.
+    fn run_sheet_against_night(&self) -> Result<(), String> {
+        let Night { name, case: Case { table, top, .. }, buffer, count } = self;
+        let (mut lent, (mut answers, mut rows)) = ([0; SHEET], self.lists());
+        compare(
+            &format!("sheet of {name}"),
+            || {
+                lent = [0; SHEET];
+                ffi::sheet::sheet(black_box(table), *top, black_box(buffer), 0, &mut lent) + *count as u32
+            },
+            || ffi::night::night(black_box(table), *top, black_box(buffer), &mut answers, &mut rows) as u32,
+            *count as u32,
+            Some(1.1),
+        )
     }
 
     /// The same messages by as many calls of the reader with its numbers.
@@ -718,6 +754,10 @@ fn all_but_logs() -> Vec<String> {
     let nights =
         [Night::new("10,000 of P2", &p2_night, 10_000), Night::new("under 1,024 members", &many_night, 10_000)];
     nights.iter().for_each(Night::run);
+    nights.iter().for_each(Night::run_sheet);
+    println!();
+    heads("icehub_sheet", "icehub_night");
+    let sheets: Vec<_> = nights.iter().map(Night::run_sheet_against_night).collect();
     println!();
     heads("icehub_night", "read_numbers");
     nights.iter().for_each(Night::run_single);
@@ -725,5 +765,5 @@ fn all_but_logs() -> Vec<String> {
     println!();
     heads("call", "from_utf8");
     texts.iter().for_each(Case::run_text);
-    [setting, reporting].into_iter().filter_map(Result::err).collect()
+    [setting, reporting].into_iter().chain(sheets).filter_map(Result::err).collect()
 }

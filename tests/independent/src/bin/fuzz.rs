@@ -1,6 +1,6 @@
 //! fuzz [CALLS [SEED]]: makes calls (1,000,000 by default) of the reader, the writer and the table check, and a member
-//! view, a conversion and a night of each message read, and with each an endpoint opened, one written and one found in a
-//! proxy, a burst plan checked and one made, an optional set or removed, mostly under an older table of a newer message,
+//! view, a conversion, a night and a season sheet of each message read, and with each an endpoint opened, one written and
+//! one found in a proxy, a burst plan checked and one made, an optional set or removed, mostly under an older table of a newer message,
 //! and the result read under both, and with every tenth a season of reports to a frost guard. It compares the proved library
 //! with this implementation in every number and every lent byte. A difference is printed as a line like those of the recorded
 //! calls, the library's answer after it as `got`; with any, or with a change that passes on not all of the rest, the exit
@@ -10,7 +10,7 @@ use independent::bursts::{flat, PlanCall};
 use independent::calls::{Answer, Call};
 use independent::ffi;
 use independent::frost::{Guard, GuardCall, History, STATE};
-use independent::gen::{endpoint_calls, guard_call, night, plan_calls, season, Calls, Changes, Rng, Text};
+use independent::gen::{endpoint_calls, guard_call, night, plan_calls, season, sheet, Calls, Changes, Rng, Text};
 use std::time::{Instant, SystemTime, UNIX_EPOCH};
 use std::{env, process};
 
@@ -46,6 +46,7 @@ fn main() {
     let mut strings = Text::ALL.map(|what| (what, 0));
     let (mut made, mut changed) = (Calls::new(seed), Changes::new(seed));
     let (mut nights, mut other, mut walked, mut stops) = (Rng(seed), vec![], 0, [0; 40]);
+    let (mut sheets, mut sheet_refusals) = (Rng(seed), [0; 54]);
     let (mut endpoints, mut endpoint_refusals) = (Rng(!seed), [[0; 40]; 3]);
     let (mut plans, mut plan_refusals) = (Rng(!seed), [[0; 47]; 2]);
     let (mut seasons, mut reports, mut fired) = (Rng(!seed), [0; 53], 0);
@@ -98,6 +99,11 @@ fn main() {
                     stops[usize::from(last[0])] += 1;
                 }
             }
+        }
+        if let Some(sheet) = sheet(&mut sheets, &call, &other) {
+            let expected = sheet.answer();
+            sheet_refusals[expected.refusal() as usize] += 1;
+            compare(&sheet, &expected);
         }
         if let Call::Read { message, .. } = call {
             other = message;
@@ -166,6 +172,9 @@ fn main() {
         .map(|(number, calls)| format!("{number}: {calls}"))
         .collect();
     println!("{walked} nights; those that end before their buffer, by the last answer: {}", stops.join(", "));
+    let met = sheet_refusals.iter().enumerate().filter(|(_, &calls)| calls > 0);
+    let reached: Vec<_> = met.map(|(number, calls)| format!("{number}: {calls}")).collect();
+    println!("answers by refusal number, season sheets: {}", reached.join(", "));
     println!("refused by 24, by the string: {}", strings.join(", "));
     for (what, refusals) in ["opened", "written", "found in a proxy"].into_iter().zip(endpoint_refusals) {
         let met = refusals.iter().enumerate().filter(|(_, &calls)| calls > 0);

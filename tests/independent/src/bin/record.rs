@@ -56,7 +56,7 @@ fn main() {
 fn is_more(call: &Call) -> bool {
     matches!(
         call,
-        Call::Night(_) | Call::Endpoint(_) | Call::Plan(_) | Call::Set { .. } | Call::Remove { .. } | Call::Guard(_)
+        Call::Night(_) | Call::Sheet(_) | Call::Endpoint(_) | Call::Plan(_) | Call::Set { .. } | Call::Remove { .. } | Call::Guard(_)
     )
 }
 

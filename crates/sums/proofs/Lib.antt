@@ -1,0 +1,2 @@
+-- Laws for the proofs of the numbers of a sheet.
+pub mod Summing
