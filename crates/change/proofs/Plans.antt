@@ -2,7 +2,7 @@
 --
 --   listed-.., compact-.., fresh-..   whether a member is listed; the refusal of a compact record; 3 and 21
 --   end-.., spot-.., slot-..          the exchange at a spot; in a list or a slice
---   read-.., plan-..                  a message that is read
+--   read-..                           a message that is read
 --   answer-.., output-..              the answer, and the output
 --   plan-..                           the plan for an accepted message
 use mathlib.Core.Path.{_≡_, refl, sym, ap, ap₂, _∙_, subst}
@@ -17,7 +17,7 @@ use mir.Syntax.{w32, w64}
 use mir.Val.{Fits}
 use borrow.Author.Tests.{lt-ltb, le-ltb, ltb-false, eqb-true, eqb-false, ne-eqb, le-leb, lt-leb}
 use Rattle.encoding.specs.Result.{Res, ok, bad, pick, firstOf}
-use Rattle.encoding.specs.ResultLaws.{some≢none}
+use Rattle.encoding.specs.ResultLaws.{ok≢bad, some≢none}
 use Rattle.encoding.specs.Number.{Bytes}
 use Rattle.encoding.specs.Types.{Ty, formOf}
 use Rattle.encoding.specs.Value.{exact}
@@ -25,7 +25,7 @@ use Rattle.encoding.specs.Table.{fine, faults, kind, tag, Member, memberTy, tre
 use Rattle.encoding.specs.Table
 use Rattle.encoding.specs.RuleLaws.{optional-own}
 use Rattle.encoding.specs.Slice.{Format, compact, sliced, formatNumber}
-use Rattle.encoding.specs.Message.{Pieces, v10, v11, encodingNumber, Read, Row, rows, rules, body, limit, encode, encapsulate, firstKnown}
+use Rattle.encoding.specs.Message.{Pieces, v10, v11, encodingNumber, Read, Row, rows, rules, limit, encode, encapsulate, firstKnown}
 use Rattle.encoding.specs.View.{Seen, part, fallback, nothing, rowOf, ofChain, seen}
 use Rattle.encoding.specs.Write.{Out, out, stop, next, stoppedFirst, bounded, output, writingOf}
 use Rattle.encoding.specs.Conform.{Conform}
@@ -61,13 +61,14 @@ use Rattle.splice.specs.SplicedLaws.{shaped-cuts, spliced-length}
 use Rattle.slices.specs.declared.Walk.{Walk}
 use Rattle.slices.specs.declared.Walk.the-variants.{Done, Stop as WalkStop}
 use Rattle.slices.specs.Walks.{readDone, bodyWalk}
+use Rattle.reading.specs.Told.{Walked}
 use Rattle.prepare.specs.declared.Prepared.{Prepared}
 use Rattle.prepare.specs.declared.Prepared.the-variants.{Ready, Refused as Turned}
 use Rattle.prepare.specs.Preparing.{checks}
-use Rattle.prepare.specs.PreparingLaws.{ready-short, reading-ready, reading-refused}
+use Rattle.prepare.specs.PreparingLaws.{ready-short, reading-refused}
 use Rattle.change.specs.declared.Plan.{Plan}
 use Rattle.change.specs.declared.Plan.the-variants.{Make, Stop}
-use Rattle.change.specs.Planned.{isPart, compactPlan, freshForm, cutAt, atSpot, atSlot, locatedPlan, slicedPlan, contentOf, Planned, Ripe, PlannedFor, PlannedRead, PlanFits}
+use Rattle.change.specs.Planned.{isPart, compactPlan, freshForm, cutAt, atSpot, atSlot, locatedPlan, slicedPlan, contentOf, Planned, Ripe, PlannedFor, PlanFits}
 use Rattle.change.specs.PlannedLaws.{planned-located}
 
 -- ---- whether a member is listed
@@ -414,47 +415,51 @@ module _ (T : List ℕ) (top : ℕ) (m : List ℕ) (n : ℕ) (q : Bool) (b : Lis
   unfolding changed
   refused-rules c p e = let N = refusal-numbered (rules-refused T top m e) in (ap (changed T top n (contentOf q b)) e, omega (arith, N .known-number), omega (arith, N .small-place))
 
-  module _ (w : Walk) (ew : w ≡ bodyWalk T top (body T top m)) where
-    pub read-stopped : (c p : ℕ) → w ≡ WalkStop c p → PlannedRead T top m n q b (Stop c p)
+  module _ (w : Walk) (list last : List ℕ) (W : Walked T top m w list last) where
+    pub read-stopped : (c p : ℕ) → w ≡ WalkStop c p → (q ≡ false → length b ≤ 65536) → Ripe (changed T top n (contentOf q b) (rules T top m)) m b (Stop c p)
     unfolding bodyWalk readDone
-    read-stopped c p e y hb h = go (body T top m) refl (sym e ∙ ew)
+    read-stopped c p e hb = record { planned = go (rules T top m) refl (sym e ∙ W .says) }
       where
-        go : (r : Res Read) → body T top m ≡ r → WalkStop c p ≡ bodyWalk T top r → Planned (changed T top n (contentOf q b) (rules T top m)) m b (Stop c p)
+        go : (r : Res Read) → rules T top m ≡ r → WalkStop c p ≡ bodyWalk T top r → Planned (changed T top n (contentOf q b) (rules T top m)) m b (Stop c p)
         go (ok r j) f g = let z : _≡_ {A = ℕ} 0 1 = cc in absurd (omega arith)
         go (bad c′ p′) f g =
             let a : c′ ≡ c = cc in
             let d : p′ ≡ p = cc in
-            refused-rules c p (h ∙ f ∙ ap₂ bad a d)
+            refused-rules c p (f ∙ ap₂ bad a d)
 
     module _ (a f k o s e : ℕ) (d : w ≡ Done a f k o s e) where
-      done : (r : Read) × (j : ℕ) × (body T top m ≡ ok r j) × (a ≡ firstKnown T top (r .pieces)) × (f ≡ encodingNumber (r .format))
+      done : (r : Read) × (j : ℕ) × (rules T top m ≡ ok r j) × (a ≡ firstKnown T top (r .pieces)) × (f ≡ encodingNumber (r .format))
       unfolding bodyWalk readDone
-      done = go (body T top m) refl (sym d ∙ ew)
+      done = go (rules T top m) refl (sym d ∙ W .says)
         where
-          go : (r : Res Read) → body T top m ≡ r → Done a f k o s e ≡ bodyWalk T top r → (r : Read) × (j : ℕ) × (body T top m ≡ ok r j) × (a ≡ firstKnown T top (r .pieces)) × (f ≡ encodingNumber (r .format))
+          go : (r : Res Read) → rules T top m ≡ r → Done a f k o s e ≡ bodyWalk T top r → (r : Read) × (j : ℕ) × (rules T top m ≡ ok r j) × (a ≡ firstKnown T top (r .pieces)) × (f ≡ encodingNumber (r .format))
           go (ok r j) u g =
               let x : a ≡ firstKnown T top (r .pieces) = cc in
               let z : f ≡ encodingNumber (r .format) = cc in
               (r, j, u, x, z)
           go (bad c p) u g = let z : _≡_ {A = ℕ} 0 1 = cc in absurd (omega arith)
 
-      pub read-short : length m < 6 → PlannedRead T top m n q b (Stop 4 0)
-      read-short l y hb h =
-          let F = exact-message T top m (done .0 .format) (done .0 .pieces) (done .1) y .0 (h ∙ done .2) .0 in
+      -- the checks refused nothing
+      fine-checks : checks T top 1 (length m) ≡ Ready
+      fine-checks = go (checks T top 1 (length m)) refl
+        where
+          go : (p : Prepared) → p ≡ checks T top 1 (length m) → checks T top 1 (length m) ≡ Ready
+          go Ready x = sym x
+          go (Turned c p) x = absurd (ok≢bad (done .2) (reading-refused T top m (length m) refl (Turned c p) x c p refl))
+
+      pub read-shapes : (l : List ℕ) → (checks T top 1 (length m) ≡ Ready → l ≡ shapesOf T) → l ≡ shapesOf T
+      read-shapes l g = g fine-checks
+
+      pub read-few : length m ≤ 65536
+      read-few = ready-short T top 1 (length m) Ready (sym fine-checks) refl
+
+      pub read-short : length m < 6 → (q ≡ false → length b ≤ 65536) → Ripe (changed T top n (contentOf q b) (rules T top m)) m b (Stop 4 0)
+      read-short l hb =
+          let F = exact-message T top m (done .0 .format) (done .0 .pieces) (done .1) (W .bytes) .0 (done .2) .0 in
           absurd (omega (arith, ap length (F .encoded) ∙ length-encapsulate (done .0 .format) (encode (done .0 .format) (done .0 .pieces))))
 
-      pub read-done : (p : Plan) → PlannedFor T top a f m n q b p → PlannedRead T top m n q b p
-      read-done p P y hb h = P y hb (done .0 .format) (done .0 .pieces) (done .1) (h ∙ done .2) (done .3) (done .4)
-
-  module _ (pr : Prepared) (ep : pr ≡ checks T top 1 (length m)) (y : Bytes m) where
-    pub plan-ready : pr ≡ Ready → (p : Plan) → PlannedRead T top m n q b p → (q ≡ false → length b ≤ 65536) → Ripe (changed T top n (contentOf q b) (rules T top m)) m b p
-    plan-ready e p P hb = record { planned = P y hb (reading-ready T top m (length m) refl pr ep e) }
-
-    pub plan-refused : (c p : ℕ) → pr ≡ Turned c p → (q ≡ false → length b ≤ 65536) → Ripe (changed T top n (contentOf q b) (rules T top m)) m b (Stop c p)
-    plan-refused c p e hb = record { planned = refused-rules c p (reading-refused T top m (length m) refl pr ep c p e) }
-
-    pub plan-short : pr ≡ Ready → length m ≤ 65536
-    plan-short e = ready-short T top 1 (length m) pr ep e
+      pub read-done : (p : Plan) → PlannedFor T top a f m n q b p → (q ≡ false → length b ≤ 65536) → Ripe (changed T top n (contentOf q b) (rules T top m)) m b p
+      read-done p P hb = record { planned = P (W .bytes) hb (done .0 .format) (done .0 .pieces) (done .1) (done .2) (done .3) (done .4) }
 
 -- ---- the answer
 

@@ -8,7 +8,7 @@
 --   Planned o m b p       plan p is what o says: the message m with bytes exchanged for b, or a refusal
 --   Ripe                  the same as a record
 --   PlanFits              what a plan asks before it is carried out
---   PlannedFor, PlannedRead   the same for a message that is accepted; for one that is read
+--   PlannedFor            the same for a message that is accepted
 use mathlib.Core.Path.{_≡_}
 use mathlib.Core.Bool.{Bool, true, false, _&&_, _||_, not}
 use mathlib.Core.Option.{Option, none, some}
@@ -22,7 +22,7 @@ use Rattle.encoding.specs.Types.{Ty, formOf}
 use Rattle.encoding.specs.Table.{kind, tag, memberTy, trees}
 use Rattle.shapes.specs.Shapes.{formNumber}
 use Rattle.encoding.specs.Value.{exact}
-use Rattle.encoding.specs.Message.{Pieces, Encoding, encodingNumber, rules, body, firstKnown}
+use Rattle.encoding.specs.Message.{Pieces, Encoding, encodingNumber, rules, firstKnown}
 use Rattle.encoding.specs.Write.{Out, out, stop}
 use Rattle.laws.specs.Demands.{readAs}
 use Rattle.view.specs.declared.View.{View}
@@ -99,11 +99,6 @@ abbrev pub PlannedFor : List ℕ → ℕ → ℕ → ℕ → List ℕ → ℕ �
 PlannedFor T top first format m member setting b p =
     Bytes m → (setting ≡ false → length b ≤ 65536) → (e : Encoding) (ps : Pieces) (n : ℕ) → rules T top m ≡ ok (readAs e ps) n → first ≡ firstKnown T top ps → format ≡ encodingNumber e
     → Planned (changed T top member (contentOf setting b) (rules T top m)) m b p
-
--- of a message whose body is read after the checks, which refuse nothing
-abbrev pub PlannedRead : List ℕ → ℕ → List ℕ → ℕ → Bool → List ℕ → Plan → Type 0
-PlannedRead T top m member setting b p =
-    Bytes m → (setting ≡ false → length b ≤ 65536) → rules T top m ≡ body T top m → Planned (changed T top member (contentOf setting b) (rules T top m)) m b p
 
 -- what a plan asks before it is carried out: its places in order, its bytes few; a refusal's numbers small
 abbrev pub PlanFits : ℕ → ℕ → Plan → Type 0

@@ -11,9 +11,8 @@ ghost use Rattle.edit.specs.Change.{changed};
 ghost use Rattle.shapes.specs.Shapes.{shapesOf};
 ghost use Rattle.view.specs.Views.{viewAnswer};
 ghost use Rattle.seek.specs.Located.{asGap};
-ghost use Rattle.change.specs.Planned.{isPart, compactPlan, freshForm, atSpot, locatedPlan, slicedPlan, contentOf, Ripe, PlannedFor, PlannedRead};
+ghost use Rattle.change.specs.Planned.{isPart, compactPlan, freshForm, atSpot, locatedPlan, slicedPlan, contentOf, Ripe, PlannedFor};
 use crate::Plan;
-use prepare::Prepared;
 use seek::Slot;
 use seek::Spot;
 use slices::Walk;
@@ -259,21 +258,26 @@ fn accepted(
     }
 }
 
-// Reads the message under a prepared table, and plans the change of an accepted one.
-fn read(table: &[u8], top: u32, message: &[u8], member: u32, setting: bool, bytes: &[u8]) -> Plan
-    requires { ⌜ length (now message) ≤ 65536 ⌝ }
-    ensures { λ r. ⌜ PlannedRead (now (table .entry)) top (now (message .entry)) member setting (now (bytes .entry)) r ⌝ }
+// Checks the table, the top and the message's length, reads the message, and plans the change of an accepted one.
+pub fn plan(
+    table: &[u8],
+    top: u32,
+    message: &[u8],
+    member: u32,
+    setting: bool,
+    bytes: &[u8],
+) -> Plan
+    ensures { λ r. ⌜ ((setting ≡ false → length (now (bytes .entry)) ≤ 65536) → Ripe (changed (now (table .entry)) top member (contentOf setting (now (bytes .entry))) (rules (now (table .entry)) top (now (message .entry)))) (now (message .entry)) (now (bytes .entry)) r) ⌝ }
 {
-    let mut shapes = [0u8; 256];
-    let begin = table::types_at(table);
-    shapes::fill(table, begin, &mut shapes);
+    let mut shapes = [10u8; 256];
     let mut none = [0u8; 12];
-    let w = reader::body(table, begin, &shapes, top as usize, message, &mut none);
+    let w = reading::walk(table, top as usize, message, false, &mut shapes, &mut none);
     match w {
         Walk::Done(first, format, n, optionals, slices, end) => {
             if message.len() < 6 {
                 return Plan::Stop(4, 0);
             }
+            let begin = table::types_at(table);
             accepted(
                 table,
                 begin,
@@ -288,24 +292,5 @@ fn read(table: &[u8], top: u32, message: &[u8], member: u32, setting: bool, byte
             )
         }
         Walk::Stop(c, p) => Plan::Stop(c, p),
-    }
-}
-
-// Checks the table, the top and the message's length first.
-pub fn plan(
-    table: &[u8],
-    top: u32,
-    message: &[u8],
-    member: u32,
-    setting: bool,
-    bytes: &[u8],
-) -> Plan
-    ensures { λ r. ⌜ ((setting ≡ false → length (now (bytes .entry)) ≤ 65536) → Ripe (changed (now (table .entry)) top member (contentOf setting (now (bytes .entry))) (rules (now (table .entry)) top (now (message .entry)))) (now (message .entry)) (now (bytes .entry)) r) ⌝ }
-{
-    prepare::byte_count(message);
-    let p = prepare::prepare(table, top as usize, 1, message.len());
-    match p {
-        Prepared::Refused(c, q) => Plan::Stop(c, q),
-        Prepared::Ready => read(table, top, message, member, setting, bytes),
     }
 }

@@ -2,20 +2,21 @@
 --
 --   count-done, count-stop             the rows of a walk, case by case
 --   told-done, told-short, told-stop   the answer of a walk, case by case
---   anew-ready, anew-walked            what is asked and given of slices taken anew
---   unasked                            nothing is asked where the checks are made
---   ready-known                        nothing is refused where they are left out
+--   anew-lent, anew-walked, anew-shapes   what is asked and given of slices taken anew
+--   unasked                            10s are lent where the checks are made; lent-ready: the shapes, where they are not
+--   ready-known, ready-shapes          what is known where they are left out; blank-lent where they are made
+--   stop-found, ready-found            what the checks found; no-shapes, shapes-there the shapes then
 --   stop-walked, body-walked           a check refuses, or the walk over the body says all
 --   told-walked, told-listed           the answer of a walk
 --   rows-put                           a list that holds the rows, after they are put
---   list-short, list-few, list-more    the lent list if it has no room, or if the rows come from a list of 21 rows, or of 128
---   walk-ready, list-again             where there are more rows nothing was refused; the lent list after a second walk
+--   list-short, list-few, -some, -more the lent list if it has no room, or if the rows come from a list of 5 rows, of 21 or of 128
+--   lent-again, list-again             where there are more rows nothing was refused; the lent list after a second walk
 use mathlib.Core.Path.{_≡_, refl, sym, ap, ap₂, _∙_}
 use mathlib.Core.Bool.{Bool, true, false}
 use mathlib.Core.List.{List, [], _∷_, _++_}
 use Prim.Native.Nat.{ℕ, _+_, _-_, _*_, _/_, _≤_, _<_}
 use native.Mathlib.Omega.{arith}
-use lib.ListN.{length, take, drop}
+use lib.ListN.{length, take, drop, replicate}
 use lib.Seq.{take-at}
 use lib.Dec.{eqb, leb}
 use borrow.Author.Tests.{le-leb, lt-leb, ne-eqb}
@@ -41,7 +42,8 @@ use Rattle.prepare.specs.Preparing.{checks}
 use Rattle.prepare.specs.PreparingLaws.{reading-ready, reading-refused}
 use Rattle.prepare.specs.declared.Prepared.{Prepared}
 use Rattle.prepare.specs.declared.Prepared.the-variants.{Ready, Refused as Stopped}
-use Rattle.reading.specs.Told.{Walked, Listed, low, toldOf, rowCount}
+use Rattle.shapes.specs.Shapes.{shapesOf}
+use Rattle.reading.specs.Told.{Lent, Walked, Listed, low, toldOf, rowCount}
 
 -- ---- a walk, case by case
 
@@ -127,15 +129,32 @@ module _ (T : List ℕ) (top : ℕ) (m : List ℕ) (b : ℕ) where
 abbrev anew : List ℕ → List ℕ
 anew s = take (length s - 0) (drop 0 s)
 
+no-ready : false ≡ true → ⊥
+no-ready e = let z : _≡_ {A = ℕ} 0 1 = cc in omega arith
+
 module _ (T : List ℕ) (top : ℕ) (m : List ℕ) where
-  pub anew-ready : (b : Bool) → (b ≡ true → checks T top 1 (length m) ≡ Ready) → b ≡ true → checks (anew T) top 1 (length (anew m)) ≡ Ready
-  anew-ready b h e = rw (rest-is T 0, rest-is m 0) (h e)
+  pub anew-lent : (b : Bool) (s : List ℕ) → Lent T top (length m) b s → Lent (anew T) top (length (anew m)) b s
+  anew-lent b s L = rw (rest-is T 0, rest-is m 0) L
+
+  pub anew-shapes : (s : List ℕ) → (checks (anew T) top 1 (length (anew m)) ≡ Ready → s ≡ shapesOf (anew T)) → checks T top 1 (length m) ≡ Ready → s ≡ shapesOf T
+  anew-shapes s h = rw (rest-is T 0, rest-is m 0) at h
 
   pub anew-walked : (w : Walk) (out last : List ℕ) → Walked (anew T) top (anew m) w out last → Walked T top m w out last
   anew-walked w out last W = rw (rest-is T 0, rest-is m 0) at W
 
-  pub unasked : false ≡ true → checks T top 1 (length m) ≡ Ready
-  unasked e = let z : _≡_ {A = ℕ} 0 1 = cc in absurd (omega arith)
+  pub unasked : Lent T top (length m) false (replicate 256 10)
+  unasked = record {
+    known = λ e. absurd (no-ready e);
+    given = λ e. absurd (no-ready e);
+    blank = λ e. refl;
+  }
+
+  pub lent-ready : checks T top 1 (length m) ≡ Ready → (s : List ℕ) → s ≡ shapesOf T → Lent T top (length m) true s
+  lent-ready h s e = record {
+    known = λ q. h;
+    given = λ q. e;
+    blank = λ q. absurd (no-ready (sym q));
+  }
 
   pub told-walked : (w : Walk) (out last : List ℕ) → Walked T top m w out last → (b : ℕ) (r : Reading) → r ≡ toldOf (b / 12) w → r ≡ readingOf (reading T top m b)
   told-walked w out last W b r er = er ∙ ap (toldOf (b / 12)) (W .says) ∙ told-rules T top m b (W .bytes)
@@ -145,8 +164,28 @@ module _ (T : List ℕ) (top : ℕ) (m : List ℕ) where
 
 -- ---- the checks before the message
 
-pub ready-known : (T : List ℕ) (top l : ℕ) (b : Bool) → (b ≡ true → checks T top 1 l ≡ Ready) → b ≡ true → Ready ≡ checks T top 1 l
-ready-known T top l b h e = sym (h e)
+module _ (T : List ℕ) (top l : ℕ) (b : Bool) (s : List ℕ) (L : Lent T top l b s) where
+  pub ready-known : b ≡ true → Ready ≡ checks T top 1 l
+  ready-known e = sym (L .known e)
+
+  pub ready-shapes : b ≡ true → checks T top 1 l ≡ Ready → s ≡ shapesOf T
+  ready-shapes e h = L .given e
+
+  pub blank-lent : b ≡ false → s ≡ replicate 256 10
+  blank-lent e = L .blank e
+
+module _ (T : List ℕ) (top l : ℕ) (p : Prepared) (ep : p ≡ checks T top 1 l) where
+  pub stop-found : (c q : ℕ) → p ≡ Stopped c q → Stopped c q ≡ checks T top 1 l
+  stop-found c q e = sym e ∙ ep
+
+  pub ready-found : p ≡ Ready → Ready ≡ checks T top 1 l
+  ready-found e = sym e ∙ ep
+
+  pub no-shapes : (c q : ℕ) → p ≡ Stopped c q → (s : List ℕ) → checks T top 1 l ≡ Ready → s ≡ shapesOf T
+  no-shapes c q e s h = let z : _≡_ {A = ℕ} 0 1 = cc in absurd (omega arith)
+
+  pub shapes-there : p ≡ Ready → (s : List ℕ) → (checks T top 1 l ≡ Ready → s ≡ shapesOf T) → s ≡ shapesOf T
+  shapes-there e s h = h (sym ep ∙ e)
 
 module _ (T : List ℕ) (top : ℕ) (m : List ℕ) (y : Bytes m) (p : Prepared) (ep : p ≡ checks T top 1 (length m)) where
   pub stop-walked : (c q : ℕ) → p ≡ Stopped c q → (out : List ℕ) → Walked T top m (Stop c q) out out
@@ -232,14 +271,17 @@ module _ (T : List ℕ) (top : ℕ) (m own last R : List ℕ) (w : Walk) (W : Wa
             ap (λ (z : List ℕ). put 0 z R) (ap (take (12 * length (r ∷ rs))) e ∙ take-at all (drop (12 * length (r ∷ rs)) own) (12 * length (r ∷ rs)) len)
             ∙ put-front all R (omega arith) ∙ ap (λ (i : ℕ). all ++ drop i R) len
 
-    pub list-few : length R / 12 ≤ 21 → length own ≡ 252 → (x : List ℕ) → x ≡ put 0 (take (12 * n) (drop 0 last)) R → Listed T top m w R x
+    pub list-few : length R / 12 ≤ 5 → length own ≡ 60 → (x : List ℕ) → x ≡ put 0 (take (12 * n) (drop 0 last)) R → Listed T top m w R x
     list-few f l = list-own (omega arith)
+
+    pub list-some : length R / 12 ≤ 21 → length own ≡ 252 → (x : List ℕ) → x ≡ put 0 (take (12 * n) (drop 0 last)) R → Listed T top m w R x
+    list-some f l = list-own (omega arith)
 
     pub list-more : n ≤ 128 → length own ≡ 1536 → (x : List ℕ) → x ≡ put 0 (take (12 * n) (drop 0 last)) R → Listed T top m w R x
     list-more f l = list-own (omega arith)
 
     module _ (many : 128 < n) where
-      pub walk-ready : checks T top 1 (length m) ≡ Ready
+      walk-ready : checks T top 1 (length m) ≡ Ready
       unfolding rowCount bodyWalk
       walk-ready = go (checks T top 1 (length m)) refl
         where
@@ -248,6 +290,9 @@ module _ (T : List ℕ) (top : ℕ) (m own last R : List ℕ) (w : Walk) (W : Wa
           go (Stopped c q) e =
               let none : n ≡ 0 = en ∙ ap rowCount (W .says ∙ ap (bodyWalk T top) (reading-refused T top m (length m) refl (Stopped c q) e c q refl)) in
               absurd (omega arith)
+
+      pub lent-again : (s : List ℕ) → (checks T top 1 (length m) ≡ Ready → s ≡ shapesOf T) → Lent T top (length m) true s
+      lent-again s h = lent-ready T top m walk-ready s (h walk-ready)
 
       pub list-again : (x : List ℕ) (u : Walk) → Walked T top m u R x → Listed T top m w R x
       list-again x u U =

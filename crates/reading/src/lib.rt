@@ -1,13 +1,13 @@
 // The reader's calls: the answer, and the rows in a lent list. `read`, `answer` and `read_numbers` ask nothing of their input.
-// `walk` is called with `ready` by a caller that has checked the table, the top and the length: so none is checked twice.
+// `walk` is called with `ready` by a caller that has checked the table, the top and the length, and has the shapes: so none is checked or computed twice.
 ghost use mathlib.Core.Path.{_≡_};
-ghost use mathlib.Core.Bool.{true};
 ghost use Prim.Native.Nat.{_/_, _≤_};
 ghost use lib.ListN.{length};
 ghost use Rattle.encoding.specs.Message.{reading, listed, readingOf};
 ghost use Rattle.prepare.specs.Preparing.{checks};
 ghost use Rattle.prepare.specs.declared.Prepared.the-variants.{Ready};
-ghost use Rattle.reading.specs.Told.{Walked, Listed, low, toldOf, rowCount};
+ghost use Rattle.shapes.specs.Shapes.{shapesOf};
+ghost use Rattle.reading.specs.Told.{Lent, Walked, Listed, low, toldOf, rowCount};
 ghost use Rattle.reading.specs.Numbers.{readingNumbered, shortOf, fiveNumbers, withNumbers};
 use encoding::Reading;
 use prepare::Prepared;
@@ -46,54 +46,93 @@ fn row_count(w: Walk) -> usize
     }
 }
 
-// What `prepare` finds; nothing is checked if nothing is known to be refused.
-fn prepared(table: &[u8], top: usize, len: usize, ready: bool) -> Prepared
-    requires { ⌜ (ready ≡ true → checks (now table) top 1 len ≡ Ready) ⌝ }
+// What `prepare` finds; if it refuses nothing, the shapes are filled. Where the caller has both, nothing is done.
+fn prepared(table: &[u8], top: usize, len: usize, ready: bool, shapes: &mut [u8; 256]) -> Prepared
+    requires { ⌜ Lent (now table) top len ready (now shapes) ⌝ }
     ensures { λ r. ⌜ r ≡ checks (now (table .entry)) top 1 len ⌝ }
+    ensures { λ _. ⌜ (checks (now (table .entry)) top 1 len ≡ Ready → now (shapes .exit) ≡ shapesOf (now (table .entry))) ⌝ }
 {
     if ready {
         return Prepared::Ready;
     }
-    prepare::prepare(table, top, 1, len)
-}
-
-// Checks and walks.
-fn checked(table: &[u8], top: usize, message: &[u8], ready: bool, out: &mut [u8]) -> Walk
-    requires { ⌜ (ready ≡ true → checks (now table) top 1 (length (now message)) ≡ Ready) ⌝ }
-    ensures { λ r. ⌜ Walked (now (table .entry)) top (now (message .entry)) r (now (out .entry)) (now (out .exit)) ⌝ }
-{
-    prepare::byte_count(message);
-    let p = prepared(table, top, message.len(), ready);
+    let p = prepare::prepare(table, top, 1, len);
     match p {
-        Prepared::Refused(c, q) => Walk::Stop(c, q),
+        Prepared::Refused(c, q) => Prepared::Refused(c, q),
         Prepared::Ready => {
-            let mut shapes = [0u8; 256];
-            let begin = table::types_at(table);
-            shapes::fill(table, begin, &mut shapes);
-            reader::body(table, begin, &shapes, top, message, out)
+            shapes::fill(table, table::types_at(table), shapes);
+            Prepared::Ready
         }
     }
 }
 
-// The checks, then the walk over the message; `ready` says that the checks are known to refuse nothing, and leaves them out. It puts the rows of an accepted message into the list, those that fit.
-// The slices are passed as new parts: passing them unchanged causes a store-forwarding stall.
-pub fn walk(table: &[u8], top: usize, message: &[u8], ready: bool, out: &mut [u8]) -> Walk
-    requires { ⌜ (ready ≡ true → checks (now table) top 1 (length (now message)) ≡ Ready) ⌝ }
+// Checks and walks.
+fn checked(
+    table: &[u8],
+    top: usize,
+    message: &[u8],
+    ready: bool,
+    shapes: &mut [u8; 256],
+    out: &mut [u8],
+) -> Walk
+    requires { ⌜ Lent (now table) top (length (now message)) ready (now shapes) ⌝ }
     ensures { λ r. ⌜ Walked (now (table .entry)) top (now (message .entry)) r (now (out .entry)) (now (out .exit)) ⌝ }
+    ensures { λ _. ⌜ (checks (now (table .entry)) top 1 (length (now (message .entry))) ≡ Ready → now (shapes .exit) ≡ shapesOf (now (table .entry))) ⌝ }
 {
-    checked(&table[0..], top, &message[0..], ready, out)
+    prepare::byte_count(message);
+    let p = prepared(table, top, message.len(), ready, shapes);
+    match p {
+        Prepared::Refused(c, q) => Walk::Stop(c, q),
+        Prepared::Ready => {
+            let begin = table::types_at(table);
+            reader::body(table, begin, shapes, top, message, out)
+        }
+    }
 }
 
-// Walks into a list of the call's own and copies the rows, since the lent list must stay on a refusal. The lent list has room for at most 21 rows: so short a list is cleared without a call.
+// The checks, then the walk over the message. It puts the rows of an accepted message into the list, those that fit. The caller lends an array for the shapes; where the checks refuse nothing it holds them afterwards.
+// `ready` says that it holds them already, and that the checks are known to refuse nothing: both are left out. So whoever walks more than once calls this function too, and the walk itself, called at one place, is inlined here.
+// The slices are passed as new parts: passing them unchanged causes a store-forwarding stall.
+pub fn walk(
+    table: &[u8],
+    top: usize,
+    message: &[u8],
+    ready: bool,
+    shapes: &mut [u8; 256],
+    out: &mut [u8],
+) -> Walk
+    requires { ⌜ Lent (now table) top (length (now message)) ready (now shapes) ⌝ }
+    ensures { λ r. ⌜ Walked (now (table .entry)) top (now (message .entry)) r (now (out .entry)) (now (out .exit)) ⌝ }
+    ensures { λ _. ⌜ (checks (now (table .entry)) top 1 (length (now (message .entry))) ≡ Ready → now (shapes .exit) ≡ shapesOf (now (table .entry))) ⌝ }
+{
+    checked(&table[0..], top, &message[0..], ready, shapes, out)
+}
+
+// Walks into a list of the call's own and copies the rows, since the lent list must stay on a refusal. The lent list has room for at most 5 rows: so short a list is cleared by four stores.
 fn walk_few(table: &[u8], top: usize, message: &[u8], rows: &mut [u8]) -> Walk
-    requires { ⌜ length (now rows) / 12 ≤ 21 ⌝ }
+    requires { ⌜ length (now rows) / 12 ≤ 5 ⌝ }
     ensures { λ r. ⌜ Listed (now (table .entry)) top (now (message .entry)) r (now (rows .entry)) (now (rows .exit)) ⌝ }
 {
-    let mut few = [0u8; 252];
-    let w = walk(table, top, message, false, &mut few);
+    let mut shapes = [10u8; 256];
+    let mut few = [0u8; 60];
+    let w = walk(table, top, message, false, &mut shapes, &mut few);
     let count = row_count(w);
     if count <= rows.len() / 12 {
         wire::put_part(rows, 0, &few, 0, 12 * count);
+    }
+    w
+}
+
+// The same for a lent list that has room for at most 21 rows: it is cleared by sixteen stores, without a call.
+fn walk_some(table: &[u8], top: usize, message: &[u8], rows: &mut [u8]) -> Walk
+    requires { ⌜ length (now rows) / 12 ≤ 21 ⌝ }
+    ensures { λ r. ⌜ Listed (now (table .entry)) top (now (message .entry)) r (now (rows .entry)) (now (rows .exit)) ⌝ }
+{
+    let mut shapes = [10u8; 256];
+    let mut some = [0u8; 252];
+    let w = walk(table, top, message, false, &mut shapes, &mut some);
+    let found = row_count(w);
+    if found <= rows.len() / 12 {
+        wire::put_part(rows, 0, &some, 0, 12 * found);
     }
     w
 }
@@ -102,14 +141,15 @@ fn walk_few(table: &[u8], top: usize, message: &[u8], rows: &mut [u8]) -> Walk
 fn walk_more(table: &[u8], top: usize, message: &[u8], rows: &mut [u8]) -> Walk
     ensures { λ r. ⌜ Listed (now (table .entry)) top (now (message .entry)) r (now (rows .entry)) (now (rows .exit)) ⌝ }
 {
+    let mut shapes = [10u8; 256];
     let mut more = [0u8; 1536];
-    let w = walk(table, top, message, false, &mut more);
+    let w = walk(table, top, message, false, &mut shapes, &mut more);
     let n = row_count(w);
     if n <= rows.len() / 12 {
         if n <= 128 {
             wire::put_part(rows, 0, &more, 0, 12 * n);
         } else {
-            walk(table, top, message, true, rows);
+            walk(table, top, message, true, &mut shapes, rows);
         }
     }
     w
@@ -122,8 +162,11 @@ pub fn read(table: &[u8], top: u32, message: &[u8], rows: &mut [u8]) -> Reading
     ensures { λ _. ⌜ now (rows .exit) ≡ listed (reading (now (table .entry)) top (now (message .entry)) (length (now (rows .entry)))) (now (rows .entry)) ⌝ }
 {
     let k = rows.len() / 12;
-    if k <= 21 {
+    if k <= 5 {
         return told(walk_few(table, top as usize, message, rows), k);
+    }
+    if k <= 21 {
+        return told(walk_some(table, top as usize, message, rows), k);
     }
     told(walk_more(table, top as usize, message, rows), k)
 }
@@ -133,8 +176,9 @@ pub fn read(table: &[u8], top: u32, message: &[u8], rows: &mut [u8]) -> Reading
 pub fn answer(table: &[u8], top: u32, message: &[u8], room: usize) -> Reading
     ensures { λ r. ⌜ r ≡ readingOf (reading (now (table .entry)) top (now (message .entry)) room) ⌝ }
 {
+    let mut shapes = [10u8; 256];
     let mut none = [0u8; 12];
-    let w = walk(table, top as usize, message, false, &mut none);
+    let w = walk(table, top as usize, message, false, &mut shapes, &mut none);
     told(w, room / 12)
 }
 
@@ -215,8 +259,11 @@ pub fn read_numbers(
         return short(answer(table, top, message, rows.len()));
     }
     let room = rows.len() / 12;
-    if room <= 21 {
+    if room <= 5 {
         return numbered(walk_few(table, top as usize, message, rows), room, numbers);
+    }
+    if room <= 21 {
+        return numbered(walk_some(table, top as usize, message, rows), room, numbers);
     }
     numbered(walk_more(table, top as usize, message, rows), room, numbers)
 }

@@ -13,7 +13,7 @@ fn letter(form: usize) {
 
 // Prints the form of each row of a table.
 fn forms(table: &[u8]) {
-    let mut shapes = [0u8; 256];
+    let mut shapes = [10u8; 256];
     shapes::fill(table, table::types_at(table), &mut shapes);
     let n = table::rows(table);
     let mut t = 0;

@@ -323,12 +323,12 @@ pub record Filling (T shapes : List ℕ) (t : ℕ) : Type 0 where
   pub done : Shaped T shapes t
   pub behind : (i : ℕ) → t ≤ i → i < 256 → getD shapes i 0 ≡ 10
 
-pub filling-begin : (T : List ℕ) → Filling T (replicate 256 10) 0
-filling-begin T = record {
+pub filling-begin : (T shapes : List ℕ) → shapes ≡ replicate 256 10 → Filling T shapes 0
+filling-begin T shapes e = record {
   few = omega arith;
-  size = length-replicate {A = ℕ} 256 10;
+  size = ap length e ∙ length-replicate {A = ℕ} 256 10;
   done = record { below = λ i l. absurd (omega arith) };
-  behind = λ i h l. getD-replicate {A = ℕ} 256 i 10 0 l;
+  behind = λ i h l. ap (λ (z : List ℕ). getD z i 0) e ∙ getD-replicate {A = ℕ} 256 i 10 0 l;
 }
 
 module _ (T shapes : List ℕ) (t : ℕ) (inv : Filling T shapes t) where

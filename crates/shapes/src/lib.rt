@@ -2,6 +2,7 @@
 // A shape is a number that says two things of the row's type: the form of an optional and, if every string of n bytes is a value, that n, the width.
 ghost use mathlib.Core.Path.{_≡_};
 ghost use Prim.Native.Nat.{_≤_, _<_};
+ghost use lib.ListN.{replicate};
 ghost use Rattle.encoding.specs.Result.{pick};
 ghost use Rattle.encoding.specs.Types.{fixed, fixeds, struct, seq, dict};
 ghost use Rattle.encoding.specs.Table.{typesAt, field, memberTys, ownRows, tys, partTy, typeRows};
@@ -258,13 +259,13 @@ fn row_shape(table: &[u8], begin: usize, shapes: &[u8; 256], t: usize) -> u8
     plain(k)
 }
 
-// Sets the shape of each row; rows that the table does not have are broken.
+// Sets the shape of each row. The caller has made the array of 10s, the shape of a broken row: rows that the table does not have stay.
 pub fn fill(table: &[u8], begin: usize, shapes: &mut [u8; 256])
     requires { ⌜ begin ≡ typesAt (now table) ⌝ }
+    requires { ⌜ now shapes ≡ replicate 256 10 ⌝ }
     ensures { λ _. ⌜ now (shapes .exit) ≡ shapesOf (now (table .entry)) ⌝ }
 {
     let n = table::rows(table);
-    *shapes = [10u8; 256];
     let mut t = 0;
     while t < n {
         let x = row_shape(table, begin, shapes, t);

@@ -40,7 +40,8 @@ fn look_by(table: &[u8], top: usize, message: &[u8], member: usize, list: &mut [
     ensures { λ r. ⌜ r ≡ viewAnswer (now (table .entry)) top (now (message .entry)) member ⌝ }
     ensures { λ r. ⌜ PartInside (length (now (message .entry))) r ⌝ }
 {
-    let w = reading::walk(table, top, message, false, list);
+    let mut shapes = [10u8; 256];
+    let w = reading::walk(table, top, message, false, &mut shapes, list);
     match w {
         Walk::Done(first, format, k, optionals, slices, end) => {
             if table::chain::of_chain(table, first, member) {

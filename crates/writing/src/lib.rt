@@ -27,7 +27,7 @@ fn checked(
     match p {
         Prepared::Refused(c, q) => Outcome::Stopped(c, q),
         Prepared::Ready => {
-            let mut shapes = [0u8; 256];
+            let mut shapes = [10u8; 256];
             let begin = table::types_at(table);
             shapes::fill(table, begin, &mut shapes);
             writer::write_rows(

@@ -1,6 +1,6 @@
--- What is known, or what `prepare` finds. Assumes nothing.
+-- What is known, or what `prepare` finds, and the shapes. Assumes nothing.
 use borrow.Author.Needs.{needs}
-use Rattle.reading.proofs.Telling.{ready-known}
+use Rattle.reading.proofs.Telling.{ready-known, ready-shapes, blank-lent, stop-found, ready-found, no-shapes}
 use Rattle.reading.proofs.prepared.Statement.{statement}
 use Rattle.reading.proofs.prepared.Tie as tie
 
@@ -8,6 +8,11 @@ pub prepared-spec : {M : Type 1} → statement M
 prepared-spec =
     tie.close
     (tie.spec
-    (λ c. search ready-known)  -- returns
+    (λ c. (search ready-known, search ready-shapes))  -- returns
     (λ c κs. search needs)  -- prepare-requires
-    (λ c. search needs))  -- returns-2
+    (λ c. search needs)  -- enum-known-p
+    (λ c. search needs)  -- enum-told
+    (λ c κs. search needs)  -- types-at-requires
+    (λ c κs. (search needs, search blank-lent))  -- fill-requires
+    (λ c. (search stop-found, search no-shapes))  -- returns-2
+    (λ c. (search ready-found, search needs)))  -- returns-3

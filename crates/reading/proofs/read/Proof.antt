@@ -12,7 +12,11 @@ read-spec =
     (λ c κs. search needs)  -- told-requires
     (λ c. search needs)  -- same-length
     (λ c. (search told-listed, search needs))  -- returns
-    (λ c κs. search needs)  -- walk-more-requires
+    (λ c κs. search needs)  -- walk-some-requires
     (λ c κs. search needs)  -- told-requires-2
     (λ c. search needs)  -- same-length-2
-    (λ c. (search told-listed, search needs)))  -- returns-2
+    (λ c. (search told-listed, search needs))  -- returns-2
+    (λ c κs. search needs)  -- walk-more-requires
+    (λ c κs. search needs)  -- told-requires-3
+    (λ c. search needs)  -- same-length-3
+    (λ c. (search told-listed, search needs)))  -- returns-3

@@ -14,6 +14,9 @@ returns-2 c = (search (enough-told, told-listed), (search enough-listed, search 
 returns-3 : tie.Need-returns-3
 returns-3 c = (search (enough-told, told-listed), (search enough-listed, search (enough-numbered, told-listed)))
 
+returns-4 : tie.Need-returns-4
+returns-4 c = (search (enough-told, told-listed), (search enough-listed, search (enough-numbered, told-listed)))
+
 pub read-numbers-spec : {M : Type 1} → statement M
 read-numbers-spec =
     tie.close
@@ -26,8 +29,13 @@ read-numbers-spec =
     (λ c. search needs)  -- same-length
     (λ c. search needs)  -- same-length-2
     returns-2
-    (λ c κs. search needs)  -- walk-more-requires
+    (λ c κs. search needs)  -- walk-some-requires
     (λ c κs. search needs)  -- numbered-requires-2
     (λ c. search needs)  -- same-length-3
     (λ c. search needs)  -- same-length-4
-    returns-3)
+    returns-3
+    (λ c κs. search needs)  -- walk-more-requires
+    (λ c κs. search needs)  -- numbered-requires-3
+    (λ c. search needs)  -- same-length-5
+    (λ c. search needs)  -- same-length-6
+    returns-4)

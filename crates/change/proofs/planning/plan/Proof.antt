@@ -1,6 +1,7 @@
--- The checks, then the message. Assumes nothing.
+-- The refusal of the walk, or the plan for what it accepts. Assumes nothing.
 use borrow.Author.Needs.{needs}
-use Rattle.change.proofs.Plans.{plan-ready, plan-refused, plan-short}
+use Rattle.reading.proofs.Telling.{unasked}
+use Rattle.change.proofs.Plans.{read-stopped, read-short, read-done, read-shapes, read-few}
 use Rattle.change.proofs.planning.plan.Statement.{statement}
 use Rattle.change.proofs.planning.plan.Tie as tie
 
@@ -8,10 +9,12 @@ pub plan-spec : {M : Type 1} → statement M
 plan-spec =
     tie.close
     (tie.spec
-    (λ c κs. search needs)  -- byte-count-requires
-    (λ c κs. search needs)  -- prepare-requires
-    (λ c. search needs)  -- enum-known-p
-    (λ c. search needs)  -- enum-told
-    (λ c κs. search plan-short)  -- read-requires
-    (λ c. search plan-refused)  -- returns
-    (λ c. search plan-ready))  -- returns-2
+    (λ c. search needs)  -- slice-aggregate-walk
+    (λ c κs. search unasked)  -- walk-requires
+    (λ c. search needs)  -- enum-known-w
+    (λ c. search read-short)  -- returns
+    (λ c κs. search needs)  -- types-at-requires
+    (λ c κs. (search needs, (search read-shapes, (search needs, search read-few))))  -- accepted-requires
+    (λ c. search needs)  -- enum-known-w-2
+    (λ c. search read-done)  -- returns-2
+    (λ c. search read-stopped))  -- returns-3
