@@ -19,7 +19,7 @@ enum { LENT = 0xAA, MOST_LINE = 1 << 20, MOST_INPUT = 1 << 18 };
 
 /* The kinds of records, and how many numbers begin one. */
 enum { TABLE, READ, VIEW, WRITE, RECORDS, CHECK, CONVERT, SET, REMOVE, NIGHT, SHEET };
-enum { ENDPOINT = 12, ENDPOINT_WRITE, CHECK_PLAN = 15, PLAN };
+enum { ENDPOINT = 12, ENDPOINT_WRITE, GUARD, CHECK_PLAN, PLAN };
 enum { KINDS = 17, HEAD = 7 };
 
 static uint8_t table[ICEHUB_MOST_BYTES], input[MOST_INPUT], rows[ICEHUB_MOST_BYTES], again[ICEHUB_MOST_BYTES],
@@ -402,6 +402,23 @@ static void endpoint_write_call(const uint32_t *n, const uint8_t *host, size_t h
     }
 }
 
+/* A report to a frost guard. */
+static void guard_call(size_t room, const uint8_t *state, size_t state_len, const uint8_t *message, size_t message_len)
+{
+    uint32_t refusal;
+    size_t given;
+    memset(out, LENT, sizeof out);
+    refusal = icehub_guard_report(state, state_len, message, message_len, out, room);
+    given = refusal == ICEHUB_OK ? ICEHUB_GUARD_SIZE : 0;
+    put("%" PRIu32 " %" PRIu32 " %" PRIu32 " ", refusal,
+        icehub_guard_place(state, state_len, message, message_len, room),
+        icehub_guard_fires(state, state_len, message, message_len, room));
+    put_hex(out, given);
+    if (!is_kept(out + given, room - given)) {
+        put(" touched");
+    }
+}
+
 /* The numbers in some bytes, eight bytes each, at the start of a list. */
 enum { MOST_NUMBERS = 64 };
 static uint64_t messages[MOST_NUMBERS], entries[MOST_NUMBERS];
@@ -521,6 +538,12 @@ static void replay(FILE *calls, FILE *answers)
             }
             endpoint_write_call(n, input, length);
             break;
+        case GUARD:
+            if (n[2] > sizeof out || n[3] > length) {
+                stop("a call is too long");
+            }
+            guard_call(n[2], input, n[3], input + n[3], length - n[3]);
+            break;
         case CHECK_PLAN:
             if (n[2] > length / 8) {
                 stop("a call is too long");
@@ -555,9 +578,9 @@ int main(int argc, char **argv)
         stop("more answers than calls");
     }
     printf("%lu of %lu recorded calls agree: %lu readings, %lu writings, %lu views, %lu row records, %lu tables, "
-           "%lu conversions, %lu sets, %lu removals, %lu nights, %lu season sheets, %lu endpoints, %lu checks of burst plans, %lu plans\n",
+           "%lu conversions, %lu sets, %lu removals, %lu nights, %lu season sheets, %lu endpoints, %lu reports to a frost guard, %lu checks of burst plans, %lu plans\n",
            lines - differed, lines, agreed[READ], agreed[WRITE], agreed[VIEW], agreed[RECORDS], agreed[CHECK],
            agreed[CONVERT], agreed[SET], agreed[REMOVE], agreed[NIGHT], agreed[SHEET], agreed[ENDPOINT] + agreed[ENDPOINT_WRITE],
-           agreed[CHECK_PLAN], agreed[PLAN]);
+           agreed[GUARD], agreed[CHECK_PLAN], agreed[PLAN]);
     return differed > 0 || lines == 0;
 }

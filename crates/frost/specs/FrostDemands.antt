@@ -18,6 +18,8 @@
 --   LargestLong       the timer fires at the largest long, where the delay is the largest int
 --   StateKept         the state survives its 32 bytes
 --   BytesReport       the calls on 32 bytes answer as those on the state
+--   BytesRefused      bytes of another length or with another mark are refused by 52
+--   FrostTold         the numbers of the calls are those of the answer
 --   StateGiven        32 bytes that a start or an accepted report gives are never refused by 52
 --   SignedOrder       a reading is cold exactly if it is at most the set point, as signed shorts
 use mathlib.Core.Path.{_≡_}
@@ -25,13 +27,13 @@ use mathlib.Core.Bool.{true, false}
 use mathlib.Core.List.{List, [], _∷_, _++_}
 use mathlib.Core.Option.{Option, none, some}
 use Prim.Native.Nat.{ℕ, _+_, _*_, _^_, _≤_, _<_}
-use lib.ListN.{length, take, drop}
+use lib.ListN.{length, take, drop, getD}
 use Rattle.encoding.specs.Number.{Bytes}
-use Rattle.encoding.specs.Table.{faults, fine}
+use Rattle.encoding.specs.Table.{at, faults, fine}
 use Rattle.encoding.specs.Cases.{table2}
 use Rattle.encoding.specs.Message.{reading}
 use Rattle.laws.specs.Demands.{Refusal}
-use Rattle.frost.specs.Frost.{guardTable, Guard, start, badState, Report, Heard, refuse, heard, memberValue, reportOf, judgedReport, coldAt, Told, report, stateBytes, stateOf, started, reported, stored}
+use Rattle.frost.specs.Frost.{guardTable, Guard, start, badState, Report, Heard, refuse, heard, memberValue, reportOf, judgedReport, coldAt, Told, report, stateBytes, stateOf, started, reported, stored, toldNumbers}
 
 -- ---- the table, and what is judged
 
@@ -292,6 +294,27 @@ pub record Kept (g : Guard) (m lent : List ℕ) : Type 0 where
 abbrev pub BytesReport : Type 0
 BytesReport =
     (g : Guard) (m lent : List ℕ) → g .set < 2 ^ 16 → Under (2 ^ 64) (g .tick) → Under (2 ^ 64) (g .start) → Under (2 ^ 32) (g .delay) → Kept g m lent
+
+-- bytes that are no state: another length, or a mark of tick, start or delay that is neither 0 nor 1
+pub data NoState (b : List ℕ) : Type 0 where
+  other-length : (length b ≡ 32 → ⊥) → NoState b
+  tick-mark : 1 < at b 1 2 → NoState b
+  start-mark : 1 < at b 1 3 → NoState b
+  delay-mark : 1 < at b 1 4 → NoState b
+
+-- before the message and the room are judged
+abbrev pub BytesRefused : Type 0
+BytesRefused = (b m : List ℕ) (n : ℕ) → NoState b → (reported b m n .refusal ≡ 52) × (reported b m n .place ≡ 0)
+
+-- refusal, place, and 1 where the timer fires
+pub record ToldAs (t : Told) (r p f : ℕ) : Type 0 where
+  pub refusal-is : r ≡ t .refusal
+  pub place-is : p ≡ t .place
+  pub one : t .fires ≡ true → f ≡ 1
+  pub zero : t .fires ≡ false → f ≡ 0
+
+abbrev pub FrostTold : Type 0
+FrostTold = (t : Told) → ToldAs t (getD (toldNumbers t) 0 0) (getD (toldNumbers t) 1 0) (getD (toldNumbers t) 2 0)
 
 -- bytes that are a state, which 52 does not refuse
 pub record Sound (b : List ℕ) : Type 0 where

@@ -1,8 +1,8 @@
--- What a message and a state are judged by, the founder's story, and the calls on bytes: `frost-judges`, `state-judged`, `founders-story`, `largest-long`, `bytes-report` of FrostDemands.
+-- What a message and a state are judged by, the founder's story, and the calls on bytes: `frost-judges`, `state-judged`, `founders-story`, `largest-long`, `bytes-report`, `bytes-refused`, `frost-told` of FrostDemands.
 -- The idea: each test of a definition, taken apart; the story is computed.
 -- Assumes nothing.
 use mathlib.Core.Path.{_≡_, refl, ap, _∙_}
-use mathlib.Core.Bool.{Bool, true, false, _||_, false≢true}
+use mathlib.Core.Bool.{Bool, true, false, _||_, not, false≢true}
 use mathlib.Core.Option.{Option, none, some}
 use mathlib.Core.List.{List, _++_}
 use Prim.Native.Nat.{ℕ, _+_, _^_, _≤_, _<_}
@@ -13,11 +13,12 @@ use borrow.Author.Tests.{eqb-true, eqb-false, leb-true, leb-false, ltb-true, ltb
 use Rattle.encoding.specs.Result.{firstOf}
 use Rattle.encoding.specs.ResultLaws.{some≢none}
 use Rattle.encoding.specs.Number.{negative}
+use Rattle.encoding.specs.Table.{at}
 use Rattle.encoding.specs.Message.{reading}
 use Rattle.encoding.specs.Write.{partOf}
 use Rattle.encoding.specs.Cases.{computed}
-use Rattle.frost.specs.Frost.{guardTable, raised, atOrBelow, millis, Guard, start, present, loneStart, badState, Report, heard, memberValue, complete, answered, reportOf, reportForm, judgedReport, coldAt, orNow, freeze, firesAt, Told, told, report, stateBytes, bounded, reportedFrom, reported, stored}
-use Rattle.frost.specs.FrostDemands.{Lower, Fields, Judged, by-reader, incomplete, tick-negative, tick-lower, delay-negative, in-order, FrostJudges, StateFault, negative-tick, negative-start, negative-delay, start-alone, start-later, StateJudged, guardAfter, coldReport, early, late, day49, FoundersStory, last-tick, LargestLong, BytesReport}
+use Rattle.frost.specs.Frost.{guardTable, raised, atOrBelow, millis, Guard, start, present, loneStart, badState, Report, heard, memberValue, complete, answered, reportOf, reportForm, judgedReport, coldAt, orNow, freeze, firesAt, Told, told, report, stateBytes, bounded, reportedFrom, reported, stored, stateOf, noState, toldNumbers, firesNumber}
+use Rattle.frost.specs.FrostDemands.{Lower, Fields, Judged, by-reader, incomplete, tick-negative, tick-lower, delay-negative, in-order, FrostJudges, StateFault, negative-tick, negative-start, negative-delay, start-alone, start-later, StateJudged, guardAfter, coldReport, early, late, day49, FoundersStory, last-tick, LargestLong, BytesReport, NoState, other-length, tick-mark, start-mark, delay-mark, BytesRefused, FrostTold}
 use Rattle.frost.specs.FrostLaws.{some-same, state-kept}
 
 -- ---- a message
@@ -173,3 +174,18 @@ bytes-report g m lent s a b c = record {
   where
     from : reported (stateBytes g) m (length lent) ≡ bounded (length lent) (report g m)
     from = ap (λ (o : Option Guard). reportedFrom o m (length lent)) (state-kept g s a b c .1)
+
+no-state : (b : List ℕ) → NoState b → noState b ≡ true
+unfolding noState
+no-state b (other-length h) = rw (ne-eqb (length b) 32 h)
+no-state b (tick-mark h) = or-right (not (eqb (length b) 32)) _ (or-left _ _ (lt-ltb 1 (at b 1 2) h))
+no-state b (start-mark h) = or-right (not (eqb (length b) 32)) _ (or-right (ltb 1 (at b 1 2)) _ (or-left _ _ (lt-ltb 1 (at b 1 3) h)))
+no-state b (delay-mark h) = or-right (not (eqb (length b) 32)) _ (or-right (ltb 1 (at b 1 2)) _ (or-right (ltb 1 (at b 1 3)) _ (lt-ltb 1 (at b 1 4) h)))
+
+pub bytes-refused : BytesRefused
+unfolding reported reportedFrom stateOf told
+bytes-refused b m n h = let e = no-state b h in (rw e, rw e)
+
+pub frost-told : FrostTold
+unfolding toldNumbers firesNumber
+frost-told t = record { refusal-is = refl; place-is = refl; one = λ e. rw e; zero = λ e. rw e }

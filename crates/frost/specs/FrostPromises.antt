@@ -1,8 +1,8 @@
 -- Every promise of `FrostDemands`, with its proof.
-use Rattle.frost.specs.FrostDemands.{FrostTable, FrostJudges, StateJudged, FrostReport, FrostRefuses, FrostHistory, FrostState, FrostRefused, FrostNumbers, FoundersStory, LargestLong, StateKept, BytesReport, StateGiven, SignedOrder}
+use Rattle.frost.specs.FrostDemands.{FrostTable, FrostJudges, StateJudged, FrostReport, FrostRefuses, FrostHistory, FrostState, FrostRefused, FrostNumbers, FoundersStory, LargestLong, StateKept, BytesReport, BytesRefused, FrostTold, StateGiven, SignedOrder}
 use Rattle.frost.specs.FrostLaws.{frost-history, frost-refused, frost-numbers, state-kept, signed-order}
 use Rattle.frost.specs.FrostRows.{table-is, table-sound}
-use Rattle.frost.specs.FrostJudged.{frost-judges, state-judged, founders-story, largest-long, bytes-report}
+use Rattle.frost.specs.FrostJudged.{frost-judges, state-judged, founders-story, largest-long, bytes-report, bytes-refused, frost-told}
 use Rattle.frost.specs.FrostGiven.{frost-report, frost-refuses, frost-state, state-given}
 
 pub record FrostPromises : Type 0 where
@@ -19,6 +19,8 @@ pub record FrostPromises : Type 0 where
   pub largest : LargestLong
   pub kept : StateKept
   pub bytes : BytesReport
+  pub no-state : BytesRefused
+  pub told : FrostTold
   pub given : StateGiven
   pub signed : SignedOrder
 
@@ -37,6 +39,8 @@ promises = record {
   largest = largest-long;
   kept = state-kept;
   bytes = bytes-report;
+  no-state = bytes-refused;
+  told = frost-told;
   given = state-given;
   signed = signed-order;
 }
