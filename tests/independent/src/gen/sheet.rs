@@ -8,12 +8,24 @@ use crate::sheet::{SheetCall, SHEET};
 pub fn sheet(rng: &mut Rng, call: &Call, other: &[u8]) -> Option<Call> {
     let Some(Call::Night(night)) = night(rng, call, other) else { return None };
     let members = night.table.get(7..9).map_or(0, |count| usize::from(count[0]));
+    let summable = summable(&night.table);
     let member = match rng.below(20) {
         0 => rng.number(members) as u32,
-        _ => rng.below(members.max(1)) as u32,
+        1 => rng.below(members.max(1)) as u32,
+        _ if summable.is_empty() => 0,
+        _ => rng.pick(&summable),
     };
     let sheet = lent(rng);
     Some(Call::Sheet(SheetCall { table: night.table, top: night.top, buffer: night.buffer, member, sheet }))
+}
+
+/// The member rows of type short or int.
+fn summable(table: &[u8]) -> Vec<u32> {
+    let begin = if table.get(3) == Some(&2) { 14 } else { 12 };
+    let first = begin + 12 * table.get(5).map_or(0, |&types| usize::from(types));
+    let rows = table.get(first..).unwrap_or_default().as_chunks::<8>().0;
+    let kind = |row: &[u8; 8]| table.get(begin + 12 * usize::from(row[0])).copied();
+    (0..).zip(rows).filter(|(_, row)| matches!(kind(row), Some(2 | 3))).map(|(member, _)| member).collect()
 }
 
 /// A sheet of 52 bytes, seldom of another length.
