@@ -54,7 +54,9 @@ enum {
     ICEHUB_MOST_ROWS = 1024,   /* no message has more rows */
     ICEHUB_MOST_BYTES = 65536, /* no message is longer, and no buffer of the writer */
     ICEHUB_BURST_BYTES = 340,  /* no satellite burst is longer */
-    ICEHUB_GUARD_SIZE = 32     /* bytes of the state of a frost guard */
+    ICEHUB_GUARD_SIZE = 32,    /* bytes of the state of a frost guard */
+    ICEHUB_DIFFERENCE_SIZE = 20,  /* the bytes of one difference of two tables */
+    ICEHUB_NEW_TABLE = 1000000 /* added to a place in the new of two tables */
 };
 
 /* A row is three numbers of 32 bits, little-endian: the member row of the table, then the place and the length of
@@ -589,6 +591,40 @@ uint32_t icehub_guard_place(const uint8_t *state, size_t state_len, const uint8_
 /* 1 if the timer fires with this report, else 0; 0 where the report is refused. */
 uint32_t icehub_guard_fires(const uint8_t *state, size_t state_len, const uint8_t *message, size_t message_len,
                             size_t next_len);
+/* ---- Two tables compared ----
+ *
+ * Before a new table is shipped: every difference from the old one, and whether an old hub reads everything that a new
+ * sender writes.
+ *
+ *   old, old_len, old_top   the old table and the chosen row of it
+ *   new_table, new_len, new_top   the new one's
+ *   list, list_len          the lent list: ICEHUB_DIFFERENCE_SIZE bytes a difference
+ *
+ * A difference is five 32-bit numbers: what it is about, old and new owner row, old and new member row, each row plus 1, or
+ * 0 for none. What: 0 a record or parameter list that only one table has (its members are not listed), 1 a base, 2 a
+ * required position, 3 an optional tag. They come by record name (bytes compared, for one name in two kinds the old table's
+ * first), parameter lists after records by their order; of each first the base, then required positions, then tags.
+ *
+ * A call needs about 90 KB of stack. Types are compared row by row, never by their trees. */
+
+/* Compares two tables. Returns ICEHUB_OK: `list` begins with the differences, and the bytes after these are unchanged. Or
+ * returns a refusal, and `list` is unchanged: the rule that the old table breaks; the rule that the new one breaks, whose
+ * place has ICEHUB_NEW_TABLE added; ICEHUB_BAD_TYPE for either top; ICEHUB_LIST_TOO_SHORT. */
+uint32_t icehub_compare(const uint8_t *old, size_t old_len, uint32_t old_top, const uint8_t *new_table, size_t new_len,
+                        uint32_t new_top, uint8_t *list, size_t list_len);
+
+/* The place of its refusal, with a list of list_len bytes: the number of differences where that is too short. */
+uint32_t icehub_compare_place(const uint8_t *old, size_t old_len, uint32_t old_top, const uint8_t *new_table,
+                              size_t new_len, uint32_t new_top, size_t list_len);
+
+/* The number of differences; 0 on a refusal. */
+uint32_t icehub_compare_count(const uint8_t *old, size_t old_len, uint32_t old_top, const uint8_t *new_table,
+                              size_t new_len, uint32_t new_top, size_t list_len);
+
+/* 1 if the new table extends the old one and the two tops match, so that a hub with the old table reads every message that
+ * icehub_write makes under the new one; else 0, and 0 on a refusal. */
+uint32_t icehub_compare_extends(const uint8_t *old, size_t old_len, uint32_t old_top, const uint8_t *new_table,
+                                size_t new_len, uint32_t new_top, size_t list_len);
 
 /* ---- Rows, numbers and refusals, for C callers ----
  *

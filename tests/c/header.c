@@ -84,6 +84,10 @@ int main(void)
     EXPECT(icehub_check_plan(messages, 6, entries, 4) == ICEHUB_BAD_PLAN);
     EXPECT(icehub_check_plan_place(messages, 6, entries, 4) == 2);
 
+    EXPECT(icehub_compare(bytes, 0, 0, bytes, 0, 0, rows, 0) == ICEHUB_BAD_TABLE_HEADER);
+    EXPECT(icehub_compare_place(bytes, 0, 0, bytes, 0, 0, 0) == 0 && icehub_compare_count(bytes, 0, 0, bytes, 0, 0, 0) == 0);
+    EXPECT(icehub_compare_extends(bytes, 0, 0, bytes, 0, 0, 0) == 0);
+
     if (!failed) {
         printf("rows, numbers and refusals are right\n");
     }

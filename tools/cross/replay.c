@@ -18,7 +18,7 @@
 enum { LENT = 0xAA, MOST_LINE = 1 << 20, MOST_INPUT = 1 << 18 };
 
 /* The kinds of records, and how many numbers begin one. */
-enum { TABLE, READ, VIEW, WRITE, RECORDS, CHECK, CONVERT, SET, REMOVE, NIGHT, SHEET };
+enum { TABLE, READ, VIEW, WRITE, RECORDS, CHECK, CONVERT, SET, REMOVE, NIGHT, SHEET, COMPARE };
 enum { ENDPOINT = 12, ENDPOINT_WRITE, GUARD, CHECK_PLAN, PLAN };
 enum { KINDS = 17, HEAD = 7 };
 
@@ -459,6 +459,26 @@ static void plan_call(const uint8_t *bytes, size_t length, size_t room)
     }
 }
 
+static void compare_call(const uint32_t *n, const uint8_t *bytes, size_t length)
+{
+    const uint8_t *old = bytes, *other = bytes + n[4];
+    const size_t old_len = n[4], other_len = length - n[4], room = n[5];
+    uint32_t refusal, count;
+    size_t i;
+    memset(out, LENT, sizeof out);
+    refusal = icehub_compare(old, old_len, n[2], other, other_len, n[3], out, room);
+    count = icehub_compare_count(old, old_len, n[2], other, other_len, n[3], room);
+    put("%" PRIu32 " %" PRIu32 " %" PRIu32 " %" PRIu32 " ", refusal,
+        icehub_compare_place(old, old_len, n[2], other, other_len, n[3], room), count,
+        icehub_compare_extends(old, old_len, n[2], other, other_len, n[3], room));
+    for (i = 0; i < 5 * (size_t)count; i++) {
+        put("%" PRIu32 " ", icehub_number(out, i));
+    }
+    if (!is_kept(out + (size_t)ICEHUB_DIFFERENCE_SIZE * count, room - (size_t)ICEHUB_DIFFERENCE_SIZE * count)) {
+        put("touched");
+    }
+}
+
 static void replay(FILE *calls, FILE *answers)
 {
     uint8_t head[4 * HEAD];
@@ -526,6 +546,12 @@ static void replay(FILE *calls, FILE *answers)
             }
             sheet_call(n[2], input, n[4], n[3], input + n[4], length - n[4]);
             break;
+        case COMPARE:
+            if (n[4] > length || n[5] > sizeof out) {
+                stop("a call is too long");
+            }
+            compare_call(n, input, length);
+            break;
         case ENDPOINT:
             if (n[2] > sizeof rows) {
                 stop("a call is too long");
@@ -578,9 +604,9 @@ int main(int argc, char **argv)
         stop("more answers than calls");
     }
     printf("%lu of %lu recorded calls agree: %lu readings, %lu writings, %lu views, %lu row records, %lu tables, "
-           "%lu conversions, %lu sets, %lu removals, %lu nights, %lu season sheets, %lu endpoints, %lu reports to a frost guard, %lu checks of burst plans, %lu plans\n",
+           "%lu conversions, %lu sets, %lu removals, %lu nights, %lu season sheets, %lu comparisons, %lu endpoints, %lu reports to a frost guard, %lu checks of burst plans, %lu plans\n",
            lines - differed, lines, agreed[READ], agreed[WRITE], agreed[VIEW], agreed[RECORDS], agreed[CHECK],
-           agreed[CONVERT], agreed[SET], agreed[REMOVE], agreed[NIGHT], agreed[SHEET], agreed[ENDPOINT] + agreed[ENDPOINT_WRITE],
+           agreed[CONVERT], agreed[SET], agreed[REMOVE], agreed[NIGHT], agreed[SHEET], agreed[COMPARE], agreed[ENDPOINT] + agreed[ENDPOINT_WRITE],
            agreed[GUARD], agreed[CHECK_PLAN], agreed[PLAN]);
     return differed > 0 || lines == 0;
 }

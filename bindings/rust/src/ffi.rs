@@ -603,3 +603,71 @@ pub fn guard_fires(state: &[u8], message: &[u8], room: usize) -> u32 {
     // SAFETY: as above.
     unsafe { icehub_guard_fires(state.as_ptr(), state.len(), message.as_ptr(), message.len(), room) }
 }
+
+extern "C" {
+    fn icehub_compare(
+        old: *const u8,
+        old_len: usize,
+        old_top: u32,
+        new: *const u8,
+        new_len: usize,
+        new_top: u32,
+        list: *mut u8,
+        list_len: usize,
+    ) -> u32;
+    fn icehub_compare_place(
+        old: *const u8,
+        old_len: usize,
+        old_top: u32,
+        new: *const u8,
+        new_len: usize,
+        new_top: u32,
+        list_len: usize,
+    ) -> u32;
+    fn icehub_compare_count(
+        old: *const u8,
+        old_len: usize,
+        old_top: u32,
+        new: *const u8,
+        new_len: usize,
+        new_top: u32,
+        list_len: usize,
+    ) -> u32;
+    fn icehub_compare_extends(
+        old: *const u8,
+        old_len: usize,
+        old_top: u32,
+        new: *const u8,
+        new_len: usize,
+        new_top: u32,
+        list_len: usize,
+    ) -> u32;
+}
+
+/// Two tables compared: 0 or the refusal number.
+pub fn compare(old: &[u8], old_top: u32, new: &[u8], new_top: u32, list: &mut [u8]) -> u32 {
+    let (old, old_len, new, new_len) = (old.as_ptr(), old.len(), new.as_ptr(), new.len());
+    // SAFETY: each pointer comes with the length of its slice; only `list` is written.
+    unsafe { icehub_compare(old, old_len, old_top, new, new_len, new_top, list.as_mut_ptr(), list.len()) }
+}
+
+/// The place of a comparison's refusal, with a list of so many bytes.
+pub fn compare_place(old: &[u8], old_top: u32, new: &[u8], new_top: u32, room: usize) -> u32 {
+    let (old, old_len, new, new_len) = (old.as_ptr(), old.len(), new.as_ptr(), new.len());
+    // SAFETY: as above; nothing is written.
+    unsafe { icehub_compare_place(old, old_len, old_top, new, new_len, new_top, room) }
+}
+
+/// The number of differences.
+pub fn compare_count(old: &[u8], old_top: u32, new: &[u8], new_top: u32, room: usize) -> u32 {
+    let (old, old_len, new, new_len) = (old.as_ptr(), old.len(), new.as_ptr(), new.len());
+    // SAFETY: as above; nothing is written.
+    unsafe { icehub_compare_count(old, old_len, old_top, new, new_len, new_top, room) }
+}
+
+/// 1 if the new table extends the old one and the tops match.
+pub fn compare_extends(old: &[u8], old_top: u32, new: &[u8], new_top: u32, room: usize) -> u32 {
+    let (old, old_len, new, new_len) = (old.as_ptr(), old.len(), new.as_ptr(), new.len());
+    // SAFETY: as above; nothing is written.
+    unsafe { icehub_compare_extends(old, old_len, old_top, new, new_len, new_top, room) }
+}

@@ -33,6 +33,7 @@
 
 mod bursts;
 mod change;
+mod compare;
 mod convert;
 mod endpoint;
 #[allow(unsafe_code)]
@@ -46,6 +47,7 @@ mod value;
 
 pub use bursts::{check_plan, plan, PlanRefusal, BURST_BYTES};
 pub use change::{remove, set};
+pub use compare::{compare, Comparison, Difference, What, DIFFERENCE_SIZE};
 pub use convert::convert;
 pub use endpoint::{endpoint_at, open_endpoint, write_endpoint, Address, Opened};
 pub use guard::{Guard, GUARD_SIZE};

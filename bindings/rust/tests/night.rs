@@ -18,7 +18,8 @@ fn refusals(buffer: &[u8], answers: usize, rows: usize) -> (Vec<(u32, u32)>, usi
     let (table, mut answers, mut rows) = (p2_table(), vec![0; answers * ANSWER_SIZE], vec![0; rows * ROW_SIZE]);
     let night = night(&table, LIST, buffer, &mut answers, &mut rows);
     assert_eq!(night.answers().len(), night.count());
-    let refusals = night.answers().map(|answer| answer.reading.err().map_or((0, 0), |wrong| (wrong.number, wrong.place)));
+    let refusals =
+        night.answers().map(|answer| answer.reading.err().map_or((0, 0), |wrong| (wrong.number, wrong.place)));
     (refusals.collect(), night.place)
 }
 
@@ -89,7 +90,10 @@ fn table_and_top() {
     let (mut table, buffer) = (p2_table(), buffer(&[1, 0, 1, 0]));
     let each = |table: &[u8], top| -> Vec<Refusal> {
         let (mut answers, mut rows) = ([0; 9 * ANSWER_SIZE], [0; 99 * ROW_SIZE]);
-        night(table, top, &buffer, &mut answers, &mut rows).answers().filter_map(|answer| answer.reading.err()).collect()
+        night(table, top, &buffer, &mut answers, &mut rows)
+            .answers()
+            .filter_map(|answer| answer.reading.err())
+            .collect()
     };
     assert_eq!(each(&table, 0), [Refusal { number: 2, place: 0 }; 4]);
     table[11] = 1;

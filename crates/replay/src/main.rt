@@ -11,13 +11,15 @@
 //   8  a call that removes a member: top, member row, bytes of the output; the bytes are the message
 //   9  a call for many messages: top, bytes of the list of answers, bytes of the list of rows; the bytes are the buffer
 //   10 a call for the season sheet: top, member row, length of the buffer; the bytes are buffer and sheet
+//   11 two tables compared: both tops, the length of the old table, bytes of the lent list; the bytes are both tables
 //   12 an endpoint opened: bytes lent for its numbers, 0; the bytes are the endpoint. Or found: bytes lent for its numbers, 1, its number; the bytes are the proxy
 //   13 an endpoint written: type, port, timeout, compress, bytes of the output; the bytes are the host
 //   14 a report to a frost guard: bytes lent for the state after it, length of the state; the bytes are state and message
 //   15 a check of a burst plan: how many numbers the messages have; the bytes are messages and entries, eight bytes a number
 //   16 a call of the planner: the numbers of the lent list; the bytes are the messages
-// print.rt prints, reads.rt, writes.rt, records.rt, tables.rt, conversions.rt, changes.rt, nights.rt, sheets.rt, endpoints.rt, guards.rt and plans.rt make the calls.
+// print.rt prints, reads.rt, writes.rt, records.rt, tables.rt, conversions.rt, changes.rt, nights.rt, sheets.rt, comparisons.rt, endpoints.rt, guards.rt and plans.rt make the calls.
 mod changes;
+mod comparisons;
 mod conversions;
 mod endpoints;
 mod guards;
@@ -155,6 +157,20 @@ fn sheet_call(head: &[u8; 28], table: &[u8], input: &[u8], lent: &mut [u8]) {
     }
 }
 
+// A call that compares two tables; the old one has n bytes.
+fn compare_call(head: &[u8; 28], input: &[u8], n: usize, lent: &mut [u8]) {
+    if input.len() < n {
+        return;
+    }
+    comparisons::compare_call(
+        &input[0..n],
+        wire::int_at(head, 8),
+        &input[n..],
+        wire::int_at(head, 12),
+        lent,
+    );
+}
+
 // A call with its bytes, and `lent` to be its list or output.
 fn call<'a, 't>(head: &[u8; 28], table: &'t [u8], input: &'a [u8], lent: &mut [u8]) {
     let kind = wire::int_at(head, 0);
@@ -217,6 +233,13 @@ fn call<'a, 't>(head: &[u8; 28], table: &'t [u8], input: &'a [u8], lent: &mut [u
     }
     if kind == 10 {
         sheet_call(head, table, input, lent);
+        return;
+    }
+    if kind == 11 {
+        let room = wire::int_at(head, 20);
+        if room <= lent.len() {
+            compare_call(head, input, wire::int_at(head, 16), &mut lent[0..room]);
+        }
         return;
     }
     if kind == 12 {

@@ -1,6 +1,7 @@
 //! Calls and their answers, as the recorded calls have them: one JSON object a line.
 
 use crate::bursts::{PlanAnswer, PlanCall};
+use crate::compare::{CompareCall, Compared};
 use crate::endpoint::{EndpointAnswer, EndpointCall};
 use crate::frost::{GuardAnswer, GuardCall};
 use crate::json::{hex, Json};
@@ -66,6 +67,7 @@ pub enum Call {
     Endpoint(EndpointCall),
     Plan(PlanCall),
     Guard(GuardCall),
+    Compare(CompareCall),
 }
 
 #[derive(Clone, Debug, PartialEq)]
@@ -93,6 +95,7 @@ pub enum Answer {
     Endpoint(EndpointAnswer),
     Plan(PlanAnswer),
     Guard(GuardAnswer),
+    Compare(Compared),
     /// A lent byte was touched that should have stayed, or more is claimed than was lent.
     Astray,
 }
@@ -113,7 +116,7 @@ impl Call {
             | Call::Remove { table, .. } => table,
             Call::Night(night) => &night.table,
             Call::Sheet(call) => &call.table,
-            Call::Endpoint(_) | Call::Plan(_) | Call::Guard(_) => &[],
+            Call::Endpoint(_) | Call::Plan(_) | Call::Guard(_) | Call::Compare(_) => &[],
         }
     }
 
@@ -166,6 +169,7 @@ impl Call {
             Call::Endpoint(call) => call.answer(),
             Call::Plan(call) => call.answer(),
             Call::Guard(call) => call.answer(),
+            Call::Compare(call) => call.answer(),
         }
     }
 
@@ -203,6 +207,9 @@ impl Call {
         }
         if let Some(guard) = GuardCall::parse(line) {
             return Some(guard);
+        }
+        if let Some(compare) = CompareCall::parse(line) {
+            return Some(compare);
         }
         let call = Json::parse(line)?;
         let expect = call.get("expect")?;
@@ -302,6 +309,7 @@ impl Call {
             Call::Endpoint(call) => call.json(),
             Call::Plan(call) => call.json(),
             Call::Guard(call) => call.json(),
+            Call::Compare(call) => call.json(),
         };
         format!(r#"{{{fields},"expect":{}}}"#, expect.json())
     }
@@ -339,6 +347,7 @@ impl Answer {
             Answer::Plan(plan) => plan.refusal.0,
             Answer::Guard(guard) => guard.refusal.0,
             Answer::Sheet(sheet) => sheet.refusal.0,
+            Answer::Compare(compared) => compared.refusal.0,
             Answer::View { .. } | Answer::Night(_) | Answer::Astray => 0,
         }
     }
@@ -366,6 +375,7 @@ impl Answer {
             Answer::Endpoint(endpoint) => endpoint.json(),
             Answer::Plan(plan) => plan.json(),
             Answer::Guard(guard) => guard.json(),
+            Answer::Compare(compared) => compared.json(),
             Answer::Astray => r#"{"astray":1}"#.to_string(),
         }
     }

@@ -7,6 +7,7 @@ pub mod sheet;
 
 use crate::bursts::{self, PlanAnswer, PlanCall};
 use crate::calls::{Answer, Call, LENT};
+use crate::compare::{CompareCall, Compared};
 use crate::frost::{GuardAnswer, GuardCall};
 use crate::Reading;
 use std::hint::black_box;
@@ -425,6 +426,7 @@ pub fn each(call: &Call, mut run: impl FnMut(&'static str, &mut dyn FnMut())) {
         }
         Call::View { .. } => {}
         Call::Guard(call) => each_guard(call, &mut run),
+        Call::Compare(call) => each_compare(call, &mut run),
         Call::Convert { table, top, message, room } => {
             let mut lent = vec![LENT; *room];
             run("icehub_convert", &mut || {
@@ -549,6 +551,7 @@ pub fn answer(call: &Call) -> Option<Answer> {
         Call::Sheet(call) => Some(Answer::Sheet(sheet::answer(call))),
         Call::Endpoint(call) => Some(endpoint::answer(call)),
         Call::Plan(call) => Some(plan_answer(call)),
+        Call::Compare(call) => Some(compare_answer(call)),
     }
 }
 
@@ -693,6 +696,99 @@ fn guard_answer(call: &GuardCall) -> Answer {
     }
 }
 
+type CompareNumber = unsafe extern "C" fn(
+    old: *const u8,
+    old_length: usize,
+    old_top: u32,
+    new: *const u8,
+    new_length: usize,
+    new_top: u32,
+    room: usize,
+) -> u32;
+
+extern "C" {
+    fn icehub_compare(
+        old: *const u8,
+        old_length: usize,
+        old_top: u32,
+        new: *const u8,
+        new_length: usize,
+        new_top: u32,
+        list: *mut u8,
+        list_length: usize,
+    ) -> u32;
+    fn icehub_compare_place(
+        old: *const u8,
+        old_length: usize,
+        old_top: u32,
+        new: *const u8,
+        new_length: usize,
+        new_top: u32,
+        room: usize,
+    ) -> u32;
+    fn icehub_compare_count(
+        old: *const u8,
+        old_length: usize,
+        old_top: u32,
+        new: *const u8,
+        new_length: usize,
+        new_top: u32,
+        room: usize,
+    ) -> u32;
+    fn icehub_compare_extends(
+        old: *const u8,
+        old_length: usize,
+        old_top: u32,
+        new: *const u8,
+        new_length: usize,
+        new_top: u32,
+        room: usize,
+    ) -> u32;
+}
+
+/// The calls that tell the numbers of a comparison, with their names.
+const COMPARE_NUMBERS: [(&str, CompareNumber); 3] = [
+    ("icehub_compare_place", icehub_compare_place),
+    ("icehub_compare_count", icehub_compare_count),
+    ("icehub_compare_extends", icehub_compare_extends),
+];
+
+/// Two tables compared: 0 or the refusal number.
+pub fn compare(call: &CompareCall, list: &mut [u8]) -> u32 {
+    let (old, new) = (&call.old[..], &call.new[..]);
+    // SAFETY: each pointer comes with the length of its slice; only `list` is written.
+    unsafe {
+        icehub_compare(
+            old.as_ptr(),
+            old.len(),
+            call.old_top,
+            new.as_ptr(),
+            new.len(),
+            call.new_top,
+            list.as_mut_ptr(),
+            list.len(),
+        )
+    }
+}
+
+/// One of the numbers of a comparison.
+fn compare_number(number: CompareNumber, call: &CompareCall) -> u32 {
+    let (old, new) = (&call.old[..], &call.new[..]);
+    // SAFETY: as above; nothing is written.
+    unsafe { number(old.as_ptr(), old.len(), call.old_top, new.as_ptr(), new.len(), call.new_top, call.room) }
+}
+
+/// The library's answer to a comparison.
+fn compare_answer(call: &CompareCall) -> Answer {
+    let mut list = vec![LENT; call.room];
+    let refusal = compare(call, &mut list);
+    let [place, count, extends] = COMPARE_NUMBERS.map(|(_, number)| compare_number(number, call));
+    match extends {
+        0 | 1 => Compared::of_list((refusal, place), count, extends == 1, &list),
+        _ => Answer::Astray,
+    }
+}
+
 /// Hands `run` each call of the library on this report, with its name, to be made once.
 fn each_guard(call: &GuardCall, run: &mut impl FnMut(&'static str, &mut dyn FnMut())) {
     let GuardCall { state, message, room } = call;
@@ -706,4 +802,17 @@ fn each_guard(call: &GuardCall, run: &mut impl FnMut(&'static str, &mut dyn FnMu
     run("icehub_guard_start", &mut || {
         black_box(guard_start(0, &mut lent));
     });
+}
+
+/// Hands `run` each call of the library on these tables, with its name, to be made once.
+fn each_compare(call: &CompareCall, run: &mut impl FnMut(&'static str, &mut dyn FnMut())) {
+    let mut list = vec![LENT; call.room];
+    run("icehub_compare", &mut || {
+        black_box(compare(call, &mut list));
+    });
+    for (name, number) in COMPARE_NUMBERS {
+        run(name, &mut || {
+            black_box(compare_number(number, call));
+        });
+    }
 }

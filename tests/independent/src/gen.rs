@@ -3,6 +3,7 @@
 //! right and wrong rows for the writer.
 
 mod changes;
+mod compare;
 mod endpoints;
 mod guard;
 mod message;
@@ -13,6 +14,7 @@ mod text;
 mod types;
 
 pub use changes::{Change, Changes};
+pub use compare::compare_call;
 pub use endpoints::endpoint_calls;
 pub use guard::{guard_call, season};
 pub use message::{message, Message, Wrong};

@@ -9,11 +9,13 @@
 //! - [`sheet::sheet`]: the messages of a buffer added to a season sheet.
 //! - [`endpoint`]: one endpoint of a proxy, opened, written, and found in its proxy.
 //! - [`bursts`]: the check of a burst plan, and a planner.
+//! - [`compare`]: the differences of two tables, and whether the new one extends the old one.
 //!
 //! A refusal is its number and its place. No call panics on any input, and on a refusal every lent byte stays.
 
 pub mod bursts;
 pub mod calls;
+pub mod compare;
 pub mod endpoint;
 #[cfg(feature = "library")]
 pub mod ffi;

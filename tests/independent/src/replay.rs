@@ -2,6 +2,7 @@
 
 use crate::bursts::PlanCall;
 use crate::calls::{Answer, Call};
+use crate::compare::CompareCall;
 use crate::endpoint::EndpointCall;
 use crate::frost::GuardCall;
 use crate::json::hex;
@@ -74,6 +75,7 @@ impl<'a> Records<'a> {
                 let (buffer, sheet) = parts(c)?;
                 Call::Sheet(SheetCall { table: held, top: a, buffer, member: b, sheet })
             }
+            11 => Call::Compare(CompareCall::of_record([a, b, c, d], bytes)?),
             12 | 13 => Call::Endpoint(EndpointCall::of_record(kind, [a, b, c, d, e], bytes)),
             15 | 16 => Call::Plan(PlanCall::of_record(kind, a, bytes)?),
             14 => {
@@ -135,6 +137,7 @@ impl Recorded {
             Call::Guard(GuardCall { state, message, room }) => {
                 ([14, *room as u32, state.len() as u32, 0, 0, 0], [&state[..], message].concat())
             }
+            Call::Compare(call) => call.record(),
         };
         let [kind, a, b, c, d, e] = numbers;
         record(kind, [a, b, c, d, e], &bytes)
@@ -166,6 +169,7 @@ impl Recorded {
             (_, Answer::Endpoint(endpoint)) => endpoint.line(),
             (_, Answer::Plan(plan)) => plan.line(),
             (_, Answer::Guard(guard)) => guard.line(),
+            (_, Answer::Compare(compared)) => compared.line(),
             (_, Answer::Astray) => "touched".to_string(),
         }
     }
@@ -205,7 +209,8 @@ pub fn stdin(calls: &[Recorded]) -> Vec<u8> {
     let mut held = None;
     for call in calls {
         let table = call.call.table();
-        if held != Some(table) && !matches!(call.call, Call::Endpoint(_) | Call::Plan(_) | Call::Guard(_)) {
+        let own = matches!(call.call, Call::Endpoint(_) | Call::Plan(_) | Call::Guard(_) | Call::Compare(_));
+        if held != Some(table) && !own {
             held = Some(table);
             file.extend(record(0, [0; 5], table));
         }

@@ -388,6 +388,21 @@ impl<'t> Table<'t> {
         }
     }
 
+    /// The list of an enum; none in version 1, where it is all numbers up to the greatest.
+    fn list(&self, row: &TypeRow) -> Option<&'t [[u8; 4]]> {
+        self.entries.map(|entries| &entries[row.c..row.c + row.d])
+    }
+
+    /// Whether two enums allow the same numbers: a list that rises to g has all numbers up to g if it has g + 1 entries.
+    pub fn same_numbers(&self, row: &TypeRow, other: &Table, other_row: &TypeRow) -> bool {
+        row.greatest() == other_row.greatest()
+            && match (self.list(row), other.list(other_row)) {
+                (None, None) => true,
+                (Some(list), None) | (None, Some(list)) => list.len() == row.greatest() + 1,
+                (Some(list), Some(other)) => list == other,
+            }
+    }
+
     pub fn name(&self, record: &TypeRow) -> &'t [u8] {
         &self.names[record.d..record.d + record.e]
     }

@@ -1,7 +1,7 @@
 //! The command line, and the help.
 
 use crate::input::Source;
-use crate::{change, convert, guard, night, plan, sheet, show};
+use crate::{change, compare, convert, guard, night, plan, sheet, show};
 use std::ffi::OsString;
 
 /// What is to be done.
@@ -17,6 +17,7 @@ pub enum Command {
     Sheet(sheet::Request),
     Plan(plan::Request),
     Guard(guard::Request),
+    Compare(compare::Request),
 }
 
 const HELP: &str = "\
@@ -32,6 +33,7 @@ icehub: shows messages of Ice encodings 1.1 and 1.0 by their type table
   icehub plan FILE                                plan the satellite bursts of waiting messages
   icehub plan --check FILE PLAN                   check a plan, and say what is wrong with it
   icehub guard [--hex] SETPOINT FILE              replay the reports of a frost guard
+  icehub compare OLD TOP NEW TOP                  compare two type tables before the new one is shipped
   icehub --version                                print the version
   icehub --help, icehub COMMAND --help            print help
 
@@ -203,6 +205,21 @@ Reports are parameter lists of a short (the reading), an optional(7) long (the t
 Exit status: 0 all reports accepted, 1 some refused, 2 something could not be done (arguments, files).
 ";
 
+const COMPARE_HELP: &str = "\
+icehub compare OLD TOP NEW TOP
+
+Compares an old type table and a new one: a line for each difference, with names, tags and types, then whether an old hub
+reads everything a new sender writes. Records come by their names, then parameter lists by their order; of each the base,
+required members by position, optional members by tag. Members of a record that only one table has are not listed.
+
+  OLD, NEW  the type tables, files
+  TOP       the type that is sent: the number of its row, counted from 0, or the name of an exception or class
+  --        what follows is no option
+
+Exit status: 0 the new table may be shipped, 1 it may not, 2 something could not be done (arguments, files, a table that
+breaks a rule).
+";
+
 /// The command of these words, or what is wrong with them.
 pub fn parse(words: impl IntoIterator<Item = OsString>) -> Result<Command, String> {
     let mut words = words.into_iter();
@@ -221,6 +238,7 @@ pub fn parse(words: impl IntoIterator<Item = OsString>) -> Result<Command, Strin
         Some("sheet") => parse_sheet(words),
         Some("plan") => parse_plan(words),
         Some("guard") => parse_guard(words),
+        Some("compare") => parse_compare(words),
         _ => Err(format!("{} is no command; see icehub --help", first.to_string_lossy())),
     }
 }
@@ -412,4 +430,19 @@ fn parse_guard(words: impl Iterator<Item = OsString>) -> Result<Command, String>
         }
         None => Err(format!("{} is no set point, -32768 to 32767", set_point.to_string_lossy())),
     }
+}
+
+fn parse_compare(words: impl Iterator<Item = OsString>) -> Result<Command, String> {
+    let Some(Words { operands, .. }) = split(words, &[], "compare")? else {
+        return Ok(Command::Help(COMPARE_HELP));
+    };
+    let Ok([old, old_top, new, new_top]) = <[OsString; 4]>::try_from(operands) else {
+        return Err("compare takes OLD, TOP, NEW and TOP; see icehub compare --help".to_string());
+    };
+    let (old, new) = (Source::new(old), Source::new(new));
+    if old == Source::Standard && new == Source::Standard {
+        return Err("- is named twice: standard input can be read only once".to_string());
+    }
+    let top = |word: OsString| word.into_string().map_err(|word| format!("TOP is no text: {}", word.to_string_lossy()));
+    Ok(Command::Compare(compare::Request { old, old_top: top(old_top)?, new, new_top: top(new_top)? }))
 }

@@ -15,12 +15,14 @@
 //! - `accepted`, `refused`: a message for a person; `json`: a message as a line of JSON
 //! - `locate`: the slice and the member at a place of a refused message; `text`: the first bad byte of a string
 //! - `plan`: the command `plan`
+//! - `compare`: the command `compare`
 //! - `values`: values for a person; `endpoints`: the addresses in a proxy; `words`: text, bytes and types in words
 
 mod accepted;
 mod arguments;
 mod broken;
 mod change;
+mod compare;
 mod convert;
 mod endpoints;
 mod guard;
@@ -94,6 +96,7 @@ fn run(out: &mut impl Write, status: &mut Status) -> io::Result<()> {
         Ok(Command::Sheet(request)) => sheet::run(&request, out, status),
         Ok(Command::Plan(request)) => plan::run(&request, out, status),
         Ok(Command::Guard(request)) => guard::run(&request, out, status),
+        Ok(Command::Compare(request)) => compare::run(&request, out, status),
         Err(wrong) => {
             tell(&wrong);
             status.raise(Status::Failed);

@@ -4,6 +4,7 @@
 //! 20,000 elements against those of 20. Some ratios have a bar; one that is missed is told at the end, and the exit
 //! status is 1 then. With the argument `logs` only the sequences are timed.
 
+use independent::compare::CompareCall;
 use independent::endpoint::{self, Given};
 use independent::ffi::endpoint as endpoint_ffi;
 use independent::night::night;
@@ -430,6 +431,41 @@ fn run_bursts(count: u64) {
     }
 }
 
+/// A table of 256 rows and 1,024 members: structs of four ints, or of four members of the row before, and classes with
+/// required and optional members, `more` of which have another tag.
+fn wide_table(chained: bool, more: usize) -> Spec {
+    let mut spec = Spec::default();
+    let int = spec.basic(3);
+    let mut last = int;
+    for _ in 0..192 {
+        let part = if chained { last } else { int };
+        last = spec.owner(9, &[(part, None); 4]);
+    }
+    for class in 0..63 {
+        let tag = if class < more { 9 } else { 8 };
+        let name = format!("::Guard::Class{}", class * 37 % 63);
+        let members = [(int, None), (last, None), (int, Some(tag)), (last, Some(3))];
+        let ints = [(int, None); 4];
+        let first = if class == 0 { &ints[..] } else { &[] };
+        spec.record(14, None, name.as_bytes(), &[first, &members].concat());
+    }
+    assert_eq!((spec.rows.len(), spec.members.len()), (256, 1_024));
+    spec
+}
+
+/// Two such tables compared.
+fn run_compare(name: &str, chained: bool) {
+    let (old, new, top) = (wide_table(chained, 0), wide_table(chained, 20), 193);
+    let call = CompareCall { old: old.bytes(), old_top: top, new: new.bytes(), new_top: top, room: 65_536 };
+    let (mut list, mut other) = (vec![0; call.room], vec![0; call.room]);
+    report(
+        name,
+        || ffi::compare(black_box(&call), &mut list),
+        || number(independent::compare::compare(&call.old, top, &call.new, top, &mut other)),
+        0,
+    );
+}
+
 fn number<T>(result: Result<T, (u32, u32)>) -> u32 {
     result.err().map_or(0, |(number, _)| number)
 }
@@ -734,6 +770,8 @@ fn all_but_logs() -> Vec<String> {
     heads("library", "independent");
     endpoints();
 
+    run_compare("compare: 256 rows, 1,024 members", false);
+    run_compare("compare: the same, each struct of the row before", true);
     run_bursts(1_000);
     run_bursts(10_000);
     p2.run_report();

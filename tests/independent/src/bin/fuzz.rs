@@ -1,16 +1,18 @@
 //! fuzz [CALLS [SEED]]: makes calls (1,000,000 by default) of the reader, the writer and the table check, and a member
 //! view, a conversion, a night and a season sheet of each message read, and with each an endpoint opened, one written and
-//! one found in a proxy, a burst plan checked and one made, an optional set or removed, mostly under an older table of a newer message,
-//! and the result read under both, and with every tenth a season of reports to a frost guard. It compares the proved library
-//! with this implementation in every number and every lent byte. A difference is printed as a line like those of the recorded
-//! calls, the library's answer after it as `got`; with any, or with a change that passes on not all of the rest, the exit
-//! status is 1.
+//! one found in a proxy, a burst plan checked and one made, two tables compared, an optional set or removed, mostly under an
+//! older table of a newer message, and the result read under both, and with every tenth a season of reports to a frost
+//! guard. It compares the proved library with this implementation in every number and every lent byte. A difference is
+//! printed as a line like those of the recorded calls, the library's answer after it as `got`; with any, or with a change
+//! that passes on not all of the rest, the exit status is 1.
 
 use independent::bursts::{flat, PlanCall};
 use independent::calls::{Answer, Call};
 use independent::ffi;
 use independent::frost::{Guard, GuardCall, History, STATE};
-use independent::gen::{endpoint_calls, guard_call, night, plan_calls, season, sheet, Calls, Changes, Rng, Text};
+use independent::gen::{
+    compare_call, endpoint_calls, guard_call, night, plan_calls, season, sheet, Calls, Changes, Rng, Text,
+};
 use std::time::{Instant, SystemTime, UNIX_EPOCH};
 use std::{env, process};
 
@@ -50,6 +52,7 @@ fn main() {
     let (mut endpoints, mut endpoint_refusals) = (Rng(!seed), [[0; 40]; 3]);
     let (mut plans, mut plan_refusals) = (Rng(!seed), [[0; 47]; 2]);
     let (mut seasons, mut reports, mut fired) = (Rng(!seed), [0; 53], 0);
+    let (mut tables, mut table_refusals, mut yes) = (Rng(!seed), [0; 40], 0);
     for index in 0..calls {
         let Some(change) = changed.next() else { break };
         let answer = change.call.answer();
@@ -113,6 +116,11 @@ fn main() {
             endpoint_refusals[which][expected.refusal() as usize] += 1;
             compare(&call, &expected);
         }
+        let call = compare_call(&mut tables);
+        let expected = call.answer();
+        table_refusals[expected.refusal() as usize] += 1;
+        yes += u32::from(matches!(&expected, Answer::Compare(compared) if compared.extends));
+        compare(&call, &expected);
         for (which, call) in plan_calls(&mut plans).into_iter().enumerate() {
             let expected = call.answer();
             plan_refusals[which][expected.refusal() as usize] += 1;
@@ -186,6 +194,9 @@ fn main() {
         let reached: Vec<_> = met.map(|(number, calls)| format!("{number}: {calls}")).collect();
         println!("answers by refusal number, {what}: {}", reached.join(", "));
     }
+    let met = table_refusals.iter().enumerate().filter(|(_, &calls)| calls > 0);
+    let reached: Vec<_> = met.map(|(number, calls)| format!("{number}: {calls}")).collect();
+    println!("answers by refusal number, two tables compared: {}; {yes} extend", reached.join(", "));
     println!("{differences} differences in {calls} calls from seed {seed}, {:.1} s", start.elapsed().as_secs_f64());
     process::exit(i32::from(differences != 0 || not_passed_on != 0));
 }

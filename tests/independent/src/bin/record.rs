@@ -56,7 +56,14 @@ fn main() {
 fn is_more(call: &Call) -> bool {
     matches!(
         call,
-        Call::Night(_) | Call::Sheet(_) | Call::Endpoint(_) | Call::Plan(_) | Call::Set { .. } | Call::Remove { .. } | Call::Guard(_)
+        Call::Night(_)
+            | Call::Sheet(_)
+            | Call::Endpoint(_)
+            | Call::Plan(_)
+            | Call::Set { .. }
+            | Call::Remove { .. }
+            | Call::Guard(_)
+            | Call::Compare(_)
     )
 }
 
@@ -64,6 +71,7 @@ fn is_more(call: &Call) -> bool {
 fn is_lent(call: &Call) -> bool {
     match call {
         Call::Night(night) => night.answers.max(night.rows) <= replay::MOST_LENT,
+        Call::Compare(call) => call.room <= replay::MOST_LENT,
         _ => true,
     }
 }

@@ -1,0 +1,472 @@
+-- Cells of two rows, each from the cells of the rows below. Assumes nothing.
+--
+--   sort-..                       what the sort of an index says of its type
+--   below-..                      an index as a part; member-.. that of a member's type
+--   cell-is                       a cell that is there says whether two indexes agree
+--   Structs, structs-..           the loop over the members of two structs
+--   listed-.., Lists, lists-..    the lists of two enums; enums-.. what two enums allow
+--   rows-..                       two rows of one kind
+--   cell-..                       two indexes
+--   Row, row-..                   the cells of one index as they fill; all-.. those of all
+use Prim.Native.Nat.{ℕ, zero, suc, _+_, _-_, _*_, _≤_, _<_}
+use mathlib.Core.Path.{_≡_, refl, sym, ap, ap₂, _∙_}
+use mathlib.Core.Bool.{Bool, true, false, _&&_, not}
+use mathlib.Core.Logic.{⊎-elim}
+use mathlib.Core.List.{List, [], _∷_, map}
+use native.Mathlib.Nat.{eq-or-lt-of-le}
+use native.Mathlib.Numerals.{add-one}
+use native.Mathlib.Omega.{arith}
+use lib.ListN.{length, getD, set, length-set}
+use lib.Seq.{getD-set-same, getD-set-other}
+use lib.Dec.{eqb, leb, ltb}
+use borrow.Author.Tests.{leb-true, leb-false, le-leb, lt-leb, lt-ltb, le-ltb, ltb-true, ltb-false, eq-eqb, ne-eqb, eqb-true, eqb-false, not-true, not-false}
+use Rattle.encoding.specs.Result.{pick, sameBytes}
+use Rattle.encoding.specs.ResultLaws.{sameBytes-ok}
+use Rattle.encoding.specs.Types.{upto, only, allowedOf, short, int, long, float, double, Ty, broken, bool, byte, string, proxy, oldProxy, num, enum, oldEnum, struct, seq, dict}
+use Rattle.encoding.specs.Table.{withLists, kind, field, greatest, members, memberType, listEntry, entriesOf, allowed, range, memberTy, memberTys, ownRows, tys, partTy, typeRows, trees, tyOf}
+use Rattle.encoding.specs.TableLaws.{rows-below, ty-past, below-ty, below-none, member-in, member-past, members-more, members-none, row-bool, row-byte, row-short, row-int, row-long, row-float, row-double, row-string, row-enum, row-struct, row-seq, row-dict, row-proxy, row-other}
+use Rattle.differences.specs.Compare.{sameAllowed, shape, enumsOf, membersOf, elementOf, valueOf, sameTy, sameTys}
+use Rattle.differences.specs.CompareLaws.{ty-ok, ty-equal, tys-ok}
+use Rattle.agreeing.specs.Agreeing.{indexed, sortAt, below, isListed, cellOf, Agreed}
+use Rattle.table.specs.declared.TypeRow.{TypeRow}
+use Rattle.table.specs.Rows.{IsTypeRow, greatestOf}
+use Rattle.table.proofs.ByKind.{by-kind}
+use Rattle.table.proofs.Ranges.{range-left, range-empty}
+
+-- ---- sorts
+
+unfoldable sortOf : Ty → ℕ
+sortOf broken = 13
+sortOf bool = 0
+sortOf byte = 1
+sortOf string = 7
+sortOf proxy = 12
+sortOf oldProxy = 14
+sortOf (num short) = 2
+sortOf (num int) = 3
+sortOf (num long) = 4
+sortOf (num float) = 5
+sortOf (num double) = 6
+sortOf (enum g) = 8
+sortOf (oldEnum g) = 15
+sortOf (struct ts) = 9
+sortOf (seq t) = 10
+sortOf (dict k v) = 11
+
+sort-broken : (t : Ty) → sortOf t ≡ 13 → t ≡ broken
+unfolding sortOf
+sort-broken broken e = refl
+sort-broken bool e = absurd (omega arith)
+sort-broken byte e = absurd (omega arith)
+sort-broken string e = absurd (omega arith)
+sort-broken proxy e = absurd (omega arith)
+sort-broken oldProxy e = absurd (omega arith)
+sort-broken (num short) e = absurd (omega arith)
+sort-broken (num int) e = absurd (omega arith)
+sort-broken (num long) e = absurd (omega arith)
+sort-broken (num float) e = absurd (omega arith)
+sort-broken (num double) e = absurd (omega arith)
+sort-broken (enum g) e = absurd (omega arith)
+sort-broken (oldEnum g) e = absurd (omega arith)
+sort-broken (struct ts) e = absurd (omega arith)
+sort-broken (seq t) e = absurd (omega arith)
+sort-broken (dict k v) e = absurd (omega arith)
+
+sort-row : (T : List ℕ) (t : ℕ) → t < typeRows T → sortOf (tyOf T t) ≡ pick (leb (kind T t) 12) (kind T t) 13
+unfolding sortOf
+sort-row T t h = by-kind (λ k. kind T t ≡ k → sortOf (tyOf T t) ≡ pick (leb k 12) k 13)
+    (λ e. rw (row-bool T t h e)) (λ e. rw (row-byte T t h e)) (λ e. rw (row-short T t h e)) (λ e. rw (row-int T t h e))
+    (λ e. rw (row-long T t h e)) (λ e. rw (row-float T t h e)) (λ e. rw (row-double T t h e)) (λ e. rw (row-string T t h e))
+    (λ e. rw (row-enum T t h e)) (λ e. rw (row-struct T t h e)) (λ e. rw (row-seq T t h e)) (λ e. rw (row-dict T t h e)) (λ e. rw (row-proxy T t h e))
+    (λ n l e. rw (row-other T t h (rw e l), lt-leb n 12 l))
+    (kind T t) refl
+
+sort-is : (T : List ℕ) (x : ℕ) → sortOf (indexed T x) ≡ sortAt T x
+unfolding sortOf sortAt indexed
+sort-is T zero = refl
+sort-is T (suc t) = go (ltb t (typeRows T)) refl
+  where
+    go : (b : Bool) → ltb t (typeRows T) ≡ b → sortOf (tyOf T t) ≡ pick (b && leb (kind T t) 12) (kind T t) 13
+    go true e = sort-row T t (ltb-true _ _ e)
+    go false e = rw (ty-past T t (ltb-false _ _ e))
+
+module _ (T : List ℕ) (x : ℕ) where
+  pub sort-none : x ≡ 0 → 13 ≡ sortAt T x
+  unfolding sortAt
+  sort-none e = rw e
+
+  module _ (h : x ≡ 0 → ⊥) where
+    sort-step : sortAt T x ≡ pick (ltb (x - 1) (typeRows T) && leb (kind T (x - 1)) 12) (kind T (x - 1)) 13
+    unfolding sortAt
+    sort-step = let e : x ≡ suc (x - 1) = omega arith in ap (sortAt T) e
+
+    pub sort-past : (n : ℕ) → n ≡ typeRows T → n ≤ x - 1 → 13 ≡ sortAt T x
+    sort-past n en l = sym (sort-step ∙ rw (← en, le-ltb (x - 1) n l))
+
+    module _ (n : ℕ) (en : n ≡ typeRows T) (l : x - 1 < n) (k : ℕ) (ek : k ≡ kind T (x - 1)) where
+      pub sort-great : 12 < k → 13 ≡ sortAt T x
+      sort-great g = sym (sort-step ∙ rw (← en, lt-ltb (x - 1) n l, ← ek, lt-leb k 12 g))
+
+      pub sort-kind : k ≤ 12 → k ≡ sortAt T x
+      sort-kind g = sym (sort-step ∙ rw (← en, lt-ltb (x - 1) n l, ← ek, le-leb k 12 g))
+
+-- an index whose sort is not 13 is that of a row
+module _ (T : List ℕ) (x k : ℕ) (e : k ≡ sortAt T x) (h : k ≡ 13 → ⊥) where
+  pub row-there : 0 < x
+  unfolding sortAt
+  row-there = go x e
+    where
+      go : (y : ℕ) → k ≡ sortAt T y → 0 < y
+      go zero q = absurd (h q)
+      go (suc y) q = omega arith
+
+  row-both : (x - 1 < typeRows T) × (k ≡ kind T (x - 1))
+  row-both =
+      go (ltb (x - 1) (typeRows T)) refl (leb (kind T (x - 1)) 12)
+      (e ∙ sort-step T x (λ z. omega (arith, row-there)))
+    where
+      go : (a : Bool) → ltb (x - 1) (typeRows T) ≡ a → (b : Bool) → k ≡ pick (a && b) (kind T (x - 1)) 13 → (x - 1 < typeRows T) × (k ≡ kind T (x - 1))
+      go true f true q = (ltb-true _ _ f, q)
+      go true f false q = absurd (h q)
+      go false f b q = absurd (h q)
+
+  pub row-within : x - 1 < typeRows T
+  row-within = row-both .0
+
+  pub row-kind : k ≡ kind T (x - 1)
+  row-kind = row-both .1
+
+-- ---- indexes
+
+module _ (t i : ℕ) where
+  pub below-none-is : t ≤ i → 0 ≡ below t i
+  unfolding below
+  below-none-is h = rw (le-leb t i h)
+
+  pub below-is : i < t → i + 1 ≡ below t i
+  unfolding below
+  below-is h = rw (lt-leb t i h, add-one)
+
+indexed-below : (T : List ℕ) (t i : ℕ) → t ≤ typeRows T → indexed T (below t i) ≡ partTy T t i
+unfolding indexed below partTy
+indexed-below T t i h = go (leb t i) refl
+  where
+    go : (b : Bool) → leb t i ≡ b → indexed T (pick b 0 (suc i)) ≡ getD (tys T t) i broken
+    go true e = sym (below-none T t i (leb-true _ _ e))
+    go false e = sym (below-ty T t i h (leb-false _ _ e))
+
+pub index-is : (T : List ℕ) (n i r : ℕ) → n ≡ typeRows T → r ≡ below n i → indexed T r ≡ tyOf T i
+unfolding tyOf trees partTy
+index-is T n i r en er = rw (er, en) (indexed-below T (typeRows T) i (omega arith))
+
+module _ (T : List ℕ) (t m : ℕ) where
+  pub member-none : (n : ℕ) → n ≡ members T → n ≤ m → indexed T 0 ≡ memberTy T (tys T t) m
+  unfolding indexed
+  member-none n e h = sym (member-past T m (tys T t) (rw e at h))
+
+  pub member-is : (n i r : ℕ) → n ≡ members T → m < n → i ≡ memberType T m → r ≡ below t i → t ≤ typeRows T → indexed T r ≡ memberTy T (tys T t) m
+  unfolding partTy
+  member-is n i r en l ei er h =
+      ap (indexed T) er ∙ indexed-below T t i h ∙ ap (λ (j : ℕ). getD (tys T t) j broken) ei ∙ sym (member-in T m (tys T t) (rw en at l))
+
+-- ---- a cell
+
+one-or-none : (b : Bool) → eqb (pick b 1 0) 1 ≡ b
+one-or-none true = refl
+one-or-none false = refl
+
+module _ (S T cells : List ℕ) (z : ℕ) (A : Agreed S T cells z) (x y : ℕ) (lx : x < z) (ly : y ≤ typeRows T) where
+  pub cell-is : (b : Bool) → b ≡ eqb (getD cells (257 * x + y) 0) 1 → b ≡ sameTy (indexed S x) (indexed T y)
+  cell-is b e = e ∙ ap (λ (n : ℕ). eqb n 1) (A .done x y lx ly) ∙ one-or-none (sameTy (indexed S x) (indexed T y))
+
+module _ (S T cells : List ℕ) (t u : ℕ) (ht : t < typeRows S) (hu : u < typeRows T) (A : Agreed S T cells (t + 1)) where
+  pub part-is : (i a d x y : ℕ) → a ≡ field S t i → d ≡ field T u i → x ≡ below t a → x ≤ t → y ≡ below u d → y ≤ u → (b : Bool) → b ≡ eqb (getD cells (257 * x + y) 0) 1
+      → b ≡ sameTy (partTy S t (field S t i)) (partTy T u (field T u i))
+  part-is i a d x y ea ed ex lx ey ly b e =
+      cell-is S T cells (t + 1) A x y (omega arith) (omega arith) b e
+      ∙ ap₂ sameTy (ap (indexed S) (rw ea at ex) ∙ indexed-below S t _ (omega arith)) (ap (indexed T) (rw ed at ey) ∙ indexed-below T u _ (omega arith))
+
+-- an index of a part or of a row lies inside the array
+pub part-inside : (T : List ℕ) (x t : ℕ) → x ≤ t → t < typeRows T → x < 257
+part-inside T x t l h = omega (arith, rows-below T)
+
+pub row-inside : (T : List ℕ) (x : ℕ) → x ≤ typeRows T → x < 257
+row-inside T x l = omega (arith, rows-below T)
+
+-- ---- structs
+
+module _ (S T cells : List ℕ) (t u : ℕ) (ht : t < typeRows S) (hu : u < typeRows T) (A : Agreed S T cells (t + 1)) where
+  pub types-are : (m k x y : ℕ) → indexed S x ≡ memberTy S (tys S t) m → x ≤ t → indexed T y ≡ memberTy T (tys T u) k → y ≤ u → (b : Bool) → b ≡ eqb (getD cells (257 * x + y) 0) 1
+      → b ≡ sameTy (memberTy S (tys S t) m) (memberTy T (tys T u) k)
+  types-are m k x y ex lx ey ly b e = cell-is S T cells (t + 1) A x y (omega arith) (omega arith) b e ∙ ap₂ sameTy ex ey
+
+pub record Structs (S T : List ℕ) (t u m k n i : ℕ) : Type 0 where
+  pub within : i ≤ n
+  pub rest : sameTys (memberTys S (tys S t) (range m n)) (memberTys T (tys T u) (range k n)) ≡ sameTys (memberTys S (tys S t) (range (m + i) (n - i))) (memberTys T (tys T u) (range (k + i) (n - i)))
+
+module _ (S T : List ℕ) (t u m k n : ℕ) where
+  pub structs-begin : Structs S T t u m k n 0
+  structs-begin =
+      let em : m + 0 ≡ m = omega arith in let ek : k + 0 ≡ k = omega arith in let en : n - 0 ≡ n = omega arith in
+      record { within = omega arith; rest = rw (em, ek, en) }
+
+  module _ (i : ℕ) (inv : Structs S T t u m k n i) where
+    pub structs-end : n ≤ i → true ≡ sameTys (memberTys S (tys S t) (range m n)) (memberTys T (tys T u) (range k n))
+    unfolding sameTys
+    structs-end h = sym (inv .rest ∙ rw (members-none S (tys S t) (m + i) (n - i) (omega arith), members-none T (tys T u) (k + i) (n - i) (omega arith)))
+
+    module _ (h : i < n) (b : Bool) (e : b ≡ sameTy (memberTy S (tys S t) (m + i)) (memberTy T (tys T u) (k + i))) where
+      structs-more : sameTys (memberTys S (tys S t) (range m n)) (memberTys T (tys T u) (range k n))
+          ≡ b && sameTys (memberTys S (tys S t) (range (m + i + 1) (n - i - 1))) (memberTys T (tys T u) (range (k + i + 1) (n - i - 1)))
+      unfolding sameTys
+      structs-more =
+          inv .rest
+          ∙ rw (members-more S (tys S t) (m + i) (n - i) (omega arith), members-more T (tys T u) (k + i) (n - i) (omega arith), ← e)
+
+      pub structs-not : not b ≡ true → false ≡ sameTys (memberTys S (tys S t) (range m n)) (memberTys T (tys T u) (range k n))
+      structs-not q = sym (structs-more ∙ rw (not-true b q))
+
+      pub structs-next : not b ≡ false → Structs S T t u m k n (i + 1)
+      structs-next q =
+          let em : m + i + 1 ≡ m + (i + 1) = omega arith in let ek : k + i + 1 ≡ k + (i + 1) = omega arith in let en : n - i - 1 ≡ n - (i + 1) = omega arith in
+          record { within = omega arith; rest = structs-more ∙ rw (not-false b q, em, ek, en) }
+
+module _ (S T : List ℕ) (t u : ℕ) where
+  counts-differ : (a b i j : ℕ) → (a ≡ b → ⊥) → false ≡ sameTys (memberTys S (tys S t) (range i a)) (memberTys T (tys T u) (range j b))
+  unfolding sameTys memberTys range
+  counts-differ zero zero i j h = absurd (h refl)
+  counts-differ zero (suc b) i j h = refl
+  counts-differ (suc a) zero i j h = refl
+  counts-differ (suc a) (suc b) i j h = go (sameTy (memberTy S (tys S t) i) (memberTy T (tys T u) j)) (counts-differ a b (suc i) (suc j) (λ e. h (ap suc e)))
+    where
+      go : (c : Bool) → false ≡ sameTys (memberTys S (tys S t) (range (suc i) a)) (memberTys T (tys T u) (range (suc j) b))
+          → false ≡ (c && sameTys (memberTys S (tys S t) (range (suc i) a)) (memberTys T (tys T u) (range (suc j) b)))
+      go true e = e
+      go false e = refl
+
+  module _ (a b : ℕ) (ea : a ≡ field S t 1) (eb : b ≡ field T u 1) where
+    pub structs-differ : (a ≡ b → ⊥) → false ≡ sameTys (memberTys S (tys S t) (ownRows S t)) (memberTys T (tys T u) (ownRows T u))
+    unfolding ownRows
+    structs-differ h = rw (← ea, ← eb) (counts-differ a b (field S t 0) (field T u 0) h)
+
+    pub structs-are : a ≡ b → (m k : ℕ) → m ≡ field S t 0 → k ≡ field T u 0 → (r : Bool) → r ≡ sameTys (memberTys S (tys S t) (range m a)) (memberTys T (tys T u) (range k a))
+        → r ≡ sameTys (memberTys S (tys S t) (ownRows S t)) (memberTys T (tys T u) (ownRows T u))
+    unfolding ownRows
+    structs-are e m k em ek r er = er ∙ rw (em, ek) (ap₂ (λ (v w : ℕ). sameTys (memberTys S (tys S t) (range (field S t 0) v)) (memberTys T (tys T u) (range (field T u 0) w))) ea (e ∙ eb))
+
+-- ---- enums
+
+module _ (T : List ℕ) (t : ℕ) where
+  row-greatest : (r : TypeRow) → IsTypeRow T t r → greatestOf r ≡ greatest T t
+  unfolding greatest
+  row-greatest r i = rw (i .a-is, i .b-is)
+
+  pub listed-is : (w : Bool) → w ≡ withLists T → w ≡ true → (r : TypeRow) → IsTypeRow T t r → (g : ℕ) → g ≡ greatestOf r → not (eqb (r .d) (g + 1)) ≡ isListed T t
+  unfolding isListed
+  listed-is w ew q r i g eg = rw (← ew, q, i .d-is, eg, row-greatest r i, add-one)
+
+  pub listed-none : (w : Bool) → w ≡ withLists T → w ≡ false → false ≡ isListed T t
+  unfolding isListed
+  listed-none w ew q = rw (← ew, q)
+
+  entries-length : (n i : ℕ) → length (map (listEntry T) (range i n)) ≡ n
+  unfolding range
+  entries-length zero i = refl
+  entries-length (suc n) i = ap suc (entries-length n (suc i))
+
+  allowed-is : allowed T t ≡ pick (isListed T t) (only (entriesOf T t)) (upto (greatest T t))
+  unfolding allowed allowedOf isListed entriesOf
+  allowed-is = go (withLists T)
+    where
+      by : (b : Bool) → pick b (upto (greatest T t)) (only (map (listEntry T) (range (field T t 2) (field T t 3)))) ≡ pick (not b) (only (map (listEntry T) (range (field T t 2) (field T t 3)))) (upto (greatest T t))
+      by true = refl
+      by false = refl
+
+      go : (w : Bool) → pick w (pick (eqb (length (map (listEntry T) (range (field T t 2) (field T t 3)))) (suc (greatest T t))) (upto (greatest T t)) (only (map (listEntry T) (range (field T t 2) (field T t 3))))) (upto (greatest T t))
+          ≡ pick (w && not (eqb (field T t 3) (suc (greatest T t)))) (only (map (listEntry T) (range (field T t 2) (field T t 3)))) (upto (greatest T t))
+      go true = rw (entries-length (field T t 3) (field T t 2)) (by (eqb (field T t 3) (suc (greatest T t))))
+      go false = refl
+
+pub record Lists (S T : List ℕ) (i j n k : ℕ) : Type 0 where
+  pub within : k ≤ n
+  pub rest : sameBytes (map (listEntry S) (range i n)) (map (listEntry T) (range j n)) ≡ sameBytes (map (listEntry S) (range (i + k) (n - k))) (map (listEntry T) (range (j + k) (n - k)))
+
+module _ (S T : List ℕ) (i j n : ℕ) where
+  pub lists-begin : Lists S T i j n 0
+  lists-begin =
+      let ei : i + 0 ≡ i = omega arith in let ej : j + 0 ≡ j = omega arith in let en : n - 0 ≡ n = omega arith in
+      record { within = omega arith; rest = rw (ei, ej, en) }
+
+  module _ (k : ℕ) (inv : Lists S T i j n k) where
+    pub lists-end : n ≤ k → true ≡ sameBytes (map (listEntry S) (range i n)) (map (listEntry T) (range j n))
+    unfolding sameBytes
+    lists-end h = sym (inv .rest ∙ rw (range-empty (i + k) (n - k) (omega arith), range-empty (j + k) (n - k) (omega arith)))
+
+    module _ (h : k < n) (b : Bool) (e : b ≡ eqb (listEntry S (i + k)) (listEntry T (j + k))) where
+      lists-more : sameBytes (map (listEntry S) (range i n)) (map (listEntry T) (range j n))
+          ≡ b && sameBytes (map (listEntry S) (range (i + k + 1) (n - k - 1))) (map (listEntry T) (range (j + k + 1) (n - k - 1)))
+      unfolding sameBytes
+      lists-more = inv .rest ∙ rw (range-left (i + k) (n - k) (omega arith), range-left (j + k) (n - k) (omega arith), ← e)
+
+      pub lists-not : not b ≡ true → false ≡ sameBytes (map (listEntry S) (range i n)) (map (listEntry T) (range j n))
+      lists-not q = sym (lists-more ∙ rw (not-true b q))
+
+      pub lists-next : not b ≡ false → Lists S T i j n (k + 1)
+      lists-next q =
+          let ei : i + k + 1 ≡ i + (k + 1) = omega arith in let ej : j + k + 1 ≡ j + (k + 1) = omega arith in let en : n - k - 1 ≡ n - (k + 1) = omega arith in
+          record { within = omega arith; rest = lists-more ∙ rw (not-false b q, ei, ej, en) }
+
+module _ (S T : List ℕ) (t u : ℕ) where
+  module _ (a b : Bool) (ea : a ≡ isListed S t) (eb : b ≡ isListed T u) where
+    sets-are : sameAllowed (allowed S t) (allowed T u) ≡ sameAllowed (pick a (only (entriesOf S t)) (upto (greatest S t))) (pick b (only (entriesOf T u)) (upto (greatest T u)))
+    sets-are = rw (allowed-is S t, allowed-is T u, ← ea, ← eb)
+
+    pub enums-listed : a ≡ true → b ≡ true → (r : Bool) → r ≡ sameBytes (entriesOf S t) (entriesOf T u) → r ≡ sameAllowed (allowed S t) (allowed T u)
+    unfolding sameAllowed
+    enums-listed p q r e = e ∙ sym (sets-are ∙ rw (p, q))
+
+    pub enums-one : a ≡ true → b ≡ false → false ≡ sameAllowed (allowed S t) (allowed T u)
+    unfolding sameAllowed
+    enums-one p q = sym (sets-are ∙ rw (p, q))
+
+    pub enums-other : a ≡ false → b ≡ true → false ≡ sameAllowed (allowed S t) (allowed T u)
+    unfolding sameAllowed
+    enums-other p q = sym (sets-are ∙ rw (p, q))
+
+    pub enums-all : a ≡ false → b ≡ false → (r s : TypeRow) → IsTypeRow S t r → IsTypeRow T u s → (g h : ℕ) → g ≡ greatestOf r → h ≡ greatestOf s
+        → eqb g h ≡ sameAllowed (allowed S t) (allowed T u)
+    unfolding sameAllowed
+    enums-all p q r s i j g h eg eh = sym (sets-are ∙ rw (p, q, eg, eh, row-greatest S t r i, row-greatest T u s j))
+
+  pub lists-differ : (a b : ℕ) → a ≡ field S t 3 → b ≡ field T u 3 → (a ≡ b → ⊥) → false ≡ sameBytes (entriesOf S t) (entriesOf T u)
+  unfolding entriesOf
+  lists-differ a b ea eb h = go (sameBytes (entriesOf S t) (entriesOf T u)) refl
+    where
+      go : (c : Bool) → sameBytes (entriesOf S t) (entriesOf T u) ≡ c → false ≡ c
+      go true e = absurd (h (ea ∙ sym (entries-length S t (field S t 3) (field S t 2)) ∙ ap length (sameBytes-ok (entriesOf S t) (entriesOf T u) e) ∙ entries-length T u (field T u 3) (field T u 2) ∙ sym eb))
+      go false e = refl
+
+  pub lists-are : (a b : ℕ) → a ≡ field S t 3 → b ≡ field T u 3 → a ≡ b → (i j : ℕ) → i ≡ field S t 2 → j ≡ field T u 2
+      → (r : Bool) → r ≡ sameBytes (map (listEntry S) (range i a)) (map (listEntry T) (range j a)) → r ≡ sameBytes (entriesOf S t) (entriesOf T u)
+  unfolding entriesOf
+  lists-are a b ea eb e i j ei ej r er = er ∙ rw (ei, ej) (ap₂ (λ (v w : ℕ). sameBytes (map (listEntry S) (range (field S t 2) v)) (map (listEntry T) (range (field T u 2) w))) ea (e ∙ eb))
+
+-- ---- two rows of one kind
+
+module _ (S T : List ℕ) (t u : ℕ) (ht : t < typeRows S) (hu : u < typeRows T) (k : ℕ) (es : k ≡ kind S t) (et : k ≡ kind T u) where
+  pub rows-enum : k ≡ 8 → (r : Bool) → r ≡ sameAllowed (allowed S t) (allowed T u) → r ≡ sameTy (tyOf S t) (tyOf T u)
+  unfolding sameTy shape enumsOf
+  rows-enum q r e = e ∙ sym (rw (row-enum S t ht (sym es ∙ q), row-enum T u hu (sym et ∙ q)))
+
+  pub rows-struct : k ≡ 9 → (r : Bool) → r ≡ sameTys (memberTys S (tys S t) (ownRows S t)) (memberTys T (tys T u) (ownRows T u)) → r ≡ sameTy (tyOf S t) (tyOf T u)
+  unfolding sameTy shape membersOf ownRows
+  rows-struct q r e = e ∙ sym (rw (row-struct S t ht (sym es ∙ q), row-struct T u hu (sym et ∙ q)))
+
+  pub rows-seq : k ≡ 10 → (r : Bool) → r ≡ sameTy (partTy S t (field S t 0)) (partTy T u (field T u 0)) → r ≡ sameTy (tyOf S t) (tyOf T u)
+  unfolding sameTy shape elementOf partTy
+  rows-seq q r e = e ∙ sym (rw (row-seq S t ht (sym es ∙ q), row-seq T u hu (sym et ∙ q)))
+
+  module _ (q : k ≡ 11) (a : Bool) (ea : a ≡ sameTy (partTy S t (field S t 0)) (partTy T u (field T u 0))) where
+    dicts : sameTy (tyOf S t) (tyOf T u) ≡ a && sameTy (partTy S t (field S t 1)) (partTy T u (field T u 1))
+    unfolding sameTy shape elementOf valueOf partTy
+    dicts = rw ea (rw (row-dict S t ht (sym es ∙ q), row-dict T u hu (sym et ∙ q)))
+
+    pub rows-dict : a ≡ true → (r : Bool) → r ≡ sameTy (partTy S t (field S t 1)) (partTy T u (field T u 1)) → r ≡ sameTy (tyOf S t) (tyOf T u)
+    rows-dict p r e = e ∙ sym (dicts ∙ rw p)
+
+    pub rows-dict-not : a ≡ false → false ≡ sameTy (tyOf S t) (tyOf T u)
+    rows-dict-not p = sym (dicts ∙ rw p)
+
+  pub rows-plain : (k ≡ 8 → ⊥) → (k ≡ 9 → ⊥) → (k ≡ 10 → ⊥) → (k ≡ 11 → ⊥) → true ≡ sameTy (tyOf S t) (tyOf T u)
+  rows-plain a b c d = sym (ty-equal (tyOf S t) (tyOf T u) (by-kind (λ n. k ≡ n → tyOf S t ≡ tyOf T u)
+      (λ e. rw (row-bool S t ht (sym es ∙ e), row-bool T u hu (sym et ∙ e))) (λ e. rw (row-byte S t ht (sym es ∙ e), row-byte T u hu (sym et ∙ e)))
+      (λ e. rw (row-short S t ht (sym es ∙ e), row-short T u hu (sym et ∙ e))) (λ e. rw (row-int S t ht (sym es ∙ e), row-int T u hu (sym et ∙ e)))
+      (λ e. rw (row-long S t ht (sym es ∙ e), row-long T u hu (sym et ∙ e))) (λ e. rw (row-float S t ht (sym es ∙ e), row-float T u hu (sym et ∙ e)))
+      (λ e. rw (row-double S t ht (sym es ∙ e), row-double T u hu (sym et ∙ e))) (λ e. rw (row-string S t ht (sym es ∙ e), row-string T u hu (sym et ∙ e)))
+      (λ e. absurd (a e)) (λ e. absurd (b e)) (λ e. absurd (c e)) (λ e. absurd (d e)) (λ e. rw (row-proxy S t ht (sym es ∙ e), row-proxy T u hu (sym et ∙ e)))
+      (λ n l e. rw (row-other S t ht (rw (sym es ∙ e) l), row-other T u hu (rw (sym et ∙ e) l)))
+      k refl))
+
+-- ---- two indexes
+
+module _ (S T : List ℕ) (x y a b : ℕ) (ea : a ≡ sortAt S x) (eb : b ≡ sortAt T y) where
+  pub cell-differ : (a ≡ b → ⊥) → false ≡ sameTy (indexed S x) (indexed T y)
+  cell-differ h = go (sameTy (indexed S x) (indexed T y)) refl
+    where
+      go : (c : Bool) → sameTy (indexed S x) (indexed T y) ≡ c → false ≡ c
+      go true e = absurd (h (ea ∙ sym (sort-is S x) ∙ ap sortOf (ty-ok (indexed S x) (indexed T y) e) ∙ sort-is T y ∙ sym eb))
+      go false e = refl
+
+  pub cell-broken : a ≡ b → a ≡ 13 → true ≡ sameTy (indexed S x) (indexed T y)
+  cell-broken e q =
+      sym (ty-equal (indexed S x) (indexed T y)
+      (sort-broken (indexed S x) (sort-is S x ∙ sym ea ∙ q) ∙ sym (sort-broken (indexed T y) (sort-is T y ∙ sym eb ∙ sym e ∙ q))))
+
+pub indexed-row : (T : List ℕ) (x : ℕ) → 0 < x → indexed T x ≡ tyOf T (x - 1)
+unfolding indexed
+indexed-row T x h = let e : x ≡ suc (x - 1) = omega arith in ap (indexed T) e
+
+module _ (S T : List ℕ) (x y a b : ℕ) (ea : a ≡ sortAt S x) (eb : b ≡ sortAt T y) (e : a ≡ b) (q : a ≡ 13 → ⊥) where
+  pub cell-rows : (r : Bool) → r ≡ sameTy (tyOf S (x - 1)) (tyOf T (y - 1)) → r ≡ sameTy (indexed S x) (indexed T y)
+  cell-rows r er = er ∙ sym (ap₂ sameTy (indexed-row S x (row-there S x a ea q)) (indexed-row T y (row-there T y b eb (λ z. q (e ∙ z)))))
+
+  pub other-there : 0 < y
+  other-there = row-there T y b eb (λ z. q (e ∙ z))
+
+  pub other-within : y - 1 < typeRows T
+  other-within = row-within T y b eb (λ z. q (e ∙ z))
+
+  pub other-kind : a ≡ kind T (y - 1)
+  other-kind = e ∙ row-kind T y b eb (λ z. q (e ∙ z))
+
+  pub below-there : (cells : List ℕ) → Agreed S T cells x → Agreed S T cells (x - 1 + 1)
+  below-there cells A = let z : x - 1 + 1 ≡ x = omega (arith, row-there S x a ea q) in rw z A
+
+-- ---- the array
+
+pub record Row (S T cells : List ℕ) (x y : ℕ) : Type 0 where
+  pub few : x ≤ typeRows S
+  pub narrow : x ≤ 256
+  pub past : Agreed S T cells x
+  pub here : (j : ℕ) → j < y → j ≤ typeRows T → getD cells (257 * x + j) 0 ≡ cellOf S T x j
+
+module _ (S T cells : List ℕ) (x : ℕ) where
+  pub row-begin : x ≤ typeRows S → Agreed S T cells x → Row S T cells x 0
+  row-begin h A = record { few = h; narrow = omega (arith, rows-below S); past = A; here = λ j l. absurd (omega arith) }
+
+  module _ (y : ℕ) (R : Row S T cells x y) where
+    pub row-past : Agreed S T cells x
+    row-past = R .past
+
+    pub row-next : (n : ℕ) → n ≡ typeRows T → y ≤ n → (b : Bool) → b ≡ sameTy (indexed S x) (indexed T y) → (v : ℕ) → v ≡ pick b 1 0
+        → Row S T (set cells (257 * x + y) v) x (y + 1)
+    row-next n en h b eb v ev = record {
+      few = R .few;
+      narrow = R .narrow;
+      past = record { size = length-set cells (257 * x + y) v ∙ R .past .size; done = λ i j li lj. getD-set-other cells (257 * x + y) (257 * i + j) v 0 (λ z. omega (arith, rows-below T)) ∙ R .past .done i j li lj };
+      here = λ j l lj. ⊎-elim
+          (λ q. rw q (getD-set-same cells (257 * x + y) v 0 (omega (arith, rows-below S, rows-below T, R .past .size, R .few)) ∙ ev ∙ ap (λ (c : Bool). pick c 1 0) eb))
+          (λ q. getD-set-other cells (257 * x + y) (257 * x + j) v 0 (λ z. omega arith) ∙ R .here j q lj)
+          (eq-or-lt-of-le {n = j} {m = y} (omega arith));
+    }
+
+    pub row-end : (n : ℕ) → n ≡ typeRows T → n < y → Agreed S T cells (x + 1)
+    row-end n en h = record {
+      size = R .past .size;
+      done = λ i j li lj. ⊎-elim
+          (λ q. rw q (R .here j (omega arith) lj))
+          (λ q. R .past .done i j q lj)
+          (eq-or-lt-of-le {n = i} {m = x} (omega arith));
+    }
+
+module _ (S T cells : List ℕ) where
+  pub all-begin : length cells ≡ 66049 → Agreed S T cells 0
+  all-begin e = record { size = e; done = λ i j l. absurd (omega arith) }
+
+  pub all-end : (n x : ℕ) → n ≡ typeRows S → x ≤ n + 1 → n < x → Agreed S T cells x → Agreed S T cells (typeRows S + 1)
+  all-end n x en l h A = let e : x ≡ typeRows S + 1 = omega arith in rw (← e) A
+
+  module _ (A : Agreed S T cells (typeRows S + 1)) (m n i j : ℕ) (ei : tyOf S i ≡ memberTy S (trees S) m) (ej : tyOf T j ≡ memberTy T (trees T) n) where
+    pub all-members : (x y : ℕ) → indexed S x ≡ tyOf S i → x ≤ typeRows S → indexed T y ≡ tyOf T j → y ≤ typeRows T → (c : Bool) → c ≡ eqb (getD cells (257 * x + y) 0) 1
+        → c ≡ sameTy (memberTy S (trees S) m) (memberTy T (trees T) n)
+    all-members x y ex lx ey ly c e = cell-is S T cells (typeRows S + 1) A x y (omega arith) ly c e ∙ ap₂ sameTy (ex ∙ ei) (ey ∙ ej)

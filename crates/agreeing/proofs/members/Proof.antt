@@ -1,0 +1,16 @@
+-- The cell of two types. Assumes nothing.
+use Rattle.agreeing.proofs.Cells.{all-members, row-inside}
+use borrow.Author.Needs.{needs}
+use Rattle.agreeing.proofs.members.Statement.{statement}
+use Rattle.agreeing.proofs.members.Tie as tie
+
+pub members-spec : {M : Type 1} → statement M
+members-spec =
+    tie.close
+    (tie.spec
+    (λ c κs. search needs)  -- type-of-member-requires
+    (λ c κs. search needs)  -- index-requires
+    (λ c κs. search needs)  -- type-of-member-requires-2
+    (λ c κs. search needs)  -- index-requires-2
+    (λ c κs. search row-inside)  -- is-same-requires
+    (λ c. search all-members))  -- returns

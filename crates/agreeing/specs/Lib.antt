@@ -1,0 +1,2 @@
+-- The array of agreeing rows.
+pub mod Agreeing

@@ -1,0 +1,3 @@
+-- Differences put into a lent list.
+pub mod Listing
+pub mod ListingLaws

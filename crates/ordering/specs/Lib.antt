@@ -1,0 +1,3 @@
+-- The order of what is compared.
+pub mod Ordering
+pub mod OrderingLaws
