@@ -497,7 +497,7 @@ uint32_t icehub_proxy_endpoint_place(const uint8_t *proxy, size_t proxy_len, uin
 /* Opens an endpoint. `bytes` is one endpoint, all of it and nothing else. Returns ICEHUB_OK: `numbers` begins with seven
  * numbers of 32 bits, little-endian: 1 if it was opened and else 0; the type; place and length of the host's bytes, without
  * their size; port; timeout; compress. The timeout is any int (as an unsigned number), and 0 in UDP, which has none. Of a
- * type that is not opened only the type is told, and the rest is 0. Bytes beyond ICEHUB_ENDPOINT_SIZE are unchanged. Or
+ * type that is not opened only the type is given, and the rest is 0. Bytes beyond ICEHUB_ENDPOINT_SIZE are unchanged. Or
  * returns a refusal, last ICEHUB_OUTPUT_TOO_LONG if numbers_len is below ICEHUB_ENDPOINT_SIZE: `numbers` is unchanged. */
 uint32_t icehub_endpoint(const uint8_t *bytes, size_t bytes_len, uint8_t *numbers, size_t numbers_len);
 

@@ -57,7 +57,7 @@ fn change(
     held.put(message, new.as_ref().map(|(head, bytes)| [head.bytes(), bytes]), out)
 }
 
-/// What stands before the value of an optional: header byte, a tag from 30 on, and the length field.
+/// What comes before the value of an optional: header byte, a tag from 30 on, and the length field.
 struct Head {
     held: [u8; 11],
     length: usize,
@@ -108,7 +108,7 @@ struct Slice {
 struct Owner {
     /// None for a parameter list.
     slice: Option<Slice>,
-    /// The optional's bytes with its header, or where it would stand: before the first greater tag.
+    /// The optional's bytes with its header, or where it would be: before the first greater tag.
     from: usize,
     to: usize,
     /// Whether the owner has other optionals, known or not.
@@ -165,12 +165,12 @@ impl Owner {
         let [head, value] = new.unwrap_or_default();
         let had_optionals = self.others || self.from != self.to;
         let has_optionals = self.others || new.is_some();
-        // The end marker stands right behind the only optional.
+        // The end marker comes right after the only optional.
         let is_slice = self.slice.is_some();
         let added: &[u8] = if is_slice && has_optionals && !had_optionals { &[255] } else { &[] };
-        let behind = self.to + usize::from(is_slice && had_optionals && !has_optionals);
+        let after = self.to + usize::from(is_slice && had_optionals && !has_optionals);
 
-        let parts = [&message[..self.from], head, value, added, &message[behind..]];
+        let parts = [&message[..self.from], head, value, added, &message[after..]];
         let length: usize = parts.iter().map(|part| part.len()).sum();
         if length > MOST || length > out.len() {
             return Err((22, length as u32));

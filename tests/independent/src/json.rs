@@ -62,16 +62,16 @@ fn value(rest: &mut &str) -> Option<Json> {
         .map(Json::Object),
         _ => {
             let end = rest.find(|c: char| !c.is_ascii_digit()).unwrap_or(rest.len());
-            let (digits, behind) = rest.split_at(end);
-            *rest = behind;
+            let (digits, after) = rest.split_at(end);
+            *rest = after;
             digits.parse().ok().map(Json::Number)
         }
     }
 }
 
 fn text(rest: &mut &str) -> Option<String> {
-    let (text, behind) = rest.strip_prefix('"')?.split_once('"')?;
-    *rest = behind;
+    let (text, after) = rest.strip_prefix('"')?.split_once('"')?;
+    *rest = after;
     Some(text.to_string())
 }
 
@@ -82,7 +82,7 @@ fn items<T>(rest: &mut &str, close: char, item: impl Fn(&mut &str) -> Option<T>)
         found.push(item(rest)?);
         *rest = rest.trim_start();
         match rest.strip_prefix(',') {
-            Some(behind) => *rest = behind,
+            Some(after) => *rest = after,
             None if rest.starts_with(close) => (),
             None => return None,
         }

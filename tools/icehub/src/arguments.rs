@@ -90,7 +90,7 @@ converted is written. A summary comes at the end.
   TOP          the wanted type: the number of its row, counted from 0, or the name of an exception or class
   FILE..       the records, one in each file
   --to DIR     the folder for the converted records; it is made if it is not there
-  --overwrite  a file that is in DIR already may be overwritten; without this it stays, and that is told
+  --overwrite  a file that is in DIR already may be overwritten; without this it stays, and the tool says so
   --hex        the FILEs are hex text: pairs of digits, with any white space between them
   --           what follows is no option
 

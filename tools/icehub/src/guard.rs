@@ -25,7 +25,7 @@ pub fn run(request: &Request, out: &mut impl Write, status: &mut Status) -> io::
     }
 }
 
-/// The first message of a buffer of messages back to back, by its size; all of the buffer if its size is no such.
+/// The first message of a buffer of messages back to back, by its size; all of the buffer if no message has that size.
 fn first(buffer: &[u8]) -> usize {
     let size = buffer.first_chunk().map_or(0, |&size| i32::from_le_bytes(size) as usize);
     if (6..=buffer.len()).contains(&size) {
@@ -55,8 +55,8 @@ fn replay(set_point: i16, buffer: &[u8], out: &mut impl Write, status: &mut Stat
     let (mut guard, mut rest, mut reports, mut refused) = (Guard::new(set_point), buffer, 0, 0);
     let mut fired = vec![];
     while !rest.is_empty() {
-        let (message, behind) = rest.split_at(first(rest));
-        rest = behind;
+        let (message, after) = rest.split_at(first(rest));
+        rest = after;
         let told = guard.report(message);
         writeln!(out, "{reports:>6}  {}", line(&guard, told))?;
         match told {

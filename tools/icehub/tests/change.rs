@@ -60,7 +60,7 @@ fn the_delay_of_a_newer_fault() {
     assert_eq!(file("again"), file("fault.message"));
 }
 
-/// The bytes behind the encapsulation's head that a value becomes.
+/// The bytes after the encapsulation's head that a value becomes.
 #[test]
 fn values() {
     let folder = folder("values");
@@ -117,7 +117,7 @@ fn refused() {
     }
     let line = "empty: refused by 50 (NOT_THERE) at 0: remove: the message does not have the member\n";
     assert_eq!(run(&folder, &["remove", "kinds", "10", "empty", "3", "made"]), said(1, line, ""));
-    // With the result on standard output the refusal is told on standard error.
+    // With the result on standard output the refusal goes to standard error.
     let (status, out, err) = run(&folder, &["remove", "kinds", "10", "empty", "3", "-"]);
     assert_eq!((status, out, err), said(1, "", &format!("icehub: {line}")));
     assert!(!folder.join("made").exists());

@@ -1,7 +1,7 @@
 //! Times the proved library and this implementation on the same inputs, in one run: nanoseconds a call, each the least
 //! of several rounds, the rounds of the two in turn. Then times other calls of C against the reader's in the same way, the
 //! reader of a message that is one long string against the standard library's check of that string, and sequences of
-//! 20,000 elements against those of 20. Some ratios have a bar; one that is missed is told at the end, and the exit
+//! 20,000 elements against those of 20. Some ratios have a bar; one that is missed is named at the end, and the exit
 //! status is 1 then. With the argument `logs` only the sequences are timed.
 
 use independent::compare::CompareCall;
@@ -453,7 +453,7 @@ fn wide_table(chained: bool, more: usize) -> Spec {
     spec
 }
 
-/// Two such tables compared.
+/// Two of these tables compared.
 fn run_compare(name: &str, chained: bool) {
     let (old, new, top) = (wide_table(chained, 0), wide_table(chained, 20), 193);
     let call = CompareCall { old: old.bytes(), old_top: top, new: new.bytes(), new_top: top, room: 65_536 };

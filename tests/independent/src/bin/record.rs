@@ -32,7 +32,7 @@ fn main() {
     let Some(mut old) = replay::calls(&stdin) else { stop("REPLAY has no recorded calls") };
     old.retain(|old| !is_more(&old.call));
     let last = old.iter().rposition(|old| matches!(old.call, Call::Write { .. })).map_or(0, |last| last + 1);
-    // Readings with row records are kept if they are such a case too.
+    // Readings with row records are kept if they are one of these cases too.
     let is_case =
         |kept: &Recorded| old[last..].iter().any(|case| !case.is_of_records && case.call.table() == kept.call.table());
     let kept: Vec<_> = old[last..].iter().filter(|call| is_case(call)).collect();

@@ -29,7 +29,7 @@ fn report(rng: &mut Rng, guard: &Guard) -> Vec<u8> {
     match rng.below(40) {
         0 => super::damage(rng, &mut bytes, 0),
         1 => {
-            // An optional that the table does not know, between or behind the two.
+            // An optional that the table does not know, between or after the two.
             let at = if rng.one_in(2) { bytes.len() } else { 8.min(bytes.len()) };
             let unknown = if at == bytes.len() { [9 * 8, 1] } else { [6 * 8, 1] };
             bytes.splice(at..at, unknown);

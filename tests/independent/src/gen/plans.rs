@@ -1,4 +1,4 @@
-//! Random calls on burst plans: proposals that are plans, and such that one change breaks, at every rule and bound.
+//! Random calls on burst plans: proposals that are plans, and proposals that one change breaks, at every rule and bound.
 
 use super::Rng;
 use crate::bursts::{plan, PlanCall};
