@@ -1,8 +1,9 @@
 // The reader's calls: the answer, and the rows in a lent list. `read`, `answer` and `read_numbers` ask nothing of their input.
 // `walk` is called with `ready` by a caller that has checked the table, the top and the length, and has the shapes: so none is checked or computed twice.
 ghost use mathlib.Core.Path.{_≡_};
-ghost use Prim.Native.Nat.{_/_, _≤_};
+ghost use Prim.Native.Nat.{_/_, _≤_, min};
 ghost use lib.ListN.{length};
+ghost use Rattle.encoding.specs.Table.{members};
 ghost use Rattle.encoding.specs.Message.{reading, listed, readingOf};
 ghost use Rattle.prepare.specs.Preparing.{checks};
 ghost use Rattle.prepare.specs.declared.Prepared.the-variants.{Ready};
@@ -90,7 +91,7 @@ fn checked(
 }
 
 // The checks, then the walk over the message. It puts the rows of an accepted message into the list, those that fit. The caller lends an array for the shapes; where the checks refuse nothing it holds them afterwards.
-// `ready` says that it holds them already, and that the checks are known to refuse nothing: both are left out. So whoever walks more than once calls this function too, and the walk itself, called at one place, is inlined here.
+// `ready` says that it holds them already, and that the checks are known to refuse nothing: both are left out. So whoever walks many messages calls this function too, and the walk itself, called at one place, is inlined here.
 // The slices are passed as new parts: passing them unchanged causes a store-forwarding stall.
 pub fn walk(
     table: &[u8],
@@ -107,9 +108,9 @@ pub fn walk(
     checked(&table[0..], top, &message[0..], ready, shapes, out)
 }
 
-// Walks into a list of the call's own and copies the rows, since the lent list must stay on a refusal. The lent list has room for at most 5 rows: so short a list is cleared by four stores.
+// Walks into a list of the call's own and copies the rows, since the lent list must stay on a refusal. At most 5 rows can be copied: so short a list is cleared by four stores.
 fn walk_few(table: &[u8], top: usize, message: &[u8], rows: &mut [u8]) -> Walk
-    requires { ⌜ length (now rows) / 12 ≤ 5 ⌝ }
+    requires { ⌜ min (length (now rows) / 12) (members (now table)) ≤ 5 ⌝ }
     ensures { λ r. ⌜ Listed (now (table .entry)) top (now (message .entry)) r (now (rows .entry)) (now (rows .exit)) ⌝ }
 {
     let mut shapes = [10u8; 256];
@@ -122,9 +123,9 @@ fn walk_few(table: &[u8], top: usize, message: &[u8], rows: &mut [u8]) -> Walk
     w
 }
 
-// The same for a lent list that has room for at most 21 rows: it is cleared by sixteen stores, without a call.
+// The same for at most 21 rows: their list is cleared by sixteen stores, without a call.
 fn walk_some(table: &[u8], top: usize, message: &[u8], rows: &mut [u8]) -> Walk
-    requires { ⌜ length (now rows) / 12 ≤ 21 ⌝ }
+    requires { ⌜ min (length (now rows) / 12) (members (now table)) ≤ 21 ⌝ }
     ensures { λ r. ⌜ Listed (now (table .entry)) top (now (message .entry)) r (now (rows .entry)) (now (rows .exit)) ⌝ }
 {
     let mut shapes = [10u8; 256];
@@ -137,8 +138,9 @@ fn walk_some(table: &[u8], top: usize, message: &[u8], rows: &mut [u8]) -> Walk
     w
 }
 
-// The same for a lent list of any length, by a list of 128 rows, which takes longer to clear. More rows are put into the lent list by a second walk, once it is known that they fit.
+// The same for at most 128 rows.
 fn walk_more(table: &[u8], top: usize, message: &[u8], rows: &mut [u8]) -> Walk
+    requires { ⌜ min (length (now rows) / 12) (members (now table)) ≤ 128 ⌝ }
     ensures { λ r. ⌜ Listed (now (table .entry)) top (now (message .entry)) r (now (rows .entry)) (now (rows .exit)) ⌝ }
 {
     let mut shapes = [10u8; 256];
@@ -146,11 +148,21 @@ fn walk_more(table: &[u8], top: usize, message: &[u8], rows: &mut [u8]) -> Walk
     let w = walk(table, top, message, false, &mut shapes, &mut more);
     let n = row_count(w);
     if n <= rows.len() / 12 {
-        if n <= 128 {
-            wire::put_part(rows, 0, &more, 0, 12 * n);
-        } else {
-            walk(table, top, message, true, &mut shapes, rows);
-        }
+        wire::put_part(rows, 0, &more, 0, 12 * n);
+    }
+    w
+}
+
+// The same for as many rows as a table can have members.
+fn walk_all(table: &[u8], top: usize, message: &[u8], rows: &mut [u8]) -> Walk
+    ensures { λ r. ⌜ Listed (now (table .entry)) top (now (message .entry)) r (now (rows .entry)) (now (rows .exit)) ⌝ }
+{
+    let mut shapes = [10u8; 256];
+    let mut all = [0u8; 12288];
+    let w = walk(table, top, message, false, &mut shapes, &mut all);
+    let k = row_count(w);
+    if k <= rows.len() / 12 {
+        wire::put_part(rows, 0, &all, 0, 12 * k);
     }
     w
 }
@@ -162,13 +174,17 @@ pub fn read(table: &[u8], top: u32, message: &[u8], rows: &mut [u8]) -> Reading
     ensures { λ _. ⌜ now (rows .exit) ≡ listed (reading (now (table .entry)) top (now (message .entry)) (length (now (rows .entry)))) (now (rows .entry)) ⌝ }
 {
     let k = rows.len() / 12;
-    if k <= 5 {
+    let most = wire::least(k, table::members(table));
+    if most <= 5 {
         return told(walk_few(table, top as usize, message, rows), k);
     }
-    if k <= 21 {
+    if most <= 21 {
         return told(walk_some(table, top as usize, message, rows), k);
     }
-    told(walk_more(table, top as usize, message, rows), k)
+    if most <= 128 {
+        return told(walk_more(table, top as usize, message, rows), k);
+    }
+    told(walk_all(table, top as usize, message, rows), k)
 }
 
 // The reader's answer with a lent list of `room` bytes; no list is touched.
@@ -259,11 +275,15 @@ pub fn read_numbers(
         return short(answer(table, top, message, rows.len()));
     }
     let room = rows.len() / 12;
-    if room <= 5 {
+    let most = wire::least(room, table::members(table));
+    if most <= 5 {
         return numbered(walk_few(table, top as usize, message, rows), room, numbers);
     }
-    if room <= 21 {
+    if most <= 21 {
         return numbered(walk_some(table, top as usize, message, rows), room, numbers);
     }
-    numbered(walk_more(table, top as usize, message, rows), room, numbers)
+    if most <= 128 {
+        return numbered(walk_more(table, top as usize, message, rows), room, numbers);
+    }
+    numbered(walk_all(table, top as usize, message, rows), room, numbers)
 }

@@ -8,6 +8,8 @@ pub read-spec : {M : Type 1} → statement M
 read-spec =
     tie.close
     (tie.spec
+    (λ c κs. search needs)  -- members-requires
+    (λ c κs. search needs)  -- least-requires
     (λ c κs. search needs)  -- walk-few-requires
     (λ c κs. search needs)  -- told-requires
     (λ c. search needs)  -- same-length
@@ -19,4 +21,8 @@ read-spec =
     (λ c κs. search needs)  -- walk-more-requires
     (λ c κs. search needs)  -- told-requires-3
     (λ c. search needs)  -- same-length-3
-    (λ c. (search told-listed, search needs)))  -- returns-3
+    (λ c. (search told-listed, search needs))  -- returns-3
+    (λ c κs. search needs)  -- walk-all-requires
+    (λ c κs. search needs)  -- told-requires-4
+    (λ c. search needs)  -- same-length-4
+    (λ c. (search told-listed, search needs)))  -- returns-4
