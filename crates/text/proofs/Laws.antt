@@ -5,11 +5,11 @@
 --   character-.., -cut     the character in front, by its first byte and whether those after it lie within their ranges
 --   Fronts, fronts         what its bytes say of all the bytes: no text, or text if what follows is
 --   marks, unset           bytes whose highest bits are not set are below 128
---   ascii-eight, -block    eight and thirty-two such bytes
+--   ascii-eight, -block    eight and thirty-two of these bytes
 --   crossed-.., ascii-..   bytes that are passed, and the loops that pass many
 --   text-..                the loop over characters; text-low bytes between two places that are all below 128
---   few-.., tested-..      up to eight such bytes; the loops that test many
---   string-..              a string by its counted bytes; dropped-.. its content left out
+--   few-.., tested-..      up to eight of these bytes; the loops that test many
+--   string-..              a string by its counted bytes, a short one by one long; dropped-.. its content left out
 use mathlib.Core.Path.{_≡_, refl, sym, ap, ap₂, _∙_}
 use mathlib.Core.Bool.{Bool, true, false, _&&_, true≢false}
 use mathlib.Core.Option.{Option, none, some}
@@ -39,6 +39,7 @@ use Rattle.wire.specs.declared.Sized.{Sized}
 use Rattle.wire.specs.declared.Sized.the-variants.{Is, Isnt}
 use Rattle.wire.specs.Steps.{stepOf, bytesOf}
 use Rattle.wire.specs.StepLaws.{bytes-is, bytes-isnt}
+use Rattle.wire.proofs.Laws.{size-short, counted-whole}
 use Rattle.text.specs.Characters.{inAll, secondBounds, characterBytes, firstCharacter, Ascii, Tested, Crossed}
 
 -- ---- bounds
@@ -469,6 +470,14 @@ module _ (s : List ℕ) (r : Sized) (e : r ≡ bytesOf (extent vsize s)) where
       pub string-isnt : t ≡ false → Isnt 24 0 ≡ bytesOf (string s)
       unfolding judged Content bytesOf
       string-isnt u = sym (ap bytesOf (string-counted s) ∙ rw (counted-bytes .1, is-text, u))
+
+-- a size below 8 and its bytes, all below 128
+pub string-few : (s : List ℕ) → 8 ≤ length s → (n : ℕ) → n ≡ at s 1 0 → n < 8 → (t : Bool) → (t ≡ true → Ascii s 0 (1 + n)) → t ≡ true → Is n (1 + n) ≡ bytesOf (string s)
+string-few s h n e l t p u =
+    let k : ℕ = 1 + n in
+    let counted : Is n k ≡ bytesOf (extent vsize s) = counted-whole s (Is n 1) (size-short s n e (omega arith) (omega arith)) n 1 refl (omega arith) in
+    let low : Ascii s (k - n) (k - (k - n)) = record { there = omega arith; below = λ j a b. p u .below j (omega arith) (omega arith) } in
+    string-is s (Is n k) counted n k refl t (u ∙ text-low s (k - n) k (omega arith) (omega arith) t (λ v. low) u) u
 
 -- its content left out
 module _ (s : List ℕ) (r : Sized) (e : r ≡ bytesOf (string s)) where

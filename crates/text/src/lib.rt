@@ -234,9 +234,18 @@ pub fn is_utf8(s: &[u8], from: usize, to: usize) -> bool
 }
 
 // A string: 4 or 7 at its size, then 24 there if its bytes are no text. Every string is read here: of values, type IDs, identities, facets, adapters and optionals.
+// A size below 8 and its bytes are judged together, by one long.
 pub fn read_string(s: &[u8]) -> Sized
     ensures { λ r. ⌜ r ≡ bytesOf (string (now (s .entry))) ⌝ }
 {
+    if 8 <= s.len() {
+        let few = wire::byte_at(s, 0);
+        if few < 8 {
+            if are_few_ascii(s, 0, 1 + few) {
+                return Sized::Is(few, 1 + few);
+            }
+        }
+    }
     let z = wire::read_counted(s);
     match z {
         Sized::Is(n, k) => {
