@@ -4,7 +4,7 @@
 --   row-not, as-bool .. as-other                             a value by its row's kind
 --   row-wide, exact-wide, part-wide                          a value by its row's width
 --   text-there, -not                                         what the shapes say of a part, by whether it lies below
---   row-text, text-value, text-values                        a string, by its row's shape; row-bool, bool-values a bool; row-enum an enum without a list
+--   row-text, text-value, text-values                        a string, by its row's shape; row-bool, bool-values a bool; row-enum, enum-values an enum without a list
 --   again-took, again-bad                                    an answer that is rebuilt
 --   struct-begin, member-gone, -read, -next, -fault, -done   the loop over members
 --   seq-none, -wide, -took, -bad                             a sequence: its size, then its elements
@@ -196,6 +196,13 @@ module _ (old : Bool) (T shapes : List ℕ) (f : shapes ≡ shapesOf T) where
     unfolding exact whole
     exact-wide k = rw (row-takes k)
 
+  -- without lists an enum row allows the numbers up to its greatest
+  unlisted : (t : ℕ) (w : Bool) → w ≡ withLists T → not w ≡ true → (row : TypeRow) → IsTypeRow T t row → (n : ℕ) → n ≡ greatestOf row → allowed T t ≡ upto n
+  unfolding allowed greatest
+  unlisted t w ew none row i n en =
+      let z : n ≡ field T t 0 + 65536 * field T t 1 = omega (arith, i .a-is, i .b-is) in
+      rw (← ew, not-true w none, ← z)
+
   module _ (t : ℕ) (s : List ℕ) (r : Step) (b : Bool) where
     pub row-text : b ≡ isTextIn shapes t → b ≡ true → r ≡ stepOf (Proxy.text s) → r ≡ stepOf (value (typeAs old (tyOf T t)) s)
     unfolding value asOld
@@ -205,13 +212,9 @@ module _ (old : Bool) (T shapes : List ℕ) (f : shapes ≡ shapesOf T) where
     unfolding value asOld
     row-bool g h q = rw (bool-row T t shapes f (sym g ∙ h), plain-as old bool refl) q
 
-    -- without lists, up to the greatest
     pub row-enum : b ≡ isEnumIn shapes t → b ≡ true → (w : Bool) → w ≡ withLists T → not w ≡ true → (row : TypeRow) → IsTypeRow T t row
         → (n : ℕ) → n ≡ greatestOf row → r ≡ stepOf (value (typeAs old (enum (upto n))) s) → r ≡ stepOf (value (typeAs old (tyOf T t)) s)
-    unfolding allowed greatest
-    row-enum g h w ew none row i n en q =
-        let z : n ≡ field T t 0 + 65536 * field T t 1 = omega (arith, i .a-is, i .b-is) in
-        rw (enum-row T t shapes f (sym g ∙ h), ← ew, not-true w none, ← z) q
+    row-enum g h w ew none row i n en q = rw (enum-row T t shapes f (sym g ∙ h), unlisted t w ew none row i n en) q
 
   module _ (t e : ℕ) (l : e < t) where
     part-takes : (s : List ℕ) (w : ℕ) → w ≡ widthIn shapes e → 0 < w → w ≤ length s → value (typeAs old (partTy T t e)) s ≡ ok tt w
@@ -248,6 +251,14 @@ module _ (old : Bool) (T shapes : List ℕ) (f : shapes ≡ shapesOf T) where
         → r ≡ stepOf (times n Number.bool s) → r ≡ stepOf (times n (value (typeAs old (partTy T t e))) s)
     unfolding value asOld
     bool-values b g h s r n q = rw (part-bool (sym g ∙ h), plain-as old bool refl) q
+
+    part-enum : isEnumIn shapes e ≡ true → partTy T t e ≡ enum (allowed T e)
+    part-enum h = part-as (enum (allowed T e)) (enum-row T e shapes f h) λ z. let y : _≡_ {A = ℕ} 0 1 = cc in omega arith
+
+    pub enum-values : (b : Bool) → b ≡ isEnumIn shapes e → b ≡ true → (w : Bool) → w ≡ withLists T → not w ≡ true → (row : TypeRow) → IsTypeRow T e row
+        → (g : ℕ) → g ≡ greatestOf row → (s : List ℕ) (r : Step) (n : ℕ) → r ≡ stepOf (times n (value (typeAs old (enum (upto g)))) s)
+        → r ≡ stepOf (times n (value (typeAs old (partTy T t e))) s)
+    enum-values b eb h w ew none row i g eg s r n q = rw (part-enum (sym eb ∙ h), unlisted e w ew none row i g eg) q
 
   -- by what the shapes say of a part
   module _ (t e : ℕ) where

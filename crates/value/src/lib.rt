@@ -190,6 +190,12 @@ fn elements(
         if shapes::is_bool(shapes, e) {
             return plain::bools(s, n);
         }
+        if shapes::is_enum(shapes, e) {
+            if !table::with_lists(table, begin) {
+                let row = table::type_row(table, begin, e);
+                return plain::enums(table::greatest(row), s, n, old);
+            }
+        }
     }
     let mut left = n;
     let mut at: usize = 0;

@@ -137,6 +137,27 @@ pub fn upto(g: usize, s: &[u8], old: bool) -> Step
     }
 }
 
+// n enums of all numbers up to g.
+pub fn enums(g: usize, s: &[u8], n: usize, old: bool) -> Step
+    ensures { λ r. ⌜ r ≡ stepOf (times n (value (typeAs old (enum (upto g)))) (now (s .entry))) ⌝ }
+{
+    let mut left = n;
+    let mut at: usize = 0;
+    while left > 0 {
+        let step = upto(g, &s[at..], old);
+        match step {
+            Step::Took(m) => {
+                at += m;
+            }
+            Step::Fault(f, p) => {
+                return Step::Fault(f, at + p);
+            }
+        }
+        left -= 1;
+    }
+    Step::Took(at)
+}
+
 // The number of an enumerator in encoding 1.0: of one byte, two or four, by the greatest, g.
 // Wrong and ruled out: a byte where the greatest is 127; the bytes of a short in the other order.
 fn old_number(g: usize, s: &[u8]) -> Sized

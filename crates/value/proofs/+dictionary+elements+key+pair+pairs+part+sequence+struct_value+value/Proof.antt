@@ -14,7 +14,7 @@ use Rattle.value.specs.Parts.{typesAs, entry}
 use Rattle.wire.proofs.Laws.{size-within}
 use Rattle.wire.proofs.Sums.{part-fits}
 use Rattle.value.proofs.Room.{items-fits, sized-items-fits}
-use Rattle.value.proofs.CycleLaws.{row-not, as-bool, as-byte, as-short, as-int, as-long, as-float, as-double, as-string, as-enum, as-struct, as-seq, as-dict, as-proxy, as-other, struct-begin, member-gone, member-read, member-next, member-fault, member-done, seq-none, seq-wide, seq-took, seq-bad, dict-none, dict-took, dict-bad, element-begin, element-next, element-fault, element-done, entry-begin, entry-next, entry-fault, entry-done, part-wide, again-took, again-bad, text-value, text-values, bool-values, key-end, pair-none, pair-wide, pair-took, pair-bad, value-took-fits, value-bad-fits, elements-took-fits, elements-bad-fits, entry-took-fits, entry-bad-fits, pairs-took-fits, pairs-bad-fits}
+use Rattle.value.proofs.CycleLaws.{row-not, as-bool, as-byte, as-short, as-int, as-long, as-float, as-double, as-string, as-enum, as-struct, as-seq, as-dict, as-proxy, as-other, struct-begin, member-gone, member-read, member-next, member-fault, member-done, seq-none, seq-wide, seq-took, seq-bad, dict-none, dict-took, dict-bad, element-begin, element-next, element-fault, element-done, entry-begin, entry-next, entry-fault, entry-done, part-wide, again-took, again-bad, text-value, text-values, bool-values, enum-values, key-end, pair-none, pair-wide, pair-took, pair-bad, value-took-fits, value-bad-fits, elements-took-fits, elements-bad-fits, entry-took-fits, entry-bad-fits, pairs-took-fits, pairs-bad-fits}
 use borrow.Fn.Kinds.{In}
 use borrow.Fn.PlainCycle.{Measures, is, falls, and}
 use Rattle.value.proofs.dictionary.Reads as dictionary
@@ -52,9 +52,12 @@ use Rattle.table.proofs.members.Reads as members-reads
 use Rattle.table.proofs.members_at.Reads as members-at-reads
 use Rattle.shapes.proofs.is_text.Reads as is-text-reads
 use Rattle.shapes.proofs.is_bool.Reads as is-bool-reads
+use Rattle.shapes.proofs.is_enum.Reads as is-enum-reads
 use Rattle.shapes.proofs.width.Reads as width-reads
 use Rattle.shapes.proofs.width_below.Reads as width-below-reads
 use Rattle.table.proofs.type_row.Reads as type-row-reads
+use Rattle.table.proofs.with_lists.Reads as with-lists-reads
+use Rattle.table.proofs.greatest.Reads as greatest-reads
 use Rattle.value.proofs.is_text_below.Reads as is-text-below-reads
 use Rattle.value.proofs.same.Reads as same-reads
 use Rattle.value.proofs.plain.bool.Reads as bool-reads
@@ -63,6 +66,7 @@ use Rattle.value.proofs.plain.skip.Reads as skip-reads
 use Rattle.text.proofs.read_text.Reads as read-text-reads
 use Rattle.value.proofs.plain.texts.Reads as texts-reads
 use Rattle.value.proofs.plain.bools.Reads as bools-reads
+use Rattle.value.proofs.plain.enums.Reads as enums-reads
 use Rattle.proxy.proofs.proxy.Reads as proxy-reads
 use Rattle.wire.proofs.read_size.Reads as read-size-reads
 use Rattle.value.proofs.+dictionary+elements+key+pair+pairs+part+sequence+struct_value+value.{statement}
@@ -153,7 +157,7 @@ abbrev dictionary-calls : ℕ → dictionary-lts.Claims
 dictionary-calls t = (read-size-reads.Asked, read-size-reads.Learnt, pairs-below t, pairs.Post)
 
 abbrev elements-calls : ℕ → elements-lts.Claims
-elements-calls t = (is-text-reads.Asked, is-text-reads.Learnt, texts-reads.Asked, texts-reads.Learnt, is-bool-reads.Asked, is-bool-reads.Learnt, bools-reads.Asked, bools-reads.Learnt, part-below t, part.Post)
+elements-calls t = (is-text-reads.Asked, is-text-reads.Learnt, texts-reads.Asked, texts-reads.Learnt, is-bool-reads.Asked, is-bool-reads.Learnt, bools-reads.Asked, bools-reads.Learnt, is-enum-reads.Asked, is-enum-reads.Learnt, with-lists-reads.Asked, with-lists-reads.Learnt, type-row-reads.Asked, type-row-reads.Learnt, greatest-reads.Asked, greatest-reads.Learnt, enums-reads.Asked, enums-reads.Learnt, part-below t, part.Post)
 
 abbrev key-calls : ℕ → key-lts.Claims
 key-calls t = (read-text-reads.Asked, read-text-reads.Learnt, part-below t, part.Post)
@@ -219,6 +223,12 @@ pub +dictionary+elements+key+pair+pairs+part+sequence+struct-value+value-spec : 
     (λ c κs. search needs)  -- is-bool-requires
     (λ c κs. search needs)  -- bools-requires
     (λ c. search bool-values)  -- returns-2
+    (λ c κs. search needs)  -- is-enum-requires
+    (λ c κs. search needs)  -- with-lists-requires
+    (λ c κs. search needs)  -- type-row-requires
+    (λ c κs. search needs)  -- greatest-requires
+    (λ c κs. search needs)  -- enums-requires
+    (λ c. search enum-values)  -- returns-3
     (λ c. search element-begin)  -- loop-holds
     (λ c. search needs)  -- sub-part
     (λ c. search needs)  -- part-part-start
@@ -228,11 +238,11 @@ pub +dictionary+elements+key+pair+pairs+part+sequence+struct-value+value-spec : 
     (λ c. search value-took-fits)  -- add-at
     (λ c. search needs)  -- enum-known-step-2
     (λ c. search value-bad-fits)  -- add-place
-    (λ c. search element-fault)  -- returns-3
+    (λ c. search element-fault)  -- returns-4
     (λ c. omega arith)  -- sub-left
     (λ c. omega arith)  -- loop-less
     (λ c. search element-next)  -- loop-again
-    (λ c. search element-done))  -- returns-4
+    (λ c. search element-done))  -- returns-5
     (λ t. key-lts.spec (key-calls t) (key-at t) key.Post
     (λ c κs. search needs)  -- read-text-requires
     (λ c. search text-value)  -- returns
