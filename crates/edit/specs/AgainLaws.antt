@@ -1,7 +1,7 @@
--- Changes that change nothing, what each refusal says, and what is told of a change.
+-- Changes that change nothing, what each refusal says, and the numbers and bytes that the calls give.
 --
 --   has-lists, lists-has     a list has a row of a member
---   tagged-one               an owner's pieces have at most one with the member's tag, in the form of its type
+--   One, tagged-one          an owner's pieces have at most one with the member's tag, in the form of its type
 --   edit-same, edit-twice    an edit that keeps the owner's pieces keeps the message; two edits are one after another
 --   row-target               a listed optional is found
 --   set-again, set-undone, change-refused, old-change, change-made, change-too-long, change-told, change-filled     the promises
@@ -242,7 +242,7 @@ module _ (T : List ℕ) (right : faults T ≡ fine) (top : ℕ) (f : Format) (n 
       edit-same T right top f n x (pieceFor (x .member) (some (partOf (encapsulate (v11 f) (encode (v11 f) p)) r))) p C A
       (edit-there os (x .member) (A .found) (partOf (encapsulate (v11 f) (encode (v11 f) p)) r) (Table.requiredMembers T (x .owner)) 0 owned (owner-owned T right top f n x p C A) (piece-there r i e))
 
-  -- where the member is not listed its owner's pieces have no such tag
+  -- where the member is not listed its owner's pieces do not have its tag
   pub undone : (b : List ℕ) → lists (x .member .row) (rows T top (v11 f) p) ≡ false → edit (nameOf T (x .owner)) (x .member .key) none (edit (nameOf T (x .owner)) (x .member .key) (pieceFor (x .member) (some b)) p) ≡ p
   unfolding some-of
   undone b z = edit-twice T right top f n x (pieceFor (x .member) (some b)) none p C A (edit-undone os (x .member) (A .found) b owned (⊎-elim (λ e. e) has one-owned))

@@ -38,7 +38,7 @@ use Rattle.edit.specs.Change.{Target, target, pieceFor, putPiece, change
 
 -- ---- all else stays
 
--- a piece stands behind a header with tag k
+-- a piece is an optional, known or not, of tag k
 unfoldable pub hasTag : ℕ → Piece → Bool
 hasTag k (required i b) = false
 hasTag k (optional t f b) = eqb t k
@@ -263,7 +263,7 @@ ChangeTold =
     → ((m′ : List ℕ) → changing T top m member content space ≡ out m′ → writingNumbers (writingOf (changing T top m member content space)) ≡ 0 ∷ 0 ∷ length m′ ∷ [])
     × ((n p : ℕ) → changing T top m member content space ≡ stop n p → (1 ≤ n) × (writingNumbers (writingOf (changing T top m member content space)) ≡ n ∷ p ∷ 0 ∷ []))
 
--- Rules out a call that touches a byte behind the result, or any byte on a refusal.
+-- Rules out a call that touches a byte after the result, or any byte on a refusal.
 abbrev pub ChangeFilled : Type 0
 ChangeFilled =
     (T : List ℕ) (top : ℕ) (m : List ℕ) (member : ℕ) (content : Option (List ℕ)) (lent : List ℕ)

@@ -5,6 +5,7 @@ use Rattle.edit.specs.HereLaws.{others-kept, changed-here}
 use Rattle.edit.specs.AgainLaws.{set-again, set-undone, old-change, change-refused, change-made, change-too-long, change-told, change-filled}
 use Rattle.edit.specs.EditNewer.{changed-newer, changed-alike, changed-reading}
 
+-- all promises together
 pub record ChangePromises : Type 0 where
   pub others : Others
   pub here : ChangedHere
@@ -21,6 +22,7 @@ pub record ChangePromises : Type 0 where
   pub told : ChangeTold
   pub filled : ChangeFilled
 
+-- and their proofs
 pub change-promises : ChangePromises
 change-promises = record {
   others = others-kept;

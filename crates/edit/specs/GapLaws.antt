@@ -1,8 +1,9 @@
 -- The place of a tag in the bytes of an owner's members is where the edit cuts its pieces.
 --
---   before, hereAt, behind   the pieces that an edit of tag k leaves before, takes out, and leaves after
---   cut-spelt, cut-edit      they are the pieces; the edited pieces are those before, the new one, those after
---   gap-owned                the place found in the bytes is theirs
+--   before, hereAt, behind   the pieces before those of tag k, the piece of tag k if it is there, and the pieces after it
+--   cut-spelt, cut-edit      they are all the pieces; the edited pieces are those before, the new one, those after
+--   Read                     an optional as the search reads it
+--   cutOf, gap-owned         the gap that an edit cuts, in bytes; the search finds it
 use mathlib.Core.Path.{_≡_, refl, sym, ap, ap₂, _∙_, subst}
 use mathlib.Core.Bool.{Bool, true, false, _||_, not, true≢false}
 use mathlib.Core.Option.{Option, none, some}
@@ -34,18 +35,21 @@ use Rattle.edit.specs.Place.{Gap, gap, closed, seekAt, seekPiece, seekNe
 -- ---- the pieces of an edit
 
 module _ (k : ℕ) where
+  -- the required pieces, and the optionals with a smaller tag
   unfoldable pub before : List Piece → List Piece
   before [] = []
   before (required i b ∷ ps) = required i b ∷ before ps
   before (optional t f b ∷ ps) = pick (ltb t k) (optional t f b ∷ before ps) []
   before (skipped t f b ∷ ps) = pick (ltb t k) (skipped t f b ∷ before ps) []
 
+  -- the optional of the tag, if it is there
   unfoldable pub hereAt : List Piece → List Piece
   hereAt [] = []
   hereAt (required i b ∷ ps) = hereAt ps
   hereAt (optional t f b ∷ ps) = pick (ltb t k) (hereAt ps) (pick (eqb t k) (optional t f b ∷ []) [])
   hereAt (skipped t f b ∷ ps) = pick (ltb t k) (hereAt ps) (pick (eqb t k) (skipped t f b ∷ []) [])
 
+  -- the optionals with a greater tag
   unfoldable pub behind : List Piece → List Piece
   behind [] = []
   behind (required i b ∷ ps) = behind ps
@@ -174,12 +178,12 @@ module _ (os : List Member) (rise : MembersRise os) where
   not-not true = refl
   not-not false = refl
 
-  -- what the search gives
+  -- the gap that the search finds
   abbrev found : ℕ → ℕ → ℕ → List Piece → Gap
   found k at least ps =
       gap (at + length (concat pieceBytes (before k ps))) (at + length (concat pieceBytes (before k ps)) + length (concat pieceBytes (hereAt k ps))) (ltb 0 least || (anyOptional (before k ps) || anyOptional (behind k ps)))
 
-  -- at a piece of tag t, where the search of the others gives the like
+  -- the search at a piece of tag t, given what it finds in the pieces after it
   at-piece : (k at least t : ℕ) (p : Piece) (ps : List Piece) (r : List ℕ) → closed r ≡ true → Level [] os (suc t) ps → (R : Read least t p (concat pieceBytes ps ++ r)) → isOptional p ≡ true → (further : Gap)
       → (t < k → further ≡ found k (at + length (pieceBytes p)) (suc t) ps)
       → (x y : Bool) → ltb t k ≡ x → eqb t k ≡ y

@@ -1,9 +1,11 @@
 -- The rows of an edited message: each row is a piece's member and content, so lists differ only in the member that was edited.
 --
---   Held, allHeld           member row, bytes and length of each piece that has a member
---   listed-held             they are what the rows tell
---   held-others, held-there of edited pieces: those of other members stay; of the member there are the new bytes, or none
---   lists-held              a list names a member if some of these has it
+--   Held, held, pieceHeld, ownHeld, sliceHeld, allHeld     member row, bytes and length of each piece that has a member
+--   rowHeld, listed-held                 the same of a row; the rows hold what the pieces hold
+--   Of, rows-others, rows-there          entries of one member; rows that differ in one member only, by what they hold
+--   some-of, lists-held                  a list names a member if some entry has it
+--   held-others, slices-others           of edited pieces: the entries of other members stay
+--   held-tagged, held-mine, held-apart, slices-mine     only the owner's piece with the tag has an entry of the member
 use mathlib.Core.Path.{_≡_, refl, sym, ap, ap₂, _∙_, subst}
 use mathlib.Core.Bool.{Bool, true, false, not, _||_, true≢false}
 use mathlib.Core.Option.{Option, none, some}
@@ -34,32 +36,38 @@ use Rattle.edit.specs.EditLaws.{map-append, Unlike, Apart}
 
 -- ---- what pieces and rows hold
 
--- member row, bytes, their length
+-- an entry: member row, bytes, their length
 abbrev pub Held : Type 0
 Held = ℕ × List ℕ × ℕ
 
+-- the entry of a piece before others, if the piece has a member
 unfoldable pub held : Option Member → List ℕ → List Held → List Held
 held none b l = l
 held (some d) b l = (d .row, b, length b) ∷ l
 
+-- the entries of pieces of owner t
 unfoldable pub pieceHeld : List ℕ → ℕ → List Piece → List Held
 pieceHeld T t [] = []
 pieceHeld T t (p ∷ ps) = held (pieceMember T t p) (contentBytes p) (pieceHeld T t ps)
 
+-- the same of a slice's pieces, if its name is a record's
 unfoldable pub ownHeld : List ℕ → List Piece → Option ℕ → List Held
 ownHeld T ps none = []
 ownHeld T ps (some t) = pieceHeld T t ps
 
+-- the entries of slices; a skipped slice has none
 unfoldable pub sliceHeld : List ℕ → List Slice → List Held
 sliceHeld T [] = []
 sliceHeld T (known o ps ∷ ss) = ownHeld T ps (named T o) ++ sliceHeld T ss
 sliceHeld T (passed b id z ∷ ss) = sliceHeld T ss
 
+-- the entries of a message
 unfoldable pub allHeld : List ℕ → ℕ → Pieces → List Held
 allHeld T top (list ps) = pieceHeld T top ps
 allHeld T top (exception ss) = sliceHeld T ss
 allHeld T top (class ss) = sliceHeld T ss
 
+-- the entry of a row
 abbrev pub rowHeld : List ℕ → Row → Held
 rowHeld m r = (r .member, partOf m r, r .len)
 
@@ -92,7 +100,7 @@ module _ (T m : List ℕ) where
 
 -- ---- rows by what they hold
 
--- of member n, or not
+-- an entry is of member n
 abbrev pub Of : ℕ → Held → Bool
 Of n h = eqb (h .0) n
 
@@ -126,10 +134,11 @@ map-held : (m : List ℕ) (rs : List Row) → map (partOf m) rs ≡ map (λ (h :
 map-held m [] = refl
 map-held m (r ∷ rs) = ap (λ (l : List (List ℕ)). partOf m r ∷ l) (map-held m rs)
 
+-- the bytes in the rows of a member are those in its entries
 pub rows-there : (m : List ℕ) (n : ℕ) (rs : List Row) → map (partOf m) (those (λ (r : Row). eqb (r .member) n) rs) ≡ map (λ (h : Held). h .1) (those (Of n) (map (rowHeld m) rs))
 rows-there m n rs = map-held m (those (λ (r : Row). eqb (r .member) n) rs) ∙ ap (map (λ (h : Held). h .1)) (those-map m (λ (i : ℕ). eqb i n) rs)
 
--- some of a list
+-- a list is not empty
 unfoldable pub some-of : List Held → Bool
 some-of [] = false
 some-of (h ∷ l) = true

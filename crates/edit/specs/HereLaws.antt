@@ -1,9 +1,10 @@
 -- The result under the hub's own table: read to the same pieces but one, and listed with the same members but one.
 --
---   owned-tagged            the pieces of the owner's slice that have the member's tag
---   held-edit               what the edited pieces hold
---   lists-tagged            the member is listed exactly if one of them is there
---   others, changed-here    the promises
+--   owner-pieces            the pieces of the owner's slice
+--   held-else, taggedHeld, held-here, held-there     what the edited pieces hold, of other members and of the member
+--   lists-tagged            the member is listed exactly if the owner's pieces have its tag
+--   carried-differs, still-read     how the lists differ
+--   others-kept, changed-here       the promises
 use mathlib.Core.Path.{_≡_, refl, sym, ap, _∙_, subst, subst₂}
 use mathlib.Core.Bool.{Bool, true, false, not}
 use mathlib.Core.Option.{Option, none, some}
@@ -108,7 +109,7 @@ module _ (T : List ℕ) (right : faults T ≡ fine) (top : ℕ) (f : Format) (m 
   held-now c (exception ss) C A = slices-now c ss (C .1) A (apart-slices T right top f (x .owner) (by-name T right top f m x ss (C .1) (A .within)) ss (C .1) (A .within))
   held-now c (class ss) C A = slices-now c ss (C .1) A (apart-slices T right top f (x .owner) (by-name T right top f m x ss (C .1) (A .within)) ss (C .1) (A .within))
 
-  -- there are the new bytes, or none
+  -- what the edited message holds of the member: the new bytes, or nothing
   pub held-there : (c : Option (List ℕ)) → Sound (x .member) c → (p : Pieces) (C : Conform T top (v11 f) p) (A : Aim T (chain T (firstKnown T top p)) m x)
       → map (λ (h : Held). h .1) (those (Of row) (allHeld T top (edit nm key (pieceFor (x .member) c) p))) ≡ afterwards c
   unfolding putPiece pieceFor pieceHeld those

@@ -1,11 +1,11 @@
--- What a change of an accepted message is, where it is not refused, and what each refusal says.
+-- A change of an accepted message that is not refused: what it makes, and that the result follows the rules.
 --
---   Made, made-ok                what `changed` gives is the encoding of the edited pieces; its member is found, and nothing is refused
---   bounded-ok                   it fits
---   Doing, form-ok               what 50, 51, 3 and 21 let pass
---   first-there                  the first known type is a top
---   followed, made-follows       the result follows the rules, with the edited pieces
---   change-refused, change-made, change-too-long    the promises
+--   resultOf, Made, made-ok, made-step   what `changed` gives is the encoding of the edited pieces; its member is found, and nothing is refused
+--   bounded-ok, bounded-step             the result fits
+--   Doing, form-ok, form-step            what 50, 51, 3 and 21 let pass
+--   first-there                          the first known type is a top
+--   sound-of                             new bytes are one value of the member's type
+--   Carried, carried, editedBy, carried-conforms, carried-accepted    the result follows the rules, with the edited pieces
 use mathlib.Core.Path.{_≡_, refl, sym, ap, _∙_, subst}
 use mathlib.Core.Bool.{Bool, true, false, not, _&&_, true≢false}
 use mathlib.Core.Logic.{_⊎_, inl, inr}
@@ -38,6 +38,7 @@ use Rattle.edit.specs.TargetLaws.{Aim, target-aim}
 use Rattle.edit.specs.PieceLaws.{Sound}
 use Rattle.edit.specs.EditLaws.{conform-edit}
 
+-- an answer is no refusal
 pub out≢stop : {A : Type 0} {o : Out A} {a : A} {n p : ℕ} → o ≡ out a → o ≡ stop n p → ⊥
 out≢stop e f = let z : _≡_ {A = ℕ} 0 1 = cc in omega arith
 
@@ -47,6 +48,7 @@ out≢stop e f = let z : _≡_ {A = ℕ} 0 1 = cc in omega arith
 abbrev pub resultOf : List ℕ → Format → Pieces → Option (List ℕ) → Target → List ℕ
 resultOf T f p c x = encapsulate (v11 f) (encode (v11 f) (edit (nameOf T (x .owner)) (x .member .key) (pieceFor (x .member) c) p))
 
+-- what is known of what `changed` gives
 pub record Made (T : List ℕ) (top : ℕ) (f : Format) (p : Pieces) (member : ℕ) (c : Option (List ℕ)) (m′ : List ℕ) : Type 0 where
   pub place : Target
   pub found : target T (firstKnown T top p) member ≡ some place
@@ -89,6 +91,7 @@ module _ (o : Out (List ℕ)) (room : ℕ) where
       go (out m) e h = let B = go₂ m (leb (length m) limit && leb (length m) room) refl h in (e ∙ ap out (B .0), subst (λ (z : List ℕ). length z ≤ limit) (B .0) (B .1), subst (λ (z : List ℕ). length z ≤ room) (B .0) (B .2))
       go (stop n p) e h = absurd (out≢stop h refl)
 
+-- a result within the limit and the room is given
 pub bounded-step : (room : ℕ) (m′ : List ℕ) → length m′ ≤ limit → length m′ ≤ room → bounded room m′ ≡ out m′
 unfolding bounded
 bounded-step room m′ a b = rw (le-leb (length m′) limit a, le-leb (length m′) room b)

@@ -1,9 +1,9 @@
--- The message with the bytes of one optional exchanged is the encoding of the edited pieces.
+-- The bytes of one optional exchanged: in a message by segments, and in the data of a slice by its pieces.
 --
---   list-segments, slice-segments     the exchange in a list of segments
---   DataCut, data-cut                 the data of a slice before and after an edit
---   seek-whole                        the slice of a name is found in the bytes of slices
---   list-spliced, slices-spliced      the result
+--   slice-segments, list-segments     the exchange in a message that is a list of segments
+--   freshBytes, isSetting, mark       the new member's bytes; whether one is set; an end marker, if there is one
+--   DataCut, cut-set, cut-removed     the data of a slice before and after an edit
+--   gap-empty, bytes-cut, bytes-now   the gap is empty exactly if the tag is not there; the bytes before and after an edit
 use mathlib.Core.Path.{_≡_, refl, sym, ap, ap₂, _∙_, subst}
 use mathlib.Core.Bool.{Bool, true, false, _&&_, _||_, not, true≢false, false≢true}
 use mathlib.Core.Option.{Option, none, some}
@@ -126,7 +126,7 @@ level-none os least (required i b ∷ ps) L e = absurd L
 level-none os least (optional t f b ∷ ps) L e = absurd (true≢false e)
 level-none os least (skipped t f b ∷ ps) L e = absurd (true≢false e)
 
--- what is behind has only optionals
+-- after the gap there are only optionals
 behind-none : (k : ℕ) (ms os : List Member) (least : ℕ) (ps : List Piece) → Level ms os least ps → anyOptional (behind k ps) ≡ false → behind k ps ≡ []
 unfolding behind anyOptional isOptional
 behind-none k [] os least [] L e = refl
@@ -148,7 +148,7 @@ behind-none k (m ∷ ms) os least (required i b ∷ ps) L e = behind-none k ms o
 behind-none k (m ∷ ms) os least (optional t f b ∷ ps) L e = absurd L
 behind-none k (m ∷ ms) os least (skipped t f b ∷ ps) L e = absurd L
 
--- what is there is one optional, which has bytes
+-- at the gap there is at most one optional, which has bytes
 here-some : (k : ℕ) (ps : List Piece) → eqb (length (concat pieceBytes (hereAt k ps))) 0 ≡ not (anyOptional (hereAt k ps))
 unfolding hereAt anyOptional isOptional concat pieceBytes frontBytes contentBytes
 here-some k [] = refl

@@ -158,7 +158,7 @@ module _ (T : List ℕ) (right : faults T ≡ fine) where
       go true h = refl
       go false h = h
 
-  -- what is aimed at is an optional of the chain
+  -- a target is an optional of the chain
   pub aim-chain : (t m : ℕ) (x : Target) → Aim T (chain T t) m x → ChainOptional T t m
   unfolding ofChain takes
   aim-chain t m x A =
