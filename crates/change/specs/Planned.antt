@@ -2,13 +2,13 @@
 --
 --   isPart, compactPlan   a view that shows a part; the refusal of a compact record
 --   freshForm             3 and 21 of the new bytes
---   atSpot, locatedPlan   the exchange at a gap; in the members of owner o
+--   cutAt, atSpot, atSlot, locatedPlan    the exchange at a gap; with 50; in a list or a slice; in the members of owner o
 --   slicedPlan            3 and 21, then the exchange
 --   contentOf             bytes to set, or none to remove
 --   Planned o m b p       plan p is what o says: the message m with bytes exchanged for b, or a refusal
 --   Ripe                  the same as a record
 --   PlanFits              what a plan asks before it is carried out
---   PlannedFor            the same for a message that is accepted
+--   PlannedFor            `Planned` for an accepted message with this first known type and format
 use mathlib.Core.Path.{_≡_}
 use mathlib.Core.Bool.{Bool, true, false, _&&_, _||_, not}
 use mathlib.Core.Option.{Option, none, some}

@@ -2,9 +2,9 @@
 --
 --   fresh-is, setting-is    the new member's bytes
 --   there-listed            what is removed is there exactly if the message lists it
---   slices-found            the slice, and its data, in the bytes of a record
---   located-list, located-slices    the plan
---   planned-located         it is what the definition gives
+--   planned-at              the plan at a gap of the owner's members
+--   last-there, data-there, slot-there    the slice, and its data, in the bytes of a record
+--   planned-list, planned-slices, planned-located    the plan is what the definition gives: of a parameter list, a record, any message
 use mathlib.Core.Path.{_≡_, refl, sym, ap, ap₂, _∙_, subst}
 use mathlib.Core.Bool.{Bool, true, false, _&&_, _||_, not, true≢false, false≢true}
 use mathlib.Core.Logic.{_⊎_, ⊎-elim}

@@ -72,7 +72,7 @@ fn fresh_form(
     0
 }
 
-// Optionals remain.
+// One of two holds: optionals remain if one is set or there are others.
 fn either(a: bool, b: bool) -> bool
     ensures { λ r. ⌜ r ≡ a || b ⌝ }
 {

@@ -1,9 +1,9 @@
 -- What the search for an optional answers, in the words of `edit`.
 --
 --   targetRow             the owner of a target
---   slotOf, slotIn        the slice of a name; where the members of owner o are, under a top of kind k
+--   slotOf, slicesAt, slotIn    the slice of a name; where slices begin; where the members of owner o are, under a top of kind k
 --   SlotInside at l r     a slice lies from `at` on within l bytes, its parts in order
---   FrameIs m at r       what is at a place of slices
+--   Framed, FrameIs m at r      a slice at a place; what is read there
 --   asGap, SpotInside     a spot as a gap; within l bytes
 use mathlib.Core.Path.{_≡_}
 use mathlib.Core.Option.{Option, none, some}

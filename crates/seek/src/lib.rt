@@ -140,7 +140,7 @@ fn is_end(s: &[u8], at: usize) -> bool
     wire::byte_at(s, at) == 255
 }
 
-// Some optional came before, where tags are at least `least` now, or one follows.
+// Whether there are other optionals: one came before if `least` is above 0, one follows unless `end`.
 fn any_other(least: usize, end: bool) -> bool
     ensures { λ r. ⌜ r ≡ ltb 0 least || not end ⌝ }
 {

@@ -3,7 +3,7 @@
 --   headerLength, fieldLength, pieceLength    lengths of a header, a length field, a new member
 --   pieceOf, markerOf, exchanged              the new member, the end marker, both
 --   sizeOf c all n       how many of `all` bytes there are afterwards, the new member having n
---   headOf, dataOf, sliceMiddle, frontOf    what comes before the exchange, after the size and with it
+--   flagOf, headOf, dataOf, sliceMiddle, frontOf    the slice's new flags; the parts before the exchange; all of them
 --   spliced              the whole
 --   Cuts, Shaped         the places of a cut, in order and within a message
 use mathlib.Core.Path.{_≡_}

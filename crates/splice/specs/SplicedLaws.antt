@@ -1,6 +1,6 @@
 -- Lengths of what is put, and that the parts put one after another are the whole.
 --
---   piece-length, exchanged-length, spliced-length    lengths
+--   piece-length, exchanged-length, size-is, take-length, head-length, data-length, middle-length, front-length, spliced-length    lengths
 --   shaped-cuts, shaped-slice                         a cut of a message, and of its slice
 --   spliced-parts                                     the whole from its parts
 use mathlib.Core.Path.{_≡_, refl, sym, ap, ap₂, _∙_}

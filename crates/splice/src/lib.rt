@@ -73,7 +73,7 @@ pub fn size_after(c: Cut, all: usize, n: usize) -> usize
     all - (c.to - c.from) + piece_len(c.setting, c.tag, c.form, n) + marker_len(c.marker)
 }
 
-// Puts the bytes of the message between its size and the slice's size, with the slice's flags anew.
+// Puts the bytes of the message between its size and the slice's size, with the slice's new flags.
 fn put_head(flagged: bool, flags: usize, size: usize, message: &[u8], out: &mut [u8])
     requires { ⌜ (4 ≤ flags) × (flags + 1 ≤ size) × (size ≤ length (now message)) × (length (now message) ≤ 65536) × (size ≤ length (now out)) ⌝ }
     ensures { λ _. ⌜ now (out .exit) ≡ put 4 (headOf flagged flags size (now (message .entry))) (now (out .entry)) ⌝ }
@@ -84,7 +84,7 @@ fn put_head(flagged: bool, flags: usize, size: usize, message: &[u8], out: &mut 
     wire::put_part(out, flags + 1, message, flags + 1, size - (flags + 1));
 }
 
-// Puts the slice's size anew, and the bytes of the message between it and the exchange.
+// Puts the slice's new size, and the bytes of the message between it and the exchange.
 fn put_data(size: usize, from: usize, v: usize, message: &[u8], out: &mut [u8])
     requires { ⌜ (size + 4 ≤ from) × (from ≤ length (now message)) × (length (now message) ≤ 65536) × (from ≤ length (now out)) ⌝ }
     ensures { λ _. ⌜ now (out .exit) ≡ put size (dataOf size from v (now (message .entry))) (now (out .entry)) ⌝ }
@@ -93,7 +93,7 @@ fn put_data(size: usize, from: usize, v: usize, message: &[u8], out: &mut [u8])
     wire::put_part(out, size + 4, message, size + 4, from - (size + 4));
 }
 
-// Puts the bytes of the message between its size and the exchange, with the slice's flags and size anew.
+// Puts the bytes of the message between its size and the exchange, with the slice's new flags and size.
 fn put_slice(c: Cut, message: &[u8], n: usize, out: &mut [u8])
     requires { ⌜ Shaped (length (now message)) c ⌝ }
     requires { ⌜ 0 < c .end ⌝ }
