@@ -30,6 +30,6 @@ unfoldable pub sliceOut : Res Read → Out (List ℕ)
 sliceOut (bad c p) = stop c p
 sliceOut (ok r n) = next (stoppedFirst (notConvertible r)) λ _. out (encapsulate (v11 sliced) (encode (v11 sliced) (r .pieces)))
 
--- then 22
+-- the converter: the sliced message, then 22 where it does not fit
 unfoldable pub converting : List ℕ → ℕ → List ℕ → ℕ → Out (List ℕ)
 converting T top m room = next (sliceOut (rules T top m)) (bounded room)

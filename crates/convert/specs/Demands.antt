@@ -23,7 +23,7 @@ pub record Convertible (T : List ℕ) (top : ℕ) (m : List ℕ) (p : Pieces) : 
   pub accepted : rules T top m ≡ ok (readAs (v11 compact) p) taken
   pub complete : Complete p
 
--- what the rules make of a message o to which such a record is converted
+-- what the rules make of o, the message to which a convertible record in these pieces is converted
 pub record ConvertedTo (T : List ℕ) (top : ℕ) (m : List ℕ) (p : Pieces) (o : List ℕ) : Type 0 where
   pub pieces : Pieces
   pub taken : ℕ

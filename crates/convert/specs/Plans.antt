@@ -48,7 +48,7 @@ unfoldable pub Narrow : ℕ → Walk → Type 0
 Narrow len (Done t g n o s e) = (t < 65536) × (len ≤ 65536)
 Narrow len (Stop c p) = Unit {0}
 
--- 22 at the bytes needed
+-- the bytes needed if they fit; else 22 at the bytes needed
 unfoldable pub fitting : ℕ → ℕ → ℕ → ℕ → Plan
 fitting room t n k = pick (leb k limit && leb k room) (Fits t n k) (Stopped 22 k)
 

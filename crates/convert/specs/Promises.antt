@@ -2,6 +2,7 @@
 use Rattle.convert.specs.Demands.{Converted, ConvertWritten, ConvertRefuses, ConvertNumbers, ConvertFilled}
 use Rattle.convert.specs.ConvertLaws.{converted, convert-written, convert-refuses, convert-numbers, convert-filled}
 
+-- all promises together
 pub record Promises : Type 0 where
   pub converted : Converted
   pub written : ConvertWritten
@@ -9,6 +10,7 @@ pub record Promises : Type 0 where
   pub numbers : ConvertNumbers
   pub filled : ConvertFilled
 
+-- and their proofs
 pub promises : Promises
 promises = record {
   converted = converted;

@@ -1,6 +1,6 @@
 -- The sliced form of a compact record, as the code puts it: the data of each slice stay as they are, and the rows of its owner say where they end.
 --
---   growth, laterGrowth   how many bytes the sliced form of the slices of a chain takes more; of those after the first
+--   growth, laterGrowth   how many bytes longer the slices of a chain are in sliced form; those after the first
 --   ownEnd, ownCount      the place after the rows of an owner that come first, and how many they are
 --   dataEnd               where the data of a slice end
 --   front                 flags, type ID and size of a slice
@@ -16,12 +16,12 @@ use Rattle.encoding.specs.Table.{at, takes, nameOf, chain}
 use Rattle.encoding.specs.Slice.{sliced, bit, flagBits}
 use Rattle.encoding.specs.Message.{Row}
 
--- a type ID and a size in each slice
+-- each later slice gets a type ID and a size
 unfoldable pub laterGrowth : List ℕ → List ℕ → ℕ
 laterGrowth T [] = 0
 laterGrowth T (t ∷ ts) = 4 + length (stringBytes (nameOf T t)) + laterGrowth T ts
 
--- the first slice has its type ID
+-- the first slice has its type ID and gets a size
 unfoldable pub growth : List ℕ → List ℕ → ℕ
 growth T [] = 0
 growth T (t ∷ ts) = 4 + laterGrowth T ts
@@ -34,7 +34,7 @@ unfoldable pub ownCount : List ℕ → ℕ → List Row → ℕ
 ownCount T t [] = 0
 ownCount T t (r ∷ rs) = pick (takes T t (r .member)) (suc (ownCount T t rs)) 0
 
--- bit 2 of the flags at a place
+-- whether bit 2 is set in the flags at a place
 abbrev pub flagged : List ℕ → ℕ → Bool
 flagged m p = bit (at m 1 p) 4
 

@@ -7,7 +7,7 @@ ghost use Rattle.encoding.specs.Table.{typesAt, chain};
 ghost use Rattle.convert.specs.Reslice.{growth};
 ghost use Rattle.convert.specs.Plans.{planOf, Narrow};
 
-// How many bytes the sliced form of the slices of row t and its bases takes more.
+// How many bytes longer the slices of row t and its bases are in sliced form.
 fn growth(table: &[u8], begin: usize, t: usize) -> usize
     requires { ⌜ begin ≡ typesAt (now table) ⌝ }
     requires { ⌜ t < 65536 ⌝ }

@@ -145,12 +145,13 @@ isCarrier member a = not (isRefused a) && not (eqb (howMany (λ (r : Row). eqb (
 unfoldable pub isLacking : ℕ → Answer → Bool
 isLacking member a = not (isRefused a) && eqb (howMany (λ (r : Row). eqb (r .member) member) (a .rows)) 0
 
--- room for an answer for each byte, and for the most rows that a message has, 1,024, each
+-- the counts of a sheet after a call, by the answers l to the messages of the buffer
 pub record Counted (member : ℕ) (s s′ : Sheet) (l : List Answer) : Type 0 where
   pub carriers : s′ .carriers ≡ s .carriers + howMany (isCarrier member) l
   pub lacking : s′ .lacking ≡ s .lacking + howMany (isLacking member) l
   pub refused : s′ .refused ≡ s .refused + howMany isRefused l
 
+-- with room for an answer for each byte, and for the most rows that a message has, 1,024, for each byte
 abbrev pub SheetCounts : Type 0
 SheetCounts =
     (T : List ℕ) (top : ℕ) (buffer : List ℕ) (member : ℕ) (s s′ : Sheet) (space left : ℕ) → Answered T top buffer member s s′
@@ -226,7 +227,7 @@ NeverAmiss =
 
 -- ---- the mean
 
--- of any sheet: where a mean is told, it is the mean
+-- of any sheet: where a mean is given, it is the mean
 abbrev pub MeanExact : Type 0
 MeanExact =
     (s : Sheet) (w r : ℕ) → InWidths s → mean s ≡ IsMean w r

@@ -1,10 +1,10 @@
 -- Laws of a sheet's numbers as integers, and of the messages that are added. Assumes nothing.
 --
 --   signed-short, signed-int, signed-long    the number of a pattern, by its lifted one
---   AllFit, says-all, season-all             messages more keep a season a season
+--   AllFit, says-all, season-all             further messages keep a season a season
 --   sheet-back                               lifted twice, a season is itself
 --   says-split                               what a buffer says, cut after messages that the walk passed
---   MeanIs, mean-inv                         what a mean that is there tells
+--   MeanIs, mean-inv, mean-there             what holds of a mean that is there; when a mean is there
 use mathlib.Core.Path.{_≡_, refl, sym, ap, ap₂, _∙_}
 use mathlib.Core.Bool.{Bool, true, false, _||_}
 use mathlib.Core.List.{List, [], _∷_, _++_, map}
@@ -57,7 +57,7 @@ signed-long n h = go (leb (2 ^ 63) n) refl
     go true e = let l = leb-true (2 ^ 63) n e in sub-same n (2 ^ 64) ((n + 2 ^ 63) % 2 ^ 64) (2 ^ 63) (omega arith)
     go false e = let l = leb-false (2 ^ 63) n e in sub-same n 0 ((n + 2 ^ 63) % 2 ^ 64) (2 ^ 63) (omega arith)
 
--- ---- messages more
+-- ---- further messages
 
 abbrev pub AllFit : List Says → Type 0
 AllFit [] = Unit {0}
@@ -141,7 +141,7 @@ mean-inv s w r h = go (ltb most (total s)) refl (amiss (liftSheet s)) refl (s .c
           rest = sym er ∙ ap (λ (i : ℕ). liftedSum (liftSheet s) % i) (sym en);
         }
 
--- and a mean is there
+-- a sheet of at most 1,000,000 messages that 53 lets pass has the mean of its numbers
 pub mean-there : (s : Sheet) → total s ≤ most → amiss (liftSheet s) ≡ false → mean s ≡ meanOf (s .carriers) (liftedSum (liftSheet s))
 unfolding mean
 mean-there s h e = ap₂ (λ (a b : Bool). pick (a || b) NoMean (meanOf (s .carriers) (liftedSum (liftSheet s)))) (le-ltb most (total s) h) e

@@ -6,6 +6,7 @@ use Rattle.sheetlaws.specs.SheetCounted.{sheet-counts}
 use Rattle.sheetlaws.specs.SheetRefusals.{sheet-refused, sheet-given}
 use Rattle.sheetlaws.specs.SheetBack.{bytes-back}
 
+-- all promises together
 pub record SheetPromises : Type 0 where
   pub sum : SheetSum
   pub extremes : SheetExtremes
@@ -23,6 +24,7 @@ pub record SheetPromises : Type 0 where
   pub back : BytesBack
   pub bytes : BytesCall
 
+-- and their proofs
 pub sheet-promises : SheetPromises
 sheet-promises = record {
   sum = sheet-sum;
