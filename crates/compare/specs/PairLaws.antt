@@ -1,9 +1,9 @@
 -- Laws of all differences of two tables. Assumes nothing.
 --
---   next-passes        a row that is looked for passes the test
+--   next-few           a parameter list that is looked for has at most 1,024 members
 --   item-few-..        the rows of an item have at most 1,024 members
 --   pair-most          a pair has at most 4,097 differences
---   differences-few    two tables that break no rule have less than 2^32 differences
+--   differences-sum, differences-few    the differences are those of records, then lists; two tables that break no rule have less than 2^32 of them
 use Prim.Native.Nat.{ℕ, zero, suc, _+_, _-_, _*_, _≤_, _<_}
 use mathlib.Core.Path.{_≡_, refl, sym, ap, _∙_}
 use mathlib.Core.Bool.{Bool, true, false, _&&_}

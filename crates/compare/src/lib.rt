@@ -37,7 +37,7 @@ fn bit(b: bool) -> u32
     0
 }
 
-// The row is not in the table, or no top.
+// The row is not in the table, or is no top.
 fn no_top(table: &[u8], begin: usize, top: usize) -> bool
     requires { ⌜ begin ≡ typesAt (now table) ⌝ }
     ensures { λ r. ⌜ r ≡ noTop (now (table .entry)) top ⌝ }
@@ -48,7 +48,7 @@ fn no_top(table: &[u8], begin: usize, top: usize) -> bool
     table::kind(table, begin, top) < 13
 }
 
-// For a list of so many bytes: lists the differences and tells whether the new table extends the old one, by the cells of the two; 19 where the list is short.
+// For a list of so many bytes: lists the differences and answers whether the new table extends the old one, by the cells of the two; 19 where the list is short.
 // The differences are counted first, so that a refusal leaves the list as it is.
 fn told(
     old: &[u8],
@@ -120,7 +120,7 @@ fn sound(old: &[u8], t: usize, new: &[u8], u: usize, bytes: usize, list: &mut [u
     whole(old, begin, new, start, t, u, bytes, list)
 }
 
-// The answer for a list of so many bytes, and the differences in a list, where they fit.
+// The answer for a list of `bytes` bytes, and the differences in `list`, where they fit.
 fn judge(old: &[u8], t: usize, new: &[u8], u: usize, bytes: usize, list: &mut [u8]) -> Compared
     ensures { λ r. ⌜ r ≡ comparedOf (comparing (now (old .entry)) t (now (new .entry)) u bytes) ⌝ }
     ensures { λ _. ⌜ now (list .exit) ≡ enter 0 (comparing (now (old .entry)) t (now (new .entry)) u bytes .found) (now (list .entry)) ⌝ }
@@ -149,7 +149,7 @@ pub fn compare(old: &[u8], t: usize, new: &[u8], u: usize, list: &mut [u8]) -> C
     judge(old, t, new, u, bytes, list)
 }
 
-// The same numbers for a lent list of so many bytes, which is not at hand.
+// The numbers that `compare` gives for a lent list of so many bytes; no list is touched.
 pub fn answer(old: &[u8], t: usize, new: &[u8], u: usize, bytes: usize) -> Compared
     ensures { λ r. ⌜ r ≡ comparedOf (comparing (now (old .entry)) t (now (new .entry)) u bytes) ⌝ }
 {

@@ -83,7 +83,7 @@ fn next_list(table: &[u8], begin: usize, t: usize, end: usize) -> usize
     0
 }
 
-// The next one after such a row.
+// The first parameter list after row a - 1, + 1; 0 if there is none, or a is 0.
 fn following(table: &[u8], begin: usize, a: usize, end: usize) -> usize
     requires { ⌜ (begin ≡ typesAt (now table)) × (end ≡ types (now table)) × (end < 65536) × (faults (now table) ≡ fine) ⌝ }
     ensures { λ r. ⌜ (r ≡ followOf (isList (now (table .entry))) a end) × (r ≤ 65536) × FewMembers (now (table .entry)) r ⌝ }

@@ -2,15 +2,15 @@
 --
 --   sameTy, sameTys      types agree: equal trees
 --   precedes             the order of names: unsigned bytes, a prefix first
---   ordered              a list put in order by a test; what is alike keeps its order
+--   insert, ordered      a list put in order by a test; what is alike keeps its order
 --   rowsOf               the rows of a table that pass a test
 --   partner              the record of the other table with a record's kind and name
 --   Pair                 what is set against each other: row + 1, or 0 for none
 --   recordPairs, listPairs   the records by name, the old table's first; the parameter lists by their order
 --   Difference           five numbers: what, old and new owner, old and new member, each + 1 or 0 for none
 --   baseDifference, requiredDifferences, optionalDifferences, differences
---   sameRecords, ownersMatch, recordMatches, topsMatch, extending     document 01's "extends" and the match of the tops, as tests
---   Comparison, comparing    the call's answer: 1, 1 with the place + 1,000,000, 2, 19; entriesListed: the lent list after it
+--   sameRecord, ownersMatch, matchedBy, allMatched, topsMatch, extending     document 01's "extends" and the match of the tops, as tests
+--   Comparison, comparing    the call's answer: 1, 1 with the place + 1,000,000, 2, 19; differencesListed: the lent list after it
 use mathlib.Core.Bool.{Bool, true, false, _&&_, _||_, not}
 use mathlib.Core.Option.{Option, none, some}
 use mathlib.Core.List.{List, [], _∷_, _++_}
@@ -26,7 +26,7 @@ use Rattle.encoding.specs.Message.{noTop}
 
 -- ---- types
 
--- the numbers of more than one byte, told apart by a number
+-- an index for each number of more than one byte
 unfoldable pub numIndex : Num → ℕ
 numIndex short = 0
 numIndex int = 1
@@ -143,7 +143,7 @@ precedes xs [] = false
 precedes [] (y ∷ ys) = true
 precedes (x ∷ xs) (y ∷ ys) = ltb x y || (eqb x y && precedes xs ys)
 
--- put before the first that it precedes
+-- put before the first that does not precede it
 unfoldable pub insert : {A : Type 0} → (A → A → Bool) → A → List A → List A
 insert less a [] = a ∷ []
 insert less a (b ∷ l) = let later = b ∷ insert less a l in pick (less b a) later (a ∷ b ∷ l)
@@ -174,11 +174,12 @@ lists T = rowsOf T (λ t. eqb (kind T t) 15)
 unfoldable pub sameRecord : (S T : List ℕ) → (t u : ℕ) → Bool
 sameRecord S T t u = eqb (kind S t) (kind T u) && sameBytes (nameOf S t) (nameOf T u)
 
--- the row + 1 of the second table's record that is record t of the first, or 0
+-- a row + 1, or 0 for none
 unfoldable pub rowOrNone : Option ℕ → ℕ
 rowOrNone none = 0
 rowOrNone (some u) = suc u
 
+-- the row + 1 of the second table's record that has the kind and name of record t of the first, or 0
 unfoldable pub partner : (S T : List ℕ) → ℕ → ℕ
 partner S T t = rowOrNone (search (sameRecord S T t) (records T))
 
@@ -239,6 +240,7 @@ basesDiffer old new zero (suc u) = true
 basesDiffer old new (suc t) zero = true
 basesDiffer old new (suc t) (suc u) = not (sameBytes (nameOf old t) (nameOf new u))
 
+-- one element, or none
 unfoldable pub given : {A : Type 0} → Bool → A → List A
 given true a = a ∷ []
 given false a = []
@@ -254,11 +256,12 @@ agree none (some n) = false
 agree (some m) none = false
 agree (some m) (some n) = sameTy (m .ty) (n .ty)
 
+-- the row + 1 of a member, or 0 for none
 unfoldable pub memberRow : Option Member → ℕ
 memberRow none = 0
 memberRow (some m) = suc (m .row)
 
--- the members of a key, where they don't agree
+-- the differences of the members of each key, where they don't agree
 unfoldable pub memberDifferences : ℕ → (t u : ℕ) → List Member → List Member → List ℕ → List Difference
 memberDifferences what t u ms ns [] = []
 memberDifferences what t u ms ns (k ∷ ks) =
@@ -266,25 +269,28 @@ memberDifferences what t u ms ns (k ∷ ks) =
     (record { what = what; owner = suc t; owner′ = suc u; member = memberRow (lookup k ms); member′ = memberRow (lookup k ns) })
     ++ memberDifferences what t u ms ns ks
 
--- required members by position
+-- the greater of two numbers
 unfoldable pub longer : ℕ → ℕ → ℕ
 longer a b = pick (leb a b) b a
 
+-- required members by position
 unfoldable pub requiredDifferences : (old new : List ℕ) → (t u : ℕ) → List Difference
 requiredDifferences old new t u =
     let ms = Table.requiredMembers old t in
     let ns = Table.requiredMembers new u in
     memberDifferences 2 t u ms ns (range 0 (longer (length ms) (length ns)))
 
--- the keys of members that other members lack
+-- there is a member
 unfoldable pub isThere : Option Member → Bool
 isThere none = false
 isThere (some m) = true
 
+-- the keys of members
 unfoldable pub keys : List Member → List ℕ
 keys [] = []
 keys (m ∷ ms) = m .key ∷ keys ms
 
+-- the keys of members ns that members ms lack
 unfoldable pub keysWithout : List Member → List Member → List ℕ
 keysWithout ms [] = []
 keysWithout ms (n ∷ ns) = pick (isThere (lookup (n .key) ms)) (keysWithout ms ns) (n .key ∷ keysWithout ms ns)
@@ -309,6 +315,7 @@ pairDifferences old new zero n = record { what = 0; owner = 0; owner′ = n; mem
 pairDifferences old new (suc t) zero = record { what = 0; owner = suc t; owner′ = 0; member = 0; member′ = 0 } ∷ []
 pairDifferences old new (suc t) (suc u) = ownerDifferences old new t u
 
+-- of all pairs, one after another
 unfoldable pub allDifferences : (old new : List ℕ) → List Pair → List Difference
 allDifferences old new [] = []
 allDifferences old new (p ∷ ps) = pairDifferences old new (p .0) (p .1) ++ allDifferences old new ps
@@ -347,6 +354,7 @@ unfoldable pub matchedBy : (old new : List ℕ) → (t n : ℕ) → Bool
 matchedBy old new t zero = false
 matchedBy old new t (suc u) = ownersMatch old new t u && basesMatch old new (base old t) (base new u)
 
+-- each of the old records matches its partner
 unfoldable pub allMatched : (old new : List ℕ) → List ℕ → Bool
 allMatched old new [] = true
 allMatched old new (t ∷ ts) = matchedBy old new t (partner old new t) && allMatched old new ts
@@ -370,6 +378,7 @@ pub record Comparison : Type 0 where
   pub found : List Difference
   pub extends : Bool
 
+-- the answer to a refusal
 unfoldable pub incomparable : ℕ → ℕ → Comparison
 incomparable n p = record { refusal = n; place = p; found = []; extends = false }
 

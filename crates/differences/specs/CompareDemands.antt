@@ -7,9 +7,9 @@
 --   Differs          a difference, said apart from the list: its five numbers, and its position or tag among the members
 --   Before           the order of differences
 --   CompareFinds     the list holds exactly the differences
---   CompareOrder     each stands before the next, so each stands once
---   OrderStrict      no difference stands before itself
---   CompareRefused   where 1, 2 and 19 stand
+--   CompareOrder     each difference comes before all later ones, so each is listed once
+--   OrderStrict      no difference comes before itself
+--   CompareRefused   when 1, 2 and 19 come, and where
 use mathlib.Core.Path.{_≡_}
 use mathlib.Core.Bool.{Bool, true, false}
 use mathlib.Core.Option.{Option, none, some}
@@ -38,7 +38,7 @@ CompareYes =
     → (comparing old t new u bytes .extends ≡ true → Extends old new × TopsMatch old new t u)
     × (Extends old new → TopsMatch old new t u → length (differences old new) ≤ differenceRoom bytes → comparing old t new u bytes .extends ≡ true)
 
--- so a yes is demand 3 for these tables: an old hub reads everything that a new sender writes, but for a compact record of a type that it lacks
+-- so a yes is demand 3 for these tables: an old hub reads every message of 1.1 that the new table accepts, but for a compact record of a type that it lacks
 abbrev pub ShippedSafely : Type 0
 ShippedSafely =
     (old : List ℕ) (t : ℕ) (new : List ℕ) (u bytes : ℕ) → comparing old t new u bytes .extends ≡ true
@@ -118,7 +118,7 @@ pub data Before (old new : List ℕ) (d e : Difference) : Type 0 where
   by-what : d .owner ≡ e .owner → d .owner′ ≡ e .owner′ → d .what < e .what → Before old new d e
   by-place : {j k : ℕ} → d .owner ≡ e .owner → d .owner′ ≡ e .owner′ → d .what ≡ e .what → Differs old new d j → Differs old new e k → j < k → Before old new d e
 
--- the difference of a number
+-- difference i of a list
 abbrev pub differenceAt : List Difference → ℕ → Difference
 differenceAt l i = getD l i (five 0 0 0 0 0)
 
@@ -127,12 +127,13 @@ CompareOrder =
     (old new : List ℕ) (i j : ℕ) → faults old ≡ fine → faults new ≡ fine → i < j → j < length (differences old new)
     → Before old new (differenceAt (differences old new) i) (differenceAt (differences old new) j)
 
--- the order is strict, so CompareOrder says that every difference stands once
+-- the order is strict, so CompareOrder says that every difference is listed once
 abbrev pub OrderStrict : Type 0
 OrderStrict = (old new : List ℕ) (d : Difference) → faults old ≡ fine → faults new ≡ fine → Before old new d d → ⊥
 
 -- ---- refusals and bounds
 
+-- when each refusal comes, and that there is no other
 pub record CompareRefusals (old : List ℕ) (t : ℕ) (new : List ℕ) (u bytes : ℕ) : Type 0 where
   pub old-broken : (c p : ℕ) → faults old ≡ fault c p → comparing old t new u bytes ≡ incomparable (ruleNumber c) p
   pub new-broken : (c p : ℕ) → faults old ≡ fine → faults new ≡ fault c p → comparing old t new u bytes ≡ incomparable (ruleNumber c) (p + 1000000)

@@ -1,9 +1,9 @@
 -- A yes is demand 3 for these tables; and a table compared with itself gives yes and an empty list, since no difference is one. Assumes nothing.
 --
---   shipped-safely
---   self-optionals    the optionals of an owner match themselves: their tags differ
+--   shipped-safely    the promise
+--   self-owners       an owner matches itself: the tags of its optionals differ
 --   no-difference     no difference of a table from itself
---   compare-equal
+--   compare-equal     the promise
 use mathlib.Core.Path.{_≡_, refl, sym, ap, _∙_, subst}
 use mathlib.Core.Bool.{Bool, true, false, true≢false}
 use mathlib.Core.Option.{Option, none, some}

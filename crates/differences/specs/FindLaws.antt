@@ -2,7 +2,7 @@
 --
 --   in-..           members of lists that are joined, put in order, chosen and paired
 --   pair-..         which pairs are set against each other
---   difference-ok, difference-step, compare-finds
+--   difference-ok, difference-step, compare-finds    each listed difference is one, and each one is listed; the promise
 use mathlib.Core.Path.{_≡_, refl, sym, ap, ap₂, _∙_, subst}
 use mathlib.Core.Bool.{Bool, true, false, _&&_, not, true≢false, false≢true}
 use mathlib.Core.Option.{Option, none, some}

@@ -6,6 +6,7 @@ use Rattle.differences.specs.EqualLaws.{shipped-safely, compare-equal}
 use Rattle.differences.specs.OrderLaws.{compare-order}
 use Rattle.differences.specs.StrictLaws.{order-strict}
 
+-- all promises together
 pub record Promises : Type 0 where
   pub yes : CompareYes
   pub shipped : ShippedSafely
@@ -15,6 +16,7 @@ pub record Promises : Type 0 where
   pub strict : OrderStrict
   pub refuses : CompareRefused
 
+-- and their proofs
 pub promises : Promises
 promises = record {
   yes = compare-yes;

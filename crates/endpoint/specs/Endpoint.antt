@@ -2,16 +2,16 @@
 --
 --   Address                type, host, port, timeout, compress: what an endpoint of TCP (1), SSL (2) and UDP (3) holds
 --   Endpoint               what opening gives: an address, or the type of an endpoint that is not opened
---   opens, timed           the type is one that is opened; it has a timeout
---   addressBytes           an address as it is written; endpointBytes with its type and its encapsulation
---   port, timeout, flag    the readers of its fields; address k: all of them, for type k
---   versioned k            version 1.1, then the address
+--   opens, timed, noPort   the type is one that is opened; it has a timeout; a number is no port
+--   timeoutBytes, addressBytes    an address as it is written; endpointBytes with its type and its encapsulation
+--   portForm, port, timeout, flag    the readers of its fields; address k: all of them, for type k
+--   endpointVersion, versioned k     version 1.1, then the address
 --   encapsulated k         an encapsulation of these, or of anything if the type is not opened
 --   typed                  the type, then the encapsulation, and nothing after it
 --   openEndpoint           3, then these: the reader of one endpoint
 --   hostPlace              where the host begins, its size not counted
 --   openedOf               the answer as the call returns it; openedNumbers: its nine numbers
---   openedWithin           22 where too few bytes are lent for the seven numbers; withOpened: the lent bytes after the call
+--   openedWithin           22 where too few bytes are lent for the seven numbers; sevenBytes, withOpened: the numbers as bytes; the lent bytes after the call
 --   addressOf              the address that the writer's arguments name; argumentForm: 2, 3, 24, 27
 --   endpointWriting        the writer: the endpoint's bytes or a refusal, 22 last
 use mathlib.Core.Bool.{Bool, _||_, not}
@@ -69,7 +69,7 @@ endpointBytes e = leBytes 2 (e .kind) ++ encapsulate (v11 sliced) (addressBytes 
 
 -- ---- opening
 
--- 27
+-- 27 where a number is no port
 unfoldable pub portForm : ℕ → ℕ
 portForm p = pick (noPort p) 27 0
 
@@ -93,7 +93,7 @@ address k = do
   t ← timeout k
   mapc (λ c _. record { kind = k; host = h; port = p; timeout = t; compress = c }) flag
 
--- version 1.1 alone
+-- 6 for every version but 1.1
 unfoldable pub endpointVersion : ℕ → ℕ
 endpointVersion v = pick (eqb v version11) 0 6
 
@@ -109,7 +109,7 @@ encapsulated k = pick (opens k) (mapc (λ e _. opened e) (inside (declared 6 4) 
 unfoldable pub typed : Parser Endpoint
 typed = number 2 >>= encapsulated >>= ended
 
--- 3 first
+-- 3 for too many bytes, then the type and the rest
 unfoldable pub openEndpoint : Parser Endpoint
 openEndpoint b = refusedFirst (firstOf ((3, ltb limit (length b)) ∷ [])) (typed b)
 

@@ -1,7 +1,8 @@
 -- Endpoints byte by byte: two of document 004's layouts opened and written, and each refusal of opening by a call on a few bytes.
 --
 --   tcp, udp                 TCP and UDP to port 4061 of host `hub`, timeout 60,000, compressed
---   opened-right, -refused   their numbers; each refusal with its place, also where what follows is wrong too
+--   opened-right             their numbers
+--   opened-refused           each refusal with its place, also where what follows is wrong too
 --   written-right            the writer makes just these bytes; a timeout given for UDP is not written
 use mathlib.Core.Path.{_≡_, refl}
 use mathlib.Core.List.{List, [], _∷_, _++_, map}

@@ -83,6 +83,7 @@ Port p = (0 < p) × (p < 2 ^ 16)
 abbrev pub Needed : ℕ → List ℕ → ℕ → ℕ → ℕ → List ℕ
 Needed k h p t c = endpointBytes (addressOf k h p t c)
 
+-- when each refusal of the writer comes, each after those before it
 pub record WriteRefusals (k : ℕ) (h : List ℕ) (p t c room : ℕ) : Type 0 where
   pub no-type : (Dials k → ⊥) → endpointWriting k h p t c room ≡ stop 2 0
   pub too-long : Dials k → limit < length h → endpointWriting k h p t c room ≡ stop 3 0
@@ -118,11 +119,11 @@ OpenWithin = (b : List ℕ) (c p : ℕ) → openEndpoint b ≡ bad c p → OpenN
 abbrev pub Framed : ℕ → List ℕ → List ℕ → List ℕ
 Framed k d w = leBytes 2 k ++ (leBytes 4 (4 + length d) ++ d ++ w)
 
--- where the fields begin, and where the port is
+-- where the port is, after the host h
 abbrev pub portPlace : List ℕ → ℕ
 portPlace h = 8 + length (stringBytes h)
 
--- Whatever follows the endpoint, `w`, what it holds is judged before it. Each list of bytes is within the limit.
+-- What an endpoint holds is judged before `w`, the bytes after it. Each list of bytes is within the limit.
 pub record OpenRefusals : Type 0 where
   pub too-long : (b : List ℕ) → limit < length b → openEndpoint b ≡ bad 3 0
   pub no-type : (b : List ℕ) → length b < 2 → openEndpoint b ≡ bad 4 0

@@ -4,6 +4,7 @@ use Rattle.endpoint.specs.EndpointLaws.{endpoint-exact, other-exact, hos
 use Rattle.endpoint.specs.RefusalLaws.{open-within}
 use Rattle.endpoint.specs.OpenRefusals.{open-refused}
 
+-- all promises together
 pub record Promises : Type 0 where
   pub exact : EndpointExact
   pub other : OtherExact
@@ -14,6 +15,7 @@ pub record Promises : Type 0 where
   pub within : OpenWithin
   pub refuses : OpenRefused
 
+-- and their proofs
 pub promises : Promises
 promises = record {
   exact = endpoint-exact;

@@ -94,8 +94,9 @@ ended-done a (suc n) (x ∷ s) h = ended-done a n s (omega arith)
 
 -- ---- the numbers
 
--- each refusal number has a property, as 4 and 11 have, by which readers refuse that are joined of others
+-- each refusal number has the property Q; 4 and 11 must have it, since joined readers refuse by them
 module _ (Q : ℕ → Type 0) where
+  -- the property of a result: none of an answer, Q of a refusal's number
   abbrev pub Told : {A : Type 0} → Res A → Type 0
   Told (ok a n) = Unit {0}
   Told (bad c p) = Q c
@@ -103,7 +104,7 @@ module _ (Q : ℕ → Type 0) where
   abbrev pub Refuses : {A : Type 0} → Parser A → Type 0
   Refuses p = (xs : List ℕ) → Told (p xs)
 
-  -- 0, or such a number
+  -- 0, or a number with the property
   abbrev pub Judged : ℕ → Type 0
   Judged zero = Unit {0}
   Judged (suc n) = Q (suc n)

@@ -22,7 +22,7 @@ pub enum Opened {
     Refused(u32, u32),
 }
 
-// An endpoint of a type that is not opened: its size is judged, and what is after it.
+// An endpoint of a type that is not opened: its size is judged, and 18 for bytes after it.
 fn unopened(s: &[u8], kind: usize) -> Opened
     requires { ⌜ length (now s) ≤ 65536 ⌝ }
     requires { ⌜ kind < 65536 ⌝ }
@@ -68,7 +68,7 @@ fn dialled(s: &[u8], kind: usize) -> Opened
     }
 }
 
-// The type, then what it says.
+// Reads the type, then what the endpoint holds by its type.
 fn typed(s: &[u8]) -> Opened
     requires { ⌜ Bytes (now s) ⌝ }
     requires { ⌜ length (now s) ≤ 65536 ⌝ }

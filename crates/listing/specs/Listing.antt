@@ -5,9 +5,10 @@
 --   Listing .. rest i l      a loop that lists: what is left makes the whole
 --   agreeRows m k            member rows + 1, or 0 for none, agree
 --   memberDifference         the difference of two member rows, if there is one
---   headRow, nextOf f m end  the first row that passes a test, + 1; 0 for none
---   followOf f a end         the next one after such a row
---   leftOf f a end           the rows that pass a test from such a row on
+--   isRequired, isList       a member row is required; a row is a parameter list
+--   headRow, nextOf f m end  the first row that passes test f, + 1; 0 for none
+--   followOf f a end         the first after row a - 1 that passes, + 1; 0 for none, or if a is 0
+--   leftOf f a end           row a - 1 and the later rows that pass; none if a is 0
 --   rowDifferences ps        the differences of pairs of required member rows; tagDifference g of a tag
 --   FewMembers T o           a row + 1 has at most 1,024 members
 use Prim.Native.Nat.{ℕ, zero, suc, _+_, _-_, _*_, _≤_, _<_}
@@ -58,7 +59,7 @@ unfoldable pub leftOf : (ℕ → Bool) → ℕ → ℕ → List ℕ
 leftOf f zero end = []
 leftOf f (suc r) end = r ∷ those f (range (suc r) (end - suc r))
 
--- the next row after such a row
+-- the first row after row r that passes, + 1
 unfoldable pub followOf : (ℕ → Bool) → ℕ → ℕ → ℕ
 followOf f zero end = 0
 followOf f (suc r) end = nextOf f (suc r) end

@@ -3,7 +3,7 @@
 --   listed-..               none, one, some after others
 --   enter-listed            where all fit: their bytes one after another, and the rest as it was
 --   listing-..              a loop that lists
---   left-next, left-none    the rows left, from one on
+--   left-all, left-follow, left-none, left-falls    the rows left, from one on
 --   paired-..               two lists of rows set against each other, one pair after another
 --   required-is             the differences of required members, pair by pair
 --   tags-next               those of optional members, tag by tag

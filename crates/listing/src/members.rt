@@ -82,7 +82,7 @@ fn first_required(table: &[u8], begin: usize, t: usize, end: usize) -> usize
     next_required(table, first, table::field_a(table, begin, t), end)
 }
 
-// The next one after such a row.
+// The first required member row after row a - 1, + 1; 0 if there is none, or a is 0.
 fn following(table: &[u8], first: usize, a: usize, end: usize) -> usize
     requires { ⌜ (first ≡ membersAt (now table)) × (first < 1048576) × (end ≤ 131072) ⌝ }
     ensures { λ r. ⌜ (r ≡ followOf (isRequired (now (table .entry))) a end) × (r ≤ 131072) ⌝ }

@@ -4,7 +4,7 @@
 --   passed-..         the endpoints before the wanted one, then that one
 --   spot-..           by the number of endpoints
 --   at-..             3, the proxy's own refusals, 18
---   near-.., three-put, put-.., located-..   22 last; the three numbers
+--   near-.., three-put, put-.., room-at, roomy-at   22 last; the three numbers
 use mathlib.Core.Path.{_≡_, refl, sym, ap, _∙_, subst}
 use mathlib.Core.Bool.{Bool, true, false}
 use mathlib.Core.List.{List, [], _∷_, _++_}

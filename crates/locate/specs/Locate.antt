@@ -1,12 +1,12 @@
 -- Where an endpoint is in its proxy (encoding 1.1).
 --
 --   Spot             how many endpoints there are; place and length of one
---   generals         a proxy up to its endpoint count, which is read; nil has none
+--   counted, referenced, generals    a proxy up to its endpoint count, which is read; nil has none
 --   started, apart   the count with the bytes before the first endpoint; where endpoint i is among the endpoints
 --   placed, spotAt   where endpoint i is in the proxy, counted from 0
---   locating i       3, the proxy's own refusals, 18 for what is after it; then where endpoint i is
+--   unlessBad, locating i            3, the proxy's own refusals, 18 for what is after it; then where endpoint i is
 --   locatedOf        the answer as the call returns it; locatedNumbers: its five numbers
---   locatedWithin    22 where too few bytes are lent for the three numbers; withLocated: the lent bytes after the call
+--   locatedWithin    22 where too few bytes are lent for the three numbers; threeBytes, withLocated: the numbers as bytes; the lent bytes after the call
 --   RoomyAt          so many lent bytes hold the three numbers of an answer that has some
 use mathlib.Core.Bool.{false}
 use mathlib.Core.List.{List, [], _∷_, _++_}
@@ -31,11 +31,11 @@ pub record Spot : Type 0 where
 unfoldable pub counted : Parser ℕ
 counted = skip 6 >>= λ _. size
 
--- the facets, then those
+-- the facets, then the same
 unfoldable pub referenced : Parser ℕ
 referenced = facets >>= λ _. counted
 
--- nil has none
+-- the identity, then the same; nil has no endpoints
 unfoldable pub generals : Parser ℕ
 generals = named >>= λ n. pick (eqb n 0) (pure 0) referenced
 

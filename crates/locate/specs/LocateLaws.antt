@@ -2,7 +2,7 @@
 --
 --   Counts, proxy-counts    how many endpoints an accepted proxy has, and that they follow
 --   times-part              one reading of many
---   locate-refused, locate-there
+--   locate-refused, locate-there    the promises
 use mathlib.Core.Path.{_≡_, refl, sym, ap, _∙_}
 use mathlib.Core.Bool.{Bool, true, false}
 use mathlib.Core.List.{List}

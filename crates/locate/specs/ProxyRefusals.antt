@@ -2,7 +2,7 @@
 --
 --   held-..          what is read before the endpoints
 --   Few              at most 27
---   refuses-..       of a proxy, of what is read before its endpoints, of its endpoints
+--   few-..           the refusals of a proxy, of what is read before its endpoints, of its endpoints
 use mathlib.Core.Bool.{false, _&&_}
 use Prim.Native.Nat.{ℕ, zero, suc, _≤_}
 use native.Mathlib.Omega.{arith}

@@ -1,4 +1,4 @@
-// Where an endpoint is in its proxy (document 02, M-106): the general parameters and the endpoints before it are passed by. No public call asks anything of its input.
+// Where an endpoint is in its proxy (document 02, M-106): the general parameters and the endpoints before it are passed over. No public call asks anything of its input.
 ghost use mathlib.Core.Path.{_≡_};
 ghost use mathlib.Core.List.{_++_};
 ghost use Prim.Native.Nat.{_≤_, _<_};
@@ -15,7 +15,7 @@ pub enum Located {
     Refused(u32, u32),
 }
 
-// The number of endpoints, after mode, secure, protocol and encoding.
+// The number of endpoints, which follows mode, secure, protocol and encoding.
 fn counted(s: &[u8]) -> Sized
     ensures { λ r. ⌜ r ≡ sizedOf (counted (now (s .entry))) ⌝ }
 {
@@ -29,7 +29,7 @@ fn counted(s: &[u8]) -> Sized
     }
 }
 
-// The same, with the facets before it.
+// The number of endpoints, which follows the facets and those.
 fn referenced(s: &[u8]) -> Sized
     ensures { λ r. ⌜ r ≡ sizedOf (referenced (now (s .entry))) ⌝ }
 {

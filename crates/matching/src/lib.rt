@@ -31,7 +31,7 @@ fn optional(
     listing::members::agree(old, begin, new, start, cells, m + 1, k)
 }
 
-// So does each of the n member rows from row m on.
+// Each of the n member rows from row m on is required, or has a match.
 fn every(
     old: &[u8],
     begin: usize,
@@ -142,7 +142,7 @@ fn bases(old: &[u8], begin: usize, new: &[u8], start: usize, b: usize, c: usize)
     same_record(old, begin, new, start, b - 1, c - 1)
 }
 
-// Record t of the old table and row p - 1 of the new one, which p = 0 says is not there, match.
+// Record t of the old table matches row p - 1 of the new one; p = 0 means that there is none.
 fn matched_by(
     old: &[u8],
     begin: usize,

@@ -38,7 +38,7 @@ fn bars(table: &[u8], begin: usize, n: usize, o: usize) -> bool
     false
 }
 
-// The top or a base of it is such a row.
+// The top or a base of it has optional members.
 fn above(table: &[u8], begin: usize, n: usize, top: usize) -> bool
     requires { ⌜ begin ≡ typesAt (now table) ⌝ }
     requires { ⌜ n ≡ types (now table) ⌝ }
@@ -71,7 +71,7 @@ fn inherits(table: &[u8], begin: usize, top: usize, t: usize) -> bool
     false
 }
 
-// Some row after the top is such a row.
+// Some row after the top descends from it and has optional members.
 fn below(table: &[u8], begin: usize, n: usize, top: usize) -> bool
     requires { ⌜ begin ≡ typesAt (now table) ⌝ }
     requires { ⌜ top < n ⌝ }

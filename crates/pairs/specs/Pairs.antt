@@ -1,11 +1,11 @@
 -- What the code answers of the pairs of an exception in encoding 1.0.
 --
 --   dueOf            the stage of the walk: 0 where no pair was known yet, else the row + 1 whose pair is due
---   meantOf          what a type ID means
+--   meantOf          what a type ID means, as the code answers it
 --   enterAs          what follows an ID, by what it means
---   opening          a pair up to its data: skipped whole, of a known row with the part that its data lie in, or a refusal
+--   openBy, opening  a pair up to its data: skipped whole, of a known row with the part that its data lie in, or a refusal
 --   rowOf            the row of a known pair
---   turnOf           what is answered of one pair, k rows before it; turnRows the rows that it adds
+--   sliceTurn, turnOf    what is answered of one pair, k rows before it; turnRows the rows that it adds
 --   firstBy          the first known type after a pair of row t
 --   onward           the walk over the pairs ahead
 --   owners, firstFrom, rowsFrom   the rows whose pairs are to come, the first known type, and the rows ahead, from a stage on
