@@ -1,28 +1,30 @@
 /* icehub.h: reads and writes messages of Ice encodings 1.1 and 1.0 by a lent type table.
  *
  * One message is one encapsulation that holds a parameter list, an exception, or in 1.1 one class instance that
- * refers to no other. Its version bytes say which encoding it is; encoding 1.0 has no optionals and no classes. The table says which types there are; a row of it, the top, says which is wanted.
+ * refers to no other. Its version bytes say which encoding it is; encoding 1.0 has no optionals and no classes. The
+ * table says which types there are; a row of it, the top, says which is wanted.
  *
  * Any call may be given any bytes: none has to be checked first, and every call returns. A call that refuses
  * returns one number, the first that applies in the order of document 01, and changes no lent byte.
  *
  * What a caller owes:
  *   - Bytes are lent as a pointer and a length in bytes. The pointer is not NULL, also where the length is 0,
- *     and that many bytes from it on may be read; those of `rows` of the reader, `answers`, `numbers`, `out`, and `next` of
- *     the frost guard (at its start, `state`) may be written too. A list of 64-bit numbers is lent as a pointer to them
- *     and their number; `entries` of the planner may be written.
- *   - Lent output (`rows` of the reader, `answers`, `numbers`, `out`, `entries` of the planner, `next`) overlaps nothing
- *     else that is lent to the same call.
- *     Inputs may overlap each other.
+ *     and that many bytes from it on may be read. Lent output may be written too: `rows` of the reader, `answers`,
+ *     `numbers`, `out`, `sheet` of icehub_sheet, `list` of the comparison, `next` of the frost guard and, at its start,
+ *     `state`. A list of 64-bit numbers is lent as a pointer to them and their number; `entries` of the planner is
+ *     output.
+ *   - Lent output overlaps nothing else that is lent to the same call. Inputs may overlap each other.
  *   - Nobody else changes lent bytes, or reads lent output, until the call returns.
  *
  * Nothing is kept between calls: there is no heap and no global state. Calls may run in several threads at once.
  *
- * Stack and time are measured, not proved (x86-64; docs/SPEED.md has all figures). No call took more than 8 KB of stack
- * over all recorded and 20,000 generated calls, and icehub_member 18 KB. Each level of nesting of the table's types takes
- * 0.5 KB more: 126 KB under a table of 256 nested types. icehub_read and icehub_write took about 0.1 us for a message of
- * 22 bytes, under 1 us for 1 KB, and 0.3 s for the slowest message of 65,536 bytes that we know. Each of the calls that
- * return one more number costs as much as a full read or write.
+ * Stack and time are measured, not proved (x86-64; docs/SPEED.md has the figures of each call). icehub_read,
+ * icehub_read_numbers, icehub_member, icehub_convert, icehub_remove, icehub_night and icehub_sheet have up to 15 KB of
+ * stack for lists of rows, the comparison 87 KB for its arrays. Besides these no call took more than 8 KB over all
+ * recorded and 40,000 generated calls. Each level of nesting of the table's types takes 0.5 KB more: 143 KB more under a
+ * table of 256 nested types. icehub_read and icehub_write took about 0.1 us for a message of 22 bytes and under 1 us for
+ * 1 KB, icehub_read 0.2 s for the slowest message of 65,536 bytes that we know. Each of the calls that return one more
+ * number costs as much as a full read or write.
  */
 #ifndef ICEHUB_H
 #define ICEHUB_H
@@ -55,8 +57,8 @@ enum {
     ICEHUB_MOST_BYTES = 65536, /* no message is longer, and no buffer of the writer */
     ICEHUB_BURST_BYTES = 340,  /* no satellite burst is longer */
     ICEHUB_GUARD_SIZE = 32,    /* bytes of the state of a frost guard */
-    ICEHUB_DIFFERENCE_SIZE = 20,  /* the bytes of one difference of two tables */
-    ICEHUB_NEW_TABLE = 1000000 /* added to a place in the new of two tables */
+    ICEHUB_DIFFERENCE_SIZE = 20,  /* bytes of one difference of two tables */
+    ICEHUB_NEW_TABLE = 1000000 /* added to a place in the new one of two tables */
 };
 
 /* A row is three numbers of 32 bits, little-endian: the member row of the table, then the place and the length of
@@ -77,10 +79,9 @@ enum icehub_format {
     ICEHUB_OLD = 2      /* encoding 1.0: a parameter list or an exception, without optionals */
 };
 
-/* What a call may be refused for, and what its place is then (icehub_read_place, icehub_write_place,
- * icehub_convert_place, icehub_set_place, icehub_remove_place, icehub_table_place, icehub_check_plan_place,
- * icehub_plan_place). A place counts bytes from the start of the message; of the table for 31 to 39; or it is the number
- * named. */
+/* What a call may be refused for, and what its place is then. The calls named icehub_.._place return the place; of
+ * icehub_night each answer has it as its second number. A place counts bytes from the start of the message; of the table
+ * for 31 to 39; or it is the number named. */
 enum icehub_refusal {
     /* Not refused. */
     ICEHUB_OK = 0,
@@ -591,6 +592,7 @@ uint32_t icehub_guard_place(const uint8_t *state, size_t state_len, const uint8_
 /* 1 if the timer fires with this report, else 0; 0 where the report is refused. */
 uint32_t icehub_guard_fires(const uint8_t *state, size_t state_len, const uint8_t *message, size_t message_len,
                             size_t next_len);
+
 /* ---- Two tables compared ----
  *
  * Before a new table is shipped: every difference from the old one, and whether an old hub reads everything that a new
@@ -621,8 +623,8 @@ uint32_t icehub_compare_place(const uint8_t *old, size_t old_len, uint32_t old_t
 uint32_t icehub_compare_count(const uint8_t *old, size_t old_len, uint32_t old_top, const uint8_t *new_table,
                               size_t new_len, uint32_t new_top, size_t list_len);
 
-/* 1 if the new table extends the old one and the two tops match, so that a hub with the old table reads every message that
- * icehub_write makes under the new one; else 0, and 0 on a refusal. */
+/* 1 if the new table extends the old one and the two tops match, so that a hub with the old table reads every message of
+ * encoding 1.1 that icehub_write makes under the new one; else 0, and 0 on a refusal. */
 uint32_t icehub_compare_extends(const uint8_t *old, size_t old_len, uint32_t old_top, const uint8_t *new_table,
                                 size_t new_len, uint32_t new_top, size_t list_len);
 
@@ -658,7 +660,8 @@ static inline int16_t icehub_i16(const uint8_t *bytes) { return (int16_t)icehub_
 static inline int32_t icehub_i32(const uint8_t *bytes) { return (int32_t)icehub_signed(bytes, 4); }
 static inline int64_t icehub_i64(const uint8_t *bytes) { return icehub_signed(bytes, 8); }
 
-/* Number i of the numbers of icehub_read_numbers or icehub_member, or of an answer of icehub_night. */
+/* Number i of 32-bit numbers: those of icehub_read_numbers, icehub_member, icehub_endpoint or icehub_proxy_endpoint, of an
+ * answer of icehub_night, or of a difference of icehub_compare. */
 static inline uint32_t icehub_number(const uint8_t *numbers, size_t i)
 {
     return (uint32_t)icehub_unsigned(numbers + 4 * i, 4);
