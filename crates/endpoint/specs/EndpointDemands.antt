@@ -9,7 +9,7 @@
 --   EndpointAgain    what is opened and written again is the same bytes
 --   WriteRefused     when 2, 3, 24, 27 and 22 come, and when it is written
 --   OpenWithin       opening refuses by 3, 4, 6, 7, 8, 11, 18, 24 and 27 alone, and the place is within the bytes
---   OpenRefused      when each comes, and where, by what the bytes begin with
+--   OpenRefused      when each comes, and where, by what the bytes begin with; not of a compress byte that is missing (4) or no bool (8)
 use mathlib.Core.Path.{_≡_}
 use mathlib.Core.List.{List, [], _∷_, _++_}
 use Prim.Native.Nat.{ℕ, _+_, _^_, _≤_, _<_}
