@@ -6,9 +6,9 @@ use crate::{ffi, Refusal};
 /// its value. Gives the length of the result.
 ///
 /// `member` is the member row of an optional of the message's first known type or of a base of it. `bytes` is its value as
-/// [`Row`](crate::Row) has it. All else keeps its bytes and order, also what the table does not know. A reader with a table
-/// that extends this one, which accepted the message, accepts the result, and its list differs in that member only, apart
-/// from places. Setting the bytes that are there gives the same message.
+/// [`Row`](crate::Row) has it. All else keeps its bytes and order, also what the table does not know. Every table that
+/// extends this one and accepted the message accepts the result, and its list differs in that member only, apart from
+/// places. Setting the bytes that are there gives the same message.
 ///
 /// The result is put at the start of `out`; the bytes beyond it stay, and on a refusal all of them. Where `out` is too
 /// short, the place of the refusal is the length needed.

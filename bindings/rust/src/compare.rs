@@ -18,7 +18,7 @@ pub enum What {
     Optional,
 }
 
-/// One difference. Rows are counted from 0; none where that table has no such row.
+/// One difference. Rows are counted from 0; none where a table has none.
 #[derive(Clone, Copy, Debug, PartialEq, Eq, Hash)]
 pub struct Difference {
     /// What differs.
@@ -33,7 +33,8 @@ pub struct Difference {
 #[derive(Clone, Copy, Debug)]
 pub struct Comparison<'a> {
     list: &'a [u8],
-    /// The new table extends the old one and the two tops match: an old hub reads everything that a new sender writes.
+    /// The new table extends the old one and the two tops match: an old hub reads every message of 1.1 that the writer makes
+    /// under the new table.
     pub extends: bool,
 }
 

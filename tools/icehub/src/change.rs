@@ -69,8 +69,8 @@ fn fail(wrong: &str, status: &mut Status) -> io::Result<()> {
     Ok(())
 }
 
-/// The bytes of a value in the member's type. Where the table has no such member, or breaks a rule, none: the library
-/// refuses the call for that.
+/// The bytes of a value in the member's type; no bytes where the table lacks the member or breaks a rule: the library then
+/// refuses the call.
 fn new_bytes(table: &[u8], member: u32, value: &str) -> Result<Vec<u8>, String> {
     let found = Table::new(table).ok().and_then(|table| table.member_row(member));
     match found {

@@ -357,7 +357,7 @@ impl<'a> Walk<'a> {
         Some(at + width)
     }
 
-    /// The place after a string, likewise.
+    /// The place after a string, or none where it holds the place.
     fn string(&mut self, at: usize, item: &'static str) -> Option<usize> {
         match self.size(at) {
             Some((length, width)) => self.item(at, width + length, item),

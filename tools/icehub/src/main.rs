@@ -1,5 +1,5 @@
-//! icehub: shows messages and type tables, converts compact records and changes single members, for the depot and the
-//! office.
+//! icehub: shows messages and type tables, converts compact records, changes single members, sums up a season, replays a
+//! frost guard, compares tables and plans bursts, for the depot and the office.
 //!
 //! What is accepted or refused comes from the library's calls; this program only shows it.
 //!
