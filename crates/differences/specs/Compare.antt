@@ -197,11 +197,12 @@ unfoldable pub newPairs : (old new : List ℕ) → List ℕ → List Pair
 newPairs old new [] = []
 newPairs old new (u ∷ us) = pick (eqb (partner new old u) 0) ((0, suc u) ∷ newPairs old new us) (newPairs old new us)
 
--- the name of a pair
+-- the name of a row + 1; of 0 the other name
 unfoldable pub nameIn : List ℕ → ℕ → List ℕ → List ℕ
 nameIn T zero other = other
 nameIn T (suc t) other = nameOf T t
 
+-- the name of a pair, in the old table if it is there
 unfoldable pub pairName : (old new : List ℕ) → Pair → List ℕ
 pairName old new p = nameIn old (p .0) (nameIn new (p .1) [])
 

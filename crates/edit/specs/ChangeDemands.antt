@@ -59,6 +59,7 @@ pub data SameSlices (nm : List ℕ) (k : ℕ) (new : Option Piece) : List Slice 
   here : {ps ps′ : List Piece} {ss : List Slice} → SamePieces k new ps ps′ → SameSlices nm k new (known nm ps ∷ ss) (known nm ps′ ∷ ss)
   further : {s : Slice} {ss ss′ : List Slice} → SameSlices nm k new ss ss′ → SameSlices nm k new (s ∷ ss) (s ∷ ss′)
 
+-- a message of which one owner's pieces differ; nm is the owner's name
 pub data Same (nm : List ℕ) (k : ℕ) (new : Option Piece) : Pieces → Pieces → Type 0 where
   a-list : {ps ps′ : List Piece} → SamePieces k new ps ps′ → Same nm k new (list ps) (list ps′)
   an-exception : {ss ss′ : List Slice} → SameSlices nm k new ss ss′ → Same nm k new (exception ss) (exception ss′)

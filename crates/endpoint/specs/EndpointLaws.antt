@@ -132,6 +132,7 @@ unfolding flag
 flag-written c w l = must-step byte (c ∷ w) boolForm (byte-written c w) (bool-step c l)
 
 module _ (k : ℕ) where
+  -- the fields after the timeout, after the port, and after the host
   abbrev pub lastly : List ℕ → ℕ → ℕ → Parser Address
   lastly h p t = mapc (λ c _. record { kind = k; host = h; port = p; timeout = t; compress = c }) flag
 

@@ -62,7 +62,7 @@ pub record InWidths (s : Sheet) : Type 0 where
   pub largest : ExtremeFits (s .largest)
   pub sum : s .sum < 2 ^ 64
 
--- a call that is not refused
+-- the answer of a call that is not refused
 abbrev pub answered : Sheet → Summed
 answered s = record { refusal = 0; place = 0; sheet = s }
 
@@ -135,13 +135,15 @@ unfoldable pub howMany : {A : Type 0} → (A → Bool) → List A → ℕ
 howMany f [] = 0
 howMany f (a ∷ l) = pick (f a) 1 0 + howMany f l
 
--- a refused answer; an accepted one with a row of the member, or with none
+-- a refused answer
 unfoldable pub isRefused : Answer → Bool
 isRefused a = not (eqb (a .refusal) 0)
 
+-- an accepted answer with a row of the member
 unfoldable pub isCarrier : ℕ → Answer → Bool
 isCarrier member a = not (isRefused a) && not (eqb (howMany (λ (r : Row). eqb (r .member) member) (a .rows)) 0)
 
+-- an accepted answer without one
 unfoldable pub isLacking : ℕ → Answer → Bool
 isLacking member a = not (isRefused a) && eqb (howMany (λ (r : Row). eqb (r .member) member) (a .rows)) 0
 
