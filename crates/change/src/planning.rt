@@ -271,7 +271,15 @@ pub fn plan(
 {
     let mut shapes = [10u8; 256];
     let mut none = [0u8; 12];
-    let w = reading::walk(table, top as usize, message, false, &mut shapes, &mut none);
+    let w = reading::walk(
+        table,
+        top as usize,
+        message,
+        false,
+        0,
+        &mut shapes,
+        &mut none,
+    );
     match w {
         Walk::Done(first, format, n, optionals, slices, end) => {
             if message.len() < 6 {

@@ -37,7 +37,7 @@ fn convert_by(table: &[u8], top: usize, message: &[u8], list: &mut [u8], out: &m
     ensures { λ _. ⌜ now (out .exit) ≡ output (converting (now (table .entry)) top (now (message .entry)) (length (now (out .entry)))) (now (out .entry)) ⌝ }
 {
     let mut shapes = [10u8; 256];
-    let w = reading::walk(table, top, message, false, &mut shapes, list);
+    let w = reading::walk(table, top, message, false, 0, &mut shapes, list);
     let begin = table::types_at(table);
     let p = planning::plan(table, begin, w, message.len(), out.len());
     match p {
@@ -77,7 +77,15 @@ pub fn converted(table: &[u8], top: u32, message: &[u8], room: usize) -> Writing
 {
     let mut shapes = [10u8; 256];
     let mut none = [0u8; 12];
-    let w = reading::walk(table, top as usize, message, false, &mut shapes, &mut none);
+    let w = reading::walk(
+        table,
+        top as usize,
+        message,
+        false,
+        0,
+        &mut shapes,
+        &mut none,
+    );
     let begin = table::types_at(table);
     let p = planning::plan(table, begin, w, message.len(), room);
     match p {

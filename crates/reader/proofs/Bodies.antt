@@ -1,5 +1,6 @@
 -- A whole message: its encapsulation, the three kinds of top, its end. Assumes nothing.
 --
+--   judged-.., known-..                what is handed in of encoding 1.0, and what it says
 --   capsule-..                         the cases of size and version
 --   marker-.., lead-.., ended-..       those of a class's marker, of the header byte of 1.0, of the end
 --   mark-.., lead-..                   the marker, or no byte, and the header byte lie within the message
@@ -37,7 +38,24 @@ use Rattle.wire.specs.StepLaws.{rest-is, step-took, step-fault, sized-is, sized
 use Rattle.level.specs.Fill.{fill}
 use Rattle.slices.specs.declared.Walk.{Walk}
 use Rattle.slices.specs.declared.Walk.the-variants.{Done, Stop}
+use Rattle.reader.specs.OldUse.{OldUse}
 use Rattle.slices.specs.Walks.{chainRows, sliceWalk, listWalk, oldWalk, pairRows, pairWalk, markerOf, endedWalk, readDone, readWalk, bodyWalk}
+
+-- ---- what is known of encoding 1.0
+
+module _ (T : List ℕ) (top : ℕ) (b : Bool) (eb : b ≡ noOld T top) where
+  pub judged-barred : b ≡ true → OldUse T top 2
+  judged-barred e = record { can = λ q. absurd (omega (arith, q)); cannot = λ q. sym eb ∙ e }
+
+  pub judged-free : b ≡ false → OldUse T top 1
+  judged-free e = record { can = λ q. sym eb ∙ e; cannot = λ q. absurd (omega (arith, q)) }
+
+module _ (T : List ℕ) (top u : ℕ) (U : OldUse T top u) where
+  pub known-free : u ≡ 1 → false ≡ noOld T top
+  known-free e = sym (U .can e)
+
+  pub known-barred : u ≡ 2 → true ≡ noOld T top
+  known-barred e = sym (U .cannot e)
 
 -- ---- size and version
 

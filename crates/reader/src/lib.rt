@@ -8,21 +8,46 @@ ghost use lib.ListN.{length, drop};
 ghost use Rattle.encoding.specs.Result.{ok, must};
 ghost use Rattle.encoding.specs.Number.{byte};
 ghost use Rattle.encoding.specs.Table.{typesAt, kind as kind-of};
-ghost use Rattle.encoding.specs.Old.{leadForm};
+ghost use Rattle.encoding.specs.Old.{noOld, leadForm};
 ghost use Rattle.encoding.specs.Message.{Read, markerForm, outer, contents, oldContents, body, rows};
 ghost use Rattle.wire.specs.Steps.{stepOf, sizedOf};
 ghost use Rattle.shapes.specs.Shapes.{shapesOf};
 ghost use Rattle.level.specs.Fill.{fill};
 ghost use Rattle.slices.specs.Walks.{markerOf, endedWalk, readWalk, bodyWalk};
+ghost use Rattle.reader.specs.OldUse.{OldUse};
 use slices::Walk;
 use wire::Sized;
 use wire::Step;
 
+// What a caller that walks more than once hands in as `old_use`: 1 where encoding 1.0 can be used with table and top, 2 where it cannot (26). So 26 is judged once for all messages.
+pub fn judge_old(table: &[u8], begin: usize, top: usize) -> usize
+    requires { ⌜ begin ≡ typesAt (now table) ⌝ }
+    ensures { λ r. ⌜ OldUse (now (table .entry)) top r ⌝ }
+{
+    if old::no_old(table, begin, top) { 2 } else { 1 }
+}
+
+// Encoding 1.0 cannot be used: as the caller says, or by table and top where it hands in 0, not known.
+fn barred(table: &[u8], begin: usize, top: usize, old_use: usize) -> bool
+    requires { ⌜ begin ≡ typesAt (now table) ⌝ }
+    requires { ⌜ OldUse (now table) top old_use ⌝ }
+    ensures { λ r. ⌜ r ≡ noOld (now (table .entry)) top ⌝ }
+{
+    if old_use == 1 {
+        return false;
+    }
+    if old_use == 2 {
+        return true;
+    }
+    old::no_old(table, begin, top)
+}
+
 // The encapsulation's size and version, 1.0 or 1.1; 26, at the first byte, where 1.0 cannot be used. Gives the version, as a number of two bytes.
 // Here and below, `begin` is where the type rows begin, and `kind` the top's kind.
 // Wrong and ruled out: 1.0 accepted for a class; 26 at the version.
-fn capsule(table: &[u8], begin: usize, top: usize, kind: usize, m: &[u8]) -> Sized
+fn capsule(table: &[u8], begin: usize, top: usize, old_use: usize, kind: usize, m: &[u8]) -> Sized
     requires { ⌜ begin ≡ typesAt (now table) ⌝ }
+    requires { ⌜ OldUse (now table) top old_use ⌝ }
     requires { ⌜ kind ≡ kind-of (now table) top ⌝ }
     ensures { λ r. ⌜ r ≡ sizedOf (outer (now (table .entry)) top (length (now (m .entry))) (now (m .entry))) ⌝ }
 {
@@ -46,7 +71,7 @@ fn capsule(table: &[u8], begin: usize, top: usize, kind: usize, m: &[u8]) -> Siz
     if kind == 14 {
         return Sized::Isnt(6, 4);
     }
-    if old::no_old(table, begin, top) {
+    if barred(table, begin, top, old_use) {
         return Sized::Isnt(26, 0);
     }
     Sized::Is(1, 6)
@@ -166,17 +191,19 @@ pub fn body(
     begin: usize,
     shapes: &[u8; 256],
     top: usize,
+    old_use: usize,
     m: &[u8],
     out: &mut [u8],
 ) -> Walk
     requires { ⌜ begin ≡ typesAt (now table) ⌝ }
     requires { ⌜ now shapes ≡ shapesOf (now table) ⌝ }
+    requires { ⌜ OldUse (now table) top old_use ⌝ }
     ensures { λ r. ⌜ r ≡ bodyWalk (now (table .entry)) top (body (now (table .entry)) top (now (m .entry))) ⌝ }
     ensures { λ _. ⌜ length (now (out .exit)) ≡ length (now (out .entry)) ⌝ }
     ensures { λ _. ⌜ ((r : Read) (n : ℕ) → body (now (table .entry)) top (now (m .entry)) ≡ ok r n → now (out .exit) ≡ fill 0 (rows (now (table .entry)) top (r .format) (r .pieces)) (now (out .entry))) ⌝ }
 {
     let kind = table::kind(table, begin, top);
-    let version = capsule(table, begin, top, kind, m);
+    let version = capsule(table, begin, top, old_use, kind, m);
     match version {
         Sized::Is(v, n) => {
             if v == 1 {

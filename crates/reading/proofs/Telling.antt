@@ -4,6 +4,7 @@
 --   told-done, told-short, told-stop   the answer of a walk, case by case
 --   anew-lent, anew-walked, anew-shapes   what is asked and given of slices taken anew
 --   unasked                            10s are lent where the checks are made; lent-ready: the shapes, where they are not
+--   anew-old, old-unasked              what is known of encoding 1.0 of slices taken anew; nothing is
 --   ready-known, ready-shapes          what is known where they are left out; blank-lent where they are made
 --   stop-found, ready-found            what the checks found; no-shapes, shapes-there the shapes then
 --   stop-walked, body-walked           a check refuses, or the walk over the body says all
@@ -43,6 +44,7 @@ use Rattle.prepare.specs.PreparingLaws.{reading-ready, reading-refused}
 use Rattle.prepare.specs.declared.Prepared.{Prepared}
 use Rattle.prepare.specs.declared.Prepared.the-variants.{Ready, Refused as Stopped}
 use Rattle.shapes.specs.Shapes.{shapesOf}
+use Rattle.reader.specs.OldUse.{OldUse}
 use Rattle.reading.specs.Told.{Lent, Walked, Listed, low, toldOf, rowCount}
 
 -- ---- a walk, case by case
@@ -131,6 +133,13 @@ anew s = take (length s - 0) (drop 0 s)
 
 no-ready : false ≡ true → ⊥
 no-ready e = let z : _≡_ {A = ℕ} 0 1 = cc in omega arith
+
+module _ (T : List ℕ) (top : ℕ) where
+  pub anew-old : (u : ℕ) → OldUse T top u → OldUse (anew T) top u
+  anew-old u U = rw (rest-is T 0) U
+
+  pub old-unasked : OldUse T top 0
+  old-unasked = record { can = λ e. absurd (omega (arith, e)); cannot = λ e. absurd (omega (arith, e)) }
 
 module _ (T : List ℕ) (top : ℕ) (m : List ℕ) where
   pub anew-lent : (b : Bool) (s : List ℕ) → Lent T top (length m) b s → Lent (anew T) top (length (anew m)) b s

@@ -8,6 +8,7 @@ ghost use Rattle.encoding.specs.Message.{reading, listed, readingOf};
 ghost use Rattle.prepare.specs.Preparing.{checks};
 ghost use Rattle.prepare.specs.declared.Prepared.the-variants.{Ready};
 ghost use Rattle.shapes.specs.Shapes.{shapesOf};
+ghost use Rattle.reader.specs.OldUse.{OldUse};
 ghost use Rattle.reading.specs.Told.{Lent, Walked, Listed, low, toldOf, rowCount};
 ghost use Rattle.reading.specs.Numbers.{readingNumbered, shortOf, fiveNumbers, withNumbers};
 use encoding::Reading;
@@ -72,10 +73,12 @@ fn checked(
     top: usize,
     message: &[u8],
     ready: bool,
+    old_use: usize,
     shapes: &mut [u8; 256],
     out: &mut [u8],
 ) -> Walk
     requires { ⌜ Lent (now table) top (length (now message)) ready (now shapes) ⌝ }
+    requires { ⌜ OldUse (now table) top old_use ⌝ }
     ensures { λ r. ⌜ Walked (now (table .entry)) top (now (message .entry)) r (now (out .entry)) (now (out .exit)) ⌝ }
     ensures { λ _. ⌜ (checks (now (table .entry)) top 1 (length (now (message .entry))) ≡ Ready → now (shapes .exit) ≡ shapesOf (now (table .entry))) ⌝ }
 {
@@ -85,27 +88,29 @@ fn checked(
         Prepared::Refused(c, q) => Walk::Stop(c, q),
         Prepared::Ready => {
             let begin = table::types_at(table);
-            reader::body(table, begin, shapes, top, message, out)
+            reader::body(table, begin, shapes, top, old_use, message, out)
         }
     }
 }
 
 // The checks, then the walk over the message. It puts the rows of an accepted message into the list, those that fit. The caller lends an array for the shapes; where the checks refuse nothing it holds them afterwards.
-// `ready` says that it holds them already, and that the checks are known to refuse nothing: both are left out. So whoever walks many messages calls this function too, and the walk itself, called at one place, is inlined here.
+// `ready` says that it holds them already, and that the checks are known to refuse nothing: both are left out. `old_use` says what is known of encoding 1.0, as `judge_old` of `reader` gives it, or 0: 26 is then judged only for a message of 1.0. So whoever walks many messages calls this function too, and the walk itself, called at one place, is inlined here.
 // The slices are passed as new parts: passing them unchanged causes a store-forwarding stall.
 pub fn walk(
     table: &[u8],
     top: usize,
     message: &[u8],
     ready: bool,
+    old_use: usize,
     shapes: &mut [u8; 256],
     out: &mut [u8],
 ) -> Walk
     requires { ⌜ Lent (now table) top (length (now message)) ready (now shapes) ⌝ }
+    requires { ⌜ OldUse (now table) top old_use ⌝ }
     ensures { λ r. ⌜ Walked (now (table .entry)) top (now (message .entry)) r (now (out .entry)) (now (out .exit)) ⌝ }
     ensures { λ _. ⌜ (checks (now (table .entry)) top 1 (length (now (message .entry))) ≡ Ready → now (shapes .exit) ≡ shapesOf (now (table .entry))) ⌝ }
 {
-    checked(&table[0..], top, &message[0..], ready, shapes, out)
+    checked(&table[0..], top, &message[0..], ready, old_use, shapes, out)
 }
 
 // Walks into a list of the call's own and copies the rows, since the lent list must stay on a refusal. At most 5 rows can be copied: so short a list is cleared by four stores.
@@ -115,7 +120,7 @@ fn walk_few(table: &[u8], top: usize, message: &[u8], rows: &mut [u8]) -> Walk
 {
     let mut shapes = [10u8; 256];
     let mut few = [0u8; 60];
-    let w = walk(table, top, message, false, &mut shapes, &mut few);
+    let w = walk(table, top, message, false, 0, &mut shapes, &mut few);
     let count = row_count(w);
     if count <= rows.len() / 12 {
         wire::put_part(rows, 0, &few, 0, 12 * count);
@@ -130,7 +135,7 @@ fn walk_some(table: &[u8], top: usize, message: &[u8], rows: &mut [u8]) -> Walk
 {
     let mut shapes = [10u8; 256];
     let mut some = [0u8; 252];
-    let w = walk(table, top, message, false, &mut shapes, &mut some);
+    let w = walk(table, top, message, false, 0, &mut shapes, &mut some);
     let found = row_count(w);
     if found <= rows.len() / 12 {
         wire::put_part(rows, 0, &some, 0, 12 * found);
@@ -145,7 +150,7 @@ fn walk_more(table: &[u8], top: usize, message: &[u8], rows: &mut [u8]) -> Walk
 {
     let mut shapes = [10u8; 256];
     let mut more = [0u8; 1536];
-    let w = walk(table, top, message, false, &mut shapes, &mut more);
+    let w = walk(table, top, message, false, 0, &mut shapes, &mut more);
     let n = row_count(w);
     if n <= rows.len() / 12 {
         wire::put_part(rows, 0, &more, 0, 12 * n);
@@ -159,7 +164,7 @@ fn walk_all(table: &[u8], top: usize, message: &[u8], rows: &mut [u8]) -> Walk
 {
     let mut shapes = [10u8; 256];
     let mut all = [0u8; 12288];
-    let w = walk(table, top, message, false, &mut shapes, &mut all);
+    let w = walk(table, top, message, false, 0, &mut shapes, &mut all);
     let k = row_count(w);
     if k <= rows.len() / 12 {
         wire::put_part(rows, 0, &all, 0, 12 * k);
@@ -194,7 +199,15 @@ pub fn answer(table: &[u8], top: u32, message: &[u8], room: usize) -> Reading
 {
     let mut shapes = [10u8; 256];
     let mut none = [0u8; 12];
-    let w = walk(table, top as usize, message, false, &mut shapes, &mut none);
+    let w = walk(
+        table,
+        top as usize,
+        message,
+        false,
+        0,
+        &mut shapes,
+        &mut none,
+    );
     told(w, room / 12)
 }
 

@@ -41,7 +41,7 @@ fn look_by(table: &[u8], top: usize, message: &[u8], member: usize, list: &mut [
     ensures { λ r. ⌜ PartInside (length (now (message .entry))) r ⌝ }
 {
     let mut shapes = [10u8; 256];
-    let w = reading::walk(table, top, message, false, &mut shapes, list);
+    let w = reading::walk(table, top, message, false, 0, &mut shapes, list);
     match w {
         Walk::Done(first, format, k, optionals, slices, end) => {
             if table::chain::of_chain(table, first, member) {

@@ -1,6 +1,6 @@
 -- The message is refused, or its sliced form is put: the rows of the walk's list are the message's. Assumes nothing.
 use borrow.Author.Needs.{needs}
-use Rattle.reading.proofs.Telling.{unasked}
+use Rattle.reading.proofs.Telling.{unasked, old-unasked}
 use Rattle.convert.proofs.Answering.{walk-narrow, stopped-answer, stopped-output, fits-answer, output-fits, fits-count, fits-type, fits-start, fits-length}
 use Rattle.convert.proofs.convert_by.Statement.{statement}
 use Rattle.convert.proofs.convert_by.Tie as tie
@@ -9,7 +9,7 @@ pub convert-by-spec : {M : Type 1} → statement M
 convert-by-spec =
     tie.close
     (tie.spec
-    (λ c κs. search unasked)  -- walk-requires
+    (λ c κs. (search unasked, search old-unasked))  -- walk-requires
     (λ c κs. search needs)  -- types-at-requires
     (λ c κs. (search needs, search walk-narrow))  -- plan-requires
     (λ c. search needs)  -- enum-known-p

@@ -1,6 +1,6 @@
 -- What the plan says is the answer. Assumes nothing.
 use borrow.Author.Needs.{needs}
-use Rattle.reading.proofs.Telling.{unasked}
+use Rattle.reading.proofs.Telling.{unasked, old-unasked}
 use Rattle.convert.proofs.Answering.{walk-narrow, stopped-answer, fits-answer}
 use Rattle.convert.proofs.converted.Statement.{statement}
 use Rattle.convert.proofs.converted.Tie as tie
@@ -10,7 +10,7 @@ converted-spec =
     tie.close
     (tie.spec
     (λ c. search needs)  -- slice-aggregate-walk
-    (λ c κs. search unasked)  -- walk-requires
+    (λ c κs. (search unasked, search old-unasked))  -- walk-requires
     (λ c κs. search needs)  -- types-at-requires
     (λ c κs. (search needs, search walk-narrow))  -- plan-requires
     (λ c. search needs)  -- enum-known-p

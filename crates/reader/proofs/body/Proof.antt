@@ -9,7 +9,7 @@ body-spec =
     tie.close
     (tie.spec
     (λ c κs. search needs)  -- kind-requires
-    (λ c κs. search needs)  -- capsule-requires
+    (λ c κs. (search needs, (search needs, search needs)))  -- capsule-requires
     (λ c. search needs)  -- enum-known-version
     (λ c κs. (search needs, (search needs, (search needs, search body-six))))  -- old-contents-requires
     (λ c κs. search needs)  -- ended-requires

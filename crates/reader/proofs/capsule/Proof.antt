@@ -16,6 +16,6 @@ capsule-spec =
     (λ c. search capsule-new)  -- returns-4
     (λ c. search capsule-version)  -- returns-5
     (λ c. search capsule-class)  -- returns-6
-    (λ c κs. search needs)  -- no-old-requires
+    (λ c κs. (search needs, search needs))  -- barred-requires
     (λ c. search capsule-barred)  -- returns-7
     (λ c. search capsule-old))  -- returns-8

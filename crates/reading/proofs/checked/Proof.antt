@@ -13,7 +13,7 @@ checked-spec =
     (λ c. search needs)  -- enum-known-p
     (λ c. search needs)  -- enum-told
     (λ c κs. search needs)  -- types-at-requires
-    (λ c κs. (search needs, search shapes-there))  -- body-requires
+    (λ c κs. (search needs, (search shapes-there, search needs)))  -- body-requires
     (λ c. (search stop-walked, search needs))  -- returns
     (λ c. search needs)  -- same-length
     (λ c. (search body-walked, search needs)))  -- returns-2

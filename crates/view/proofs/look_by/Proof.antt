@@ -1,6 +1,6 @@
 -- The message is refused, the member is of another chain, or its row is among those of the walk's list, which are the message's. Assumes nothing.
 use borrow.Author.Needs.{needs}
-use Rattle.reading.proofs.Telling.{unasked}
+use Rattle.reading.proofs.Telling.{unasked, old-unasked}
 use Rattle.view.proofs.Seeing.{look-few, look-seen, look-inside, look-other, look-refused, nothing-inside, refused-inside}
 use Rattle.view.proofs.look_by.Statement.{statement}
 use Rattle.view.proofs.look_by.Tie as tie
@@ -21,7 +21,7 @@ pub look-by-spec : {M : Type 1} → statement M
 look-by-spec =
     tie.close
     (tie.spec
-    (λ c κs. search unasked)  -- walk-requires
+    (λ c κs. (search unasked, search old-unasked))  -- walk-requires
     (λ c. search needs)  -- enum-known-w
     (λ c κs. search needs)  -- of-chain-requires
     seek-requires

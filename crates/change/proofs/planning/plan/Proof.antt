@@ -1,6 +1,6 @@
 -- The refusal of the walk, or the plan for what it accepts. Assumes nothing.
 use borrow.Author.Needs.{needs}
-use Rattle.reading.proofs.Telling.{unasked}
+use Rattle.reading.proofs.Telling.{unasked, old-unasked}
 use Rattle.change.proofs.Plans.{read-stopped, read-short, read-done, read-shapes, read-few}
 use Rattle.change.proofs.planning.plan.Statement.{statement}
 use Rattle.change.proofs.planning.plan.Tie as tie
@@ -10,7 +10,7 @@ plan-spec =
     tie.close
     (tie.spec
     (λ c. search needs)  -- slice-aggregate-walk
-    (λ c κs. search unasked)  -- walk-requires
+    (λ c κs. (search unasked, search old-unasked))  -- walk-requires
     (λ c. search needs)  -- enum-known-w
     (λ c. search read-short)  -- returns
     (λ c κs. search needs)  -- types-at-requires
