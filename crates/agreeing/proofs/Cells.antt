@@ -1,16 +1,16 @@
--- Cells of two rows, each from the cells of the rows below. Assumes nothing.
+-- A row's cell, by the cells of the rows below. Assumes nothing.
 --
 --   sort-..                       what the sort of an index says of its type
 --   below-..                      an index as a part; member-.. that of a member's type
---   cell-is                       a cell that is there says whether two indexes agree
+--   alike-..                      two cells that are there say whether two indexes agree
 --   Structs, structs-..           the loop over the members of two structs
 --   listed-.., Lists, lists-..    the lists of two enums; enums-.. what two enums allow
 --   rows-..                       two rows of one kind
---   cell-..                       two indexes
---   Row, row-..                   the cells of one index as they fill; all-.. those of all
-use Prim.Native.Nat.{ℕ, zero, suc, _+_, _-_, _*_, _≤_, _<_}
+--   Passed, passed-..             the search for the first index that agrees
+--   own-.., Filled, filled-..     the cells of the old table and of both as they fill; all-.. those of all
+use Prim.Native.Nat.{ℕ, zero, suc, _+_, _-_, _≤_, _<_}
 use mathlib.Core.Path.{_≡_, refl, sym, ap, ap₂, _∙_}
-use mathlib.Core.Bool.{Bool, true, false, _&&_, not}
+use mathlib.Core.Bool.{Bool, true, false, _&&_, not, true≢false}
 use mathlib.Core.Logic.{⊎-elim}
 use mathlib.Core.List.{List, [], _∷_, map}
 use native.Mathlib.Nat.{eq-or-lt-of-le}
@@ -27,7 +27,7 @@ use Rattle.encoding.specs.Table.{withLists, kind, field, greatest, members, mem
 use Rattle.encoding.specs.TableLaws.{rows-below, ty-past, below-ty, below-none, member-in, member-past, members-more, members-none, row-bool, row-byte, row-short, row-int, row-long, row-float, row-double, row-string, row-enum, row-struct, row-seq, row-dict, row-proxy, row-other}
 use Rattle.differences.specs.Compare.{sameAllowed, shape, enumsOf, membersOf, elementOf, valueOf, sameTy, sameTys}
 use Rattle.differences.specs.CompareLaws.{ty-ok, ty-equal, tys-ok}
-use Rattle.agreeing.specs.Agreeing.{indexed, sortAt, below, isListed, cellOf, Agreed}
+use Rattle.agreeing.specs.Agreeing.{indexed, sortAt, below, isListed, IsFirst, Firsts, Alike, Agreed}
 use Rattle.table.specs.declared.TypeRow.{TypeRow}
 use Rattle.table.specs.Rows.{IsTypeRow, greatestOf}
 use Rattle.table.proofs.ByKind.{by-kind}
@@ -120,21 +120,24 @@ module _ (T : List ℕ) (x k : ℕ) (e : k ≡ sortAt T x) (h : k ≡ 13 → ⊥
       go zero q = absurd (h q)
       go (suc y) q = omega arith
 
-  row-both : (x - 1 < typeRows T) × (k ≡ kind T (x - 1))
-  row-both =
-      go (ltb (x - 1) (typeRows T)) refl (leb (kind T (x - 1)) 12)
+  row-all : (x - 1 < typeRows T) × (k ≡ kind T (x - 1)) × (k ≤ 12)
+  row-all =
+      go (ltb (x - 1) (typeRows T)) refl (leb (kind T (x - 1)) 12) refl
       (e ∙ sort-step T x (λ z. omega (arith, row-there)))
     where
-      go : (a : Bool) → ltb (x - 1) (typeRows T) ≡ a → (b : Bool) → k ≡ pick (a && b) (kind T (x - 1)) 13 → (x - 1 < typeRows T) × (k ≡ kind T (x - 1))
-      go true f true q = (ltb-true _ _ f, q)
-      go true f false q = absurd (h q)
-      go false f b q = absurd (h q)
+      go : (a : Bool) → ltb (x - 1) (typeRows T) ≡ a → (b : Bool) → leb (kind T (x - 1)) 12 ≡ b → k ≡ pick (a && b) (kind T (x - 1)) 13 → (x - 1 < typeRows T) × (k ≡ kind T (x - 1)) × (k ≤ 12)
+      go true f true g q = (ltb-true _ _ f, q, omega (arith, leb-true (kind T (x - 1)) 12 g))
+      go true f false g q = absurd (h q)
+      go false f b g q = absurd (h q)
 
   pub row-within : x - 1 < typeRows T
-  row-within = row-both .0
+  row-within = row-all .0
 
   pub row-kind : k ≡ kind T (x - 1)
-  row-kind = row-both .1
+  row-kind = row-all .1
+
+  pub row-few : k ≤ 12
+  row-few = row-all .2
 
 -- ---- indexes
 
@@ -169,21 +172,20 @@ module _ (T : List ℕ) (t m : ℕ) where
   member-is n i r en l ei er h =
       ap (indexed T) er ∙ indexed-below T t i h ∙ ap (λ (j : ℕ). getD (tys T t) j broken) ei ∙ sym (member-in T m (tys T t) (rw en at l))
 
--- ---- a cell
+-- ---- two cells
 
-one-or-none : (b : Bool) → eqb (pick b 1 0) 1 ≡ b
-one-or-none true = refl
-one-or-none false = refl
+module _ (S T cells : List ℕ) (base x y : ℕ) (A : Alike S T cells base x y) where
+  pub alike-is : (i j : ℕ) → i < x → j < y → (b : Bool) → b ≡ eqb (getD cells i 0) (getD cells (base + j) 0) → b ≡ sameTy (indexed S i) (indexed T j)
+  alike-is i j li lj b e = e ∙ A .same i j li lj
 
-module _ (S T cells : List ℕ) (z : ℕ) (A : Agreed S T cells z) (x y : ℕ) (lx : x < z) (ly : y ≤ typeRows T) where
-  pub cell-is : (b : Bool) → b ≡ eqb (getD cells (257 * x + y) 0) 1 → b ≡ sameTy (indexed S x) (indexed T y)
-  cell-is b e = e ∙ ap (λ (n : ℕ). eqb n 1) (A .done x y lx ly) ∙ one-or-none (sameTy (indexed S x) (indexed T y))
+  pub alike-below : (v : ℕ) → 0 < v → v < x → 0 < y → Alike S T cells base (v - 1 + 1) (y - 1 + 1)
+  alike-below v lv lx ly = record { same = λ i j li lj. A .same i j (omega arith) (omega arith) }
 
-module _ (S T cells : List ℕ) (t u : ℕ) (ht : t < typeRows S) (hu : u < typeRows T) (A : Agreed S T cells (t + 1)) where
-  pub part-is : (i a d x y : ℕ) → a ≡ field S t i → d ≡ field T u i → x ≡ below t a → x ≤ t → y ≡ below u d → y ≤ u → (b : Bool) → b ≡ eqb (getD cells (257 * x + y) 0) 1
+module _ (S T cells : List ℕ) (base t u : ℕ) (ht : t < typeRows S) (hu : u < typeRows T) (A : Alike S T cells base (t + 1) (u + 1)) where
+  pub part-is : (i a d x y : ℕ) → a ≡ field S t i → d ≡ field T u i → x ≡ below t a → x ≤ t → y ≡ below u d → y ≤ u → (b : Bool) → b ≡ eqb (getD cells x 0) (getD cells (base + y) 0)
       → b ≡ sameTy (partTy S t (field S t i)) (partTy T u (field T u i))
   part-is i a d x y ea ed ex lx ey ly b e =
-      cell-is S T cells (t + 1) A x y (omega arith) (omega arith) b e
+      alike-is S T cells base (t + 1) (u + 1) A x y (omega arith) (omega arith) b e
       ∙ ap₂ sameTy (ap (indexed S) (rw ea at ex) ∙ indexed-below S t _ (omega arith)) (ap (indexed T) (rw ed at ey) ∙ indexed-below T u _ (omega arith))
 
 -- an index of a part or of a row lies inside the array
@@ -195,10 +197,10 @@ row-inside T x l = omega (arith, rows-below T)
 
 -- ---- structs
 
-module _ (S T cells : List ℕ) (t u : ℕ) (ht : t < typeRows S) (hu : u < typeRows T) (A : Agreed S T cells (t + 1)) where
-  pub types-are : (m k x y : ℕ) → indexed S x ≡ memberTy S (tys S t) m → x ≤ t → indexed T y ≡ memberTy T (tys T u) k → y ≤ u → (b : Bool) → b ≡ eqb (getD cells (257 * x + y) 0) 1
+module _ (S T cells : List ℕ) (base t u : ℕ) (ht : t < typeRows S) (hu : u < typeRows T) (A : Alike S T cells base (t + 1) (u + 1)) where
+  pub types-are : (m k x y : ℕ) → indexed S x ≡ memberTy S (tys S t) m → x ≤ t → indexed T y ≡ memberTy T (tys T u) k → y ≤ u → (b : Bool) → b ≡ eqb (getD cells x 0) (getD cells (base + y) 0)
       → b ≡ sameTy (memberTy S (tys S t) m) (memberTy T (tys T u) k)
-  types-are m k x y ex lx ey ly b e = cell-is S T cells (t + 1) A x y (omega arith) (omega arith) b e ∙ ap₂ sameTy ex ey
+  types-are m k x y ex lx ey ly b e = alike-is S T cells base (t + 1) (u + 1) A x y (omega arith) (omega arith) b e ∙ ap₂ sameTy ex ey
 
 pub record Structs (S T : List ℕ) (t u m k n i : ℕ) : Type 0 where
   pub within : i ≤ n
@@ -351,9 +353,27 @@ module _ (S T : List ℕ) (t u : ℕ) where
   unfolding entriesOf
   lists-are a b ea eb e i j ei ej r er = er ∙ rw (ei, ej) (ap₂ (λ (v w : ℕ). sameBytes (map (listEntry S) (range (field S t 2) v)) (map (listEntry T) (range (field T u 2) w))) ea (e ∙ eb))
 
--- ---- two rows of one kind
+-- ---- two rows
 
-module _ (S T : List ℕ) (t u : ℕ) (ht : t < typeRows S) (hu : u < typeRows T) (k : ℕ) (es : k ≡ kind S t) (et : k ≡ kind T u) where
+module _ (S T : List ℕ) (t u : ℕ) (ht : t < typeRows S) (hu : u < typeRows T) (j k : ℕ) (ej : j ≡ kind S t) (et : k ≡ kind T u) where
+  pub rows-differ : k ≤ 12 → (j ≡ k → ⊥) → false ≡ sameTy (tyOf S t) (tyOf T u)
+  rows-differ l h = go (sameTy (tyOf S t) (tyOf T u)) refl
+    where
+      sorts : tyOf S t ≡ tyOf T u → pick (leb j 12) j 13 ≡ k
+      sorts e = rw (ej) (sym (sort-row S t ht) ∙ ap sortOf e ∙ sort-row T u hu ∙ rw (← et, le-leb k 12 l))
+
+      by : (b : Bool) → leb j 12 ≡ b → pick b j 13 ≡ k → ⊥
+      by true q e = h e
+      by false q e = omega arith
+
+      go : (c : Bool) → sameTy (tyOf S t) (tyOf T u) ≡ c → false ≡ c
+      go true e = absurd (by (leb j 12) refl (sorts (ty-ok (tyOf S t) (tyOf T u) e)))
+      go false e = refl
+
+module _ (S T : List ℕ) (t u : ℕ) (ht : t < typeRows S) (hu : u < typeRows T) (j k : ℕ) (ej : j ≡ kind S t) (et : k ≡ kind T u) (ek : j ≡ k) where
+  es : k ≡ kind S t
+  es = sym ek ∙ ej
+
   pub rows-enum : k ≡ 8 → (r : Bool) → r ≡ sameAllowed (allowed S t) (allowed T u) → r ≡ sameTy (tyOf S t) (tyOf T u)
   unfolding sameTy shape enumsOf
   rows-enum q r e = e ∙ sym (rw (row-enum S t ht (sym es ∙ q), row-enum T u hu (sym et ∙ q)))
@@ -387,86 +407,141 @@ module _ (S T : List ℕ) (t u : ℕ) (ht : t < typeRows S) (hu : u < typeRows T
       (λ n l e. rw (row-other S t ht (rw (sym es ∙ e) l), row-other T u hu (rw (sym et ∙ e) l)))
       k refl))
 
--- ---- two indexes
+-- ---- the first index that agrees
 
-module _ (S T : List ℕ) (x y a b : ℕ) (ea : a ≡ sortAt S x) (eb : b ≡ sortAt T y) where
-  pub cell-differ : (a ≡ b → ⊥) → false ≡ sameTy (indexed S x) (indexed T y)
-  cell-differ h = go (sameTy (indexed S x) (indexed T y)) refl
-    where
-      go : (c : Bool) → sameTy (indexed S x) (indexed T y) ≡ c → false ≡ c
-      go true e = absurd (h (ea ∙ sym (sort-is S x) ∙ ap sortOf (ty-ok (indexed S x) (indexed T y) e) ∙ sort-is T y ∙ sym eb))
-      go false e = refl
-
-  pub cell-broken : a ≡ b → a ≡ 13 → true ≡ sameTy (indexed S x) (indexed T y)
-  cell-broken e q =
-      sym (ty-equal (indexed S x) (indexed T y)
-      (sort-broken (indexed S x) (sort-is S x ∙ sym ea ∙ q) ∙ sym (sort-broken (indexed T y) (sort-is T y ∙ sym eb ∙ sym e ∙ q))))
-
-pub indexed-row : (T : List ℕ) (x : ℕ) → 0 < x → indexed T x ≡ tyOf T (x - 1)
+indexed-row : (T : List ℕ) (x : ℕ) → 0 < x → indexed T x ≡ tyOf T (x - 1)
 unfolding indexed
 indexed-row T x h = let e : x ≡ suc (x - 1) = omega arith in ap (indexed T) e
 
-module _ (S T : List ℕ) (x y a b : ℕ) (ea : a ≡ sortAt S x) (eb : b ≡ sortAt T y) (e : a ≡ b) (q : a ≡ 13 → ⊥) where
-  pub cell-rows : (r : Bool) → r ≡ sameTy (tyOf S (x - 1)) (tyOf T (y - 1)) → r ≡ sameTy (indexed S x) (indexed T y)
-  cell-rows r er = er ∙ sym (ap₂ sameTy (indexed-row S x (row-there S x a ea q)) (indexed-row T y (row-there T y b eb (λ z. q (e ∙ z)))))
+-- no index below x agrees with index y
+pub record Passed (S T : List ℕ) (y x : ℕ) : Type 0 where
+  pub others : (i : ℕ) → i < x → sameTy (indexed S i) (indexed T y) ≡ false
 
-  pub other-there : 0 < y
-  other-there = row-there T y b eb (λ z. q (e ∙ z))
+module _ (S T : List ℕ) (n y k : ℕ) (ek : k ≡ sortAt T y) where
+  pub first-broken : k ≡ 13 → IsFirst S n (indexed T y) 0
+  unfolding indexed
+  first-broken q = record {
+    within = omega arith;
+    others = λ i l. absurd (omega arith);
+    found = λ l. ty-equal broken (indexed T y) (sym (sort-broken (indexed T y) (sort-is T y ∙ sym ek ∙ q)));
+  }
 
-  pub other-within : y - 1 < typeRows T
-  other-within = row-within T y b eb (λ z. q (e ∙ z))
+  module _ (q : k ≡ 13 → ⊥) where
+    pub passed-begin : Passed S T y 1
+    unfolding indexed sortOf
+    passed-begin = record { others = λ i l. let e : i ≡ 0 = omega arith in rw e (go (sameTy broken (indexed T y)) refl) }
+      where
+        go : (c : Bool) → sameTy broken (indexed T y) ≡ c → c ≡ false
+        go true e = absurd (q (ek ∙ sym (sort-is T y) ∙ sym (ap sortOf (ty-ok broken (indexed T y) e))))
+        go false e = refl
 
-  pub other-kind : a ≡ kind T (y - 1)
-  other-kind = e ∙ row-kind T y b eb (λ z. q (e ∙ z))
+    module _ (x : ℕ) (P : Passed S T y x) (l : x < n) (lx : 0 < x) (b : Bool) (e : b ≡ sameTy (tyOf S (x - 1)) (tyOf T (y - 1))) where
+      here : b ≡ sameTy (indexed S x) (indexed T y)
+      here = e ∙ sym (ap₂ sameTy (indexed-row S x lx) (indexed-row T y (row-there T y k ek q)))
 
-  pub below-there : (cells : List ℕ) → Agreed S T cells x → Agreed S T cells (x - 1 + 1)
-  below-there cells A = let z : x - 1 + 1 ≡ x = omega (arith, row-there S x a ea q) in rw z A
+      pub passed-found : b ≡ true → IsFirst S n (indexed T y) x
+      passed-found h = record { within = omega arith; others = P .others; found = λ z. sym here ∙ h }
+
+      pub passed-next : b ≡ false → Passed S T y (x + 1)
+      passed-next h = record {
+        others = λ i li. ⊎-elim (λ z. rw z (sym here ∙ h)) (λ z. P .others i z) (eq-or-lt-of-le {n = i} {m = x} (omega arith));
+      }
+
+    pub parts-alike : (cells : List ℕ) (base x : ℕ) → Alike S T cells base n y → 0 < x → x < n → Alike S T cells base (x - 1 + 1) (y - 1 + 1)
+    parts-alike cells base x A lx l = alike-below S T cells base n y A x lx l (row-there T y k ek q)
+
+module _ (S T : List ℕ) (y x n : ℕ) (P : Passed S T y x) where
+  pub passed-end : n ≤ x → IsFirst S n (indexed T y) n
+  passed-end h = record { within = omega arith; others = λ i l. P .others i (omega arith); found = λ l. absurd (omega arith) }
 
 -- ---- the array
 
-pub record Row (S T cells : List ℕ) (x y : ℕ) : Type 0 where
-  pub few : x ≤ typeRows S
-  pub narrow : x ≤ 256
-  pub past : Agreed S T cells x
-  pub here : (j : ℕ) → j < y → j ≤ typeRows T → getD cells (257 * x + j) 0 ≡ cellOf S T x j
+-- an index's own cell, among more indexes
+own-more : (S : List ℕ) (i n c : ℕ) → i < n → IsFirst S i (indexed S i) c → IsFirst S n (indexed S i) c
+own-more S i n c l F = record {
+  within = omega (arith, F .within);
+  others = F .others;
+  found = λ _. ⊎-elim (λ z. rw z (ty-equal (indexed S i) (indexed S i) refl)) (F .found) (eq-or-lt-of-le {n = c} {m = i} (F .within));
+}
 
-module _ (S T cells : List ℕ) (x : ℕ) where
-  pub row-begin : x ≤ typeRows S → Agreed S T cells x → Row S T cells x 0
-  row-begin h A = record { few = h; narrow = omega (arith, rows-below S); past = A; here = λ j l. absurd (omega arith) }
+-- the first index of one type is one, that of two types is not
+module _ (S : List ℕ) (n i c d : ℕ) (l : i < n) (C : IsFirst S i (indexed S i) c) (t : Ty) (D : IsFirst S n t d) where
+  own : sameTy (indexed S c) (indexed S i) ≡ true
+  own = own-more S i n c l C .found (omega (arith, C .within))
 
-  module _ (y : ℕ) (R : Row S T cells x y) where
-    pub row-past : Agreed S T cells x
-    row-past = R .past
+  firsts-equal : indexed S i ≡ t → c ≡ d
+  firsts-equal e = go (ltb c d) refl (ltb d c) refl
+    where
+      go : (a : Bool) → ltb c d ≡ a → (b : Bool) → ltb d c ≡ b → c ≡ d
+      go true q b r = absurd (true≢false (sym own ∙ ap (sameTy (indexed S c)) e ∙ D .others c (ltb-true c d q)))
+      go false q true r = absurd (true≢false (sym (D .found (omega (arith, C .within, ltb-true d c r))) ∙ sym (ap (sameTy (indexed S d)) e) ∙ C .others d (ltb-true d c r)))
+      go false q false r = omega (arith, ltb-false c d q, ltb-false d c r)
 
-    pub row-next : (n : ℕ) → n ≡ typeRows T → y ≤ n → (b : Bool) → b ≡ sameTy (indexed S x) (indexed T y) → (v : ℕ) → v ≡ pick b 1 0
-        → Row S T (set cells (257 * x + y) v) x (y + 1)
-    row-next n en h b eb v ev = record {
-      few = R .few;
-      narrow = R .narrow;
-      past = record { size = length-set cells (257 * x + y) v ∙ R .past .size; done = λ i j li lj. getD-set-other cells (257 * x + y) (257 * i + j) v 0 (λ z. omega (arith, rows-below T)) ∙ R .past .done i j li lj };
-      here = λ j l lj. ⊎-elim
-          (λ q. rw q (getD-set-same cells (257 * x + y) v 0 (omega (arith, rows-below S, rows-below T, R .past .size, R .few)) ∙ ev ∙ ap (λ (c : Bool). pick c 1 0) eb))
-          (λ q. getD-set-other cells (257 * x + y) (257 * x + j) v 0 (λ z. omega arith) ∙ R .here j q lj)
-          (eq-or-lt-of-le {n = j} {m = y} (omega arith));
-    }
+  firsts-unlike : sameTy (indexed S i) t ≡ false → c ≡ d → ⊥
+  firsts-unlike h e =
+      true≢false
+      (sym (ty-equal (indexed S i) t (sym (ty-ok (indexed S c) (indexed S i) own) ∙ ap (indexed S) e ∙ ty-ok (indexed S d) t (D .found (omega (arith, C .within)))))
+      ∙ h)
 
-    pub row-end : (n : ℕ) → n ≡ typeRows T → n < y → Agreed S T cells (x + 1)
-    row-end n en h = record {
-      size = R .past .size;
-      done = λ i j li lj. ⊎-elim
-          (λ q. rw q (R .here j (omega arith) lj))
-          (λ q. R .past .done i j q lj)
+  firsts-are : eqb c d ≡ sameTy (indexed S i) t
+  firsts-are = go (sameTy (indexed S i) t) refl
+    where
+      go : (b : Bool) → sameTy (indexed S i) t ≡ b → eqb c d ≡ b
+      go true e = eq-eqb c d (firsts-equal (ty-ok (indexed S i) t e))
+      go false e = ne-eqb c d (firsts-unlike e)
+
+module _ (S cells : List ℕ) where
+  pub own-begin : length cells ≡ 514 → Firsts S cells 0
+  own-begin e = record { size = e; each = λ i l. absurd (omega arith) }
+
+  module _ (x : ℕ) (F : Firsts S cells x) where
+    pub own-alike : Alike S S cells 0 x x
+    own-alike = record { same = λ i j li lj. let e : 0 + j ≡ j = omega arith in rw e (firsts-are S x i _ _ li (F .each i li) (indexed S j) (own-more S j x _ lj (F .each j lj))) }
+
+    pub own-next : (n : ℕ) → n ≡ typeRows S → x ≤ n → (v : ℕ) → IsFirst S x (indexed S x) v → Firsts S (set cells x v) (x + 1)
+    own-next n en h v I = record {
+      size = length-set cells x v ∙ F .size;
+      each = λ i l. ⊎-elim
+          (λ z. rw (z, getD-set-same cells x v 0 (omega (arith, rows-below S, F .size))) I)
+          (λ z. rw (getD-set-other cells x i v 0 (λ q. omega arith)) (F .each i z))
           (eq-or-lt-of-le {n = i} {m = x} (omega arith));
     }
 
+    pub own-end : (n : ℕ) → n ≡ typeRows S → x ≤ n + 1 → n < x → Firsts S cells (typeRows S + 1)
+    own-end n en l h = let e : x ≡ typeRows S + 1 = omega arith in rw (← e) F
+
+-- the cells of the old table, and those of the new one below index y
+pub record Filled (S T cells : List ℕ) (y : ℕ) : Type 0 where
+  pub old : Firsts S cells (typeRows S + 1)
+  pub new : (j : ℕ) → j < y → IsFirst S (typeRows S + 1) (indexed T j) (getD cells (257 + j) 0)
+
 module _ (S T cells : List ℕ) where
-  pub all-begin : length cells ≡ 66049 → Agreed S T cells 0
-  all-begin e = record { size = e; done = λ i j l. absurd (omega arith) }
+  pub filled-begin : Firsts S cells (typeRows S + 1) → Filled S T cells 0
+  filled-begin F = record { old = F; new = λ j l. absurd (omega arith) }
 
-  pub all-end : (n x : ℕ) → n ≡ typeRows S → x ≤ n + 1 → n < x → Agreed S T cells x → Agreed S T cells (typeRows S + 1)
-  all-end n x en l h A = let e : x ≡ typeRows S + 1 = omega arith in rw (← e) A
+  module _ (y : ℕ) (F : Filled S T cells y) where
+    filled-same : Alike S T cells 257 (typeRows S + 1) y
+    filled-same = record { same = λ i j li lj. firsts-are S (typeRows S + 1) i _ _ li (F .old .each i li) (indexed T j) (F .new j lj) }
 
-  module _ (A : Agreed S T cells (typeRows S + 1)) (m n i j : ℕ) (ei : tyOf S i ≡ memberTy S (trees S) m) (ej : tyOf T j ≡ memberTy T (trees T) n) where
-    pub all-members : (x y : ℕ) → indexed S x ≡ tyOf S i → x ≤ typeRows S → indexed T y ≡ tyOf T j → y ≤ typeRows T → (c : Bool) → c ≡ eqb (getD cells (257 * x + y) 0) 1
-        → c ≡ sameTy (memberTy S (trees S) m) (memberTy T (trees T) n)
-    all-members x y ex lx ey ly c e = cell-is S T cells (typeRows S + 1) A x y (omega arith) ly c e ∙ ap₂ sameTy (ex ∙ ei) (ey ∙ ej)
+    pub filled-alike : (n : ℕ) → n ≡ typeRows S → Alike S T cells 257 (n + 1) y
+    filled-alike n en = rw en filled-same
+
+    pub filled-next : (n : ℕ) → n ≡ typeRows S → (m : ℕ) → m ≡ typeRows T → y ≤ m → (v : ℕ) → IsFirst S (n + 1) (indexed T y) v → Filled S T (set cells (257 + y) v) (y + 1)
+    filled-next n en m em h v I = record {
+      old = record {
+        size = length-set cells (257 + y) v ∙ F .old .size;
+        each = λ i l. rw (getD-set-other cells (257 + y) i v 0 (λ q. omega (arith, rows-below S))) (F .old .each i l);
+      };
+      new = λ j l. ⊎-elim
+          (λ z. rw (z, getD-set-same cells (257 + y) v 0 (omega (arith, rows-below T, F .old .size))) (rw en at I))
+          (λ z. rw (getD-set-other cells (257 + y) (257 + j) v 0 (λ q. omega arith)) (F .new j z))
+          (eq-or-lt-of-le {n = j} {m = y} (omega arith));
+    }
+
+    pub filled-end : (m : ℕ) → m ≡ typeRows T → y ≤ m + 1 → m < y → Agreed S T cells
+    filled-end m em l h = let e : y ≡ typeRows T + 1 = omega arith in rw (← e) filled-same
+
+module _ (S T cells : List ℕ) (A : Agreed S T cells) (m n i j : ℕ) (ei : tyOf S i ≡ memberTy S (trees S) m) (ej : tyOf T j ≡ memberTy T (trees T) n) where
+  pub all-members : (x y : ℕ) → indexed S x ≡ tyOf S i → x ≤ typeRows S → indexed T y ≡ tyOf T j → y ≤ typeRows T → (c : Bool) → c ≡ eqb (getD cells x 0) (getD cells (257 + y) 0)
+      → c ≡ sameTy (memberTy S (trees S) m) (memberTy T (trees T) n)
+  all-members x y ex lx ey ly c e = alike-is S T cells 257 (typeRows S + 1) (typeRows T + 1) A x y (omega arith) (omega arith) c e ∙ ap₂ sameTy (ex ∙ ei) (ey ∙ ej)

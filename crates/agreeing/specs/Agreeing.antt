@@ -4,11 +4,13 @@
 --   sortAt T x         what sort of type it is: its row's kind, 13 if it is broken
 --   below t i          the index of row i as a part of row t
 --   isListed T t       enum row t has a list that leaves out a number up to its greatest
---   cellOf S T x y     the cell of two indexes: 1 if they agree
---   Agreed S T cells x the array has the cells of the indexes below x of the first table and of all of the second
-use Prim.Native.Nat.{ℕ, zero, suc, _+_, _*_, _≤_, _<_}
+--   IsFirst S n t c    c is the first of the n first indexes of table S whose type is t, or n if there is none
+--   Firsts S cells x   the array has the cells of the indexes of S below x: each is the first index whose type is the same
+--   Alike S T cells base x y   the cells of the indexes of S below x and of those of T below y, which begin at place `base`: two are equal exactly if the types agree
+--   Agreed S T cells   so are those of all rows of both tables
+use Prim.Native.Nat.{ℕ, zero, suc, _+_, _≤_, _<_}
 use mathlib.Core.Path.{_≡_}
-use mathlib.Core.Bool.{Bool, _&&_, not}
+use mathlib.Core.Bool.{Bool, true, false, _&&_, not}
 use mathlib.Core.List.{List}
 use lib.ListN.{length, getD}
 use lib.Dec.{eqb, leb, ltb}
@@ -31,9 +33,17 @@ below t i = pick (leb t i) 0 (suc i)
 unfoldable pub isListed : List ℕ → ℕ → Bool
 isListed T t = withLists T && not (eqb (field T t 3) (suc (greatest T t)))
 
-abbrev pub cellOf : (S T : List ℕ) → (x y : ℕ) → ℕ
-cellOf S T x y = pick (sameTy (indexed S x) (indexed T y)) 1 0
+pub record IsFirst (S : List ℕ) (n : ℕ) (t : Ty) (c : ℕ) : Type 0 where
+  pub within : c ≤ n
+  pub others : (i : ℕ) → i < c → sameTy (indexed S i) t ≡ false
+  pub found : c < n → sameTy (indexed S c) t ≡ true
 
-pub record Agreed (S T cells : List ℕ) (x : ℕ) : Type 0 where
-  pub size : length cells ≡ 66049
-  pub done : (i j : ℕ) → i < x → j ≤ typeRows T → getD cells (257 * i + j) 0 ≡ cellOf S T i j
+pub record Firsts (S cells : List ℕ) (x : ℕ) : Type 0 where
+  pub size : length cells ≡ 514
+  pub each : (i : ℕ) → i < x → IsFirst S i (indexed S i) (getD cells i 0)
+
+pub record Alike (S T cells : List ℕ) (base x y : ℕ) : Type 0 where
+  pub same : (i j : ℕ) → i < x → j < y → eqb (getD cells i 0) (getD cells (base + j) 0) ≡ sameTy (indexed S i) (indexed T j)
+
+abbrev pub Agreed : (S T cells : List ℕ) → Type 0
+Agreed S T cells = Alike S T cells 257 (typeRows S + 1) (typeRows T + 1)

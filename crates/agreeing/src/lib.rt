@@ -1,14 +1,15 @@
-// Which rows of two tables agree in type: a lent array with a cell for each two rows, filled row by row from the cells of the rows below, so that no type tree is walked.
+// Which rows of two tables agree in type: a lent array with a cell for each row of both, which is the first row of the old table that agrees with it. So two rows agree exactly if their cells are equal.
+// A cell is set from the cells of the rows below, and no type tree is walked. The old table's cells come first, the new one's begin at place 257.
 // A row's index is its number + 1; index 0 is a broken type, which is what a row that the table does not have is.
 ghost use mathlib.Core.Path.{_≡_};
 ghost use mathlib.Core.List.{map};
-ghost use Prim.Native.Nat.{_+_, _*_, _≤_, _<_};
+ghost use Prim.Native.Nat.{_+_, _≤_, _<_};
 ghost use lib.ListN.{length, getD};
 ghost use lib.Dec.{eqb};
-ghost use Rattle.encoding.specs.Result.{pick, sameBytes};
+ghost use Rattle.encoding.specs.Result.{sameBytes};
 ghost use Rattle.encoding.specs.Table.{typesAt, membersAt, entriesAt, kind, field, listEntry, allowed, entriesOf, range, memberTy, memberTys, ownRows, tys, partTy, typeRows, trees, tyOf};
 ghost use Rattle.differences.specs.Compare.{sameAllowed, sameTy, sameTys};
-ghost use Rattle.agreeing.specs.Agreeing.{indexed, sortAt, below, isListed, Agreed};
+ghost use Rattle.agreeing.specs.Agreeing.{indexed, sortAt, below, isListed, Alike, IsFirst, Firsts, Agreed};
 
 // What sort of type index x has: its row's kind, or 13 if it is broken. Here and below, `begin` is where the type rows begin.
 fn sort_at(table: &[u8], begin: usize, x: usize) -> usize
@@ -46,33 +47,34 @@ fn index(table: &[u8], i: usize) -> usize
     index_below(table::rows(table), i)
 }
 
-// The cell of two indexes says that they agree.
-fn is_same(cells: &[u8; 66049], x: usize, y: usize) -> bool
-    requires { ⌜ (x < 257) × (y < 257) ⌝ }
-    ensures { λ r. ⌜ r ≡ eqb (getD (now (cells .entry)) (257 * x + y) 0) 1 ⌝ }
+// The cells of index x of the old table and of index y of a table whose cells begin at place `base` are equal.
+fn is_same(cells: &[usize; 514], base: usize, x: usize, y: usize) -> bool
+    requires { ⌜ (x < 257) × (y < 257) × (base ≤ 257) ⌝ }
+    ensures { λ r. ⌜ r ≡ eqb (getD (now (cells .entry)) x 0) (getD (now (cells .entry)) (base + y) 0) ⌝ }
 {
-    cells[257 * x + y] == 1
+    cells[x] == cells[base + y]
 }
 
-// Field i of row t and field i of row u are rows that agree, each as a part of its row.
+// Field i of row t of the old table and field i of row u are rows that agree, each as a part of its row. Here and below, the array has the cells of the indexes up to t and, from place `base` on, up to u.
 fn part(
     old: &[u8],
     begin: usize,
-    new: &[u8],
+    table: &[u8],
     start: usize,
-    cells: &[u8; 66049],
+    cells: &[usize; 514],
+    base: usize,
     t: usize,
     u: usize,
     i: usize,
 ) -> bool
-    requires { ⌜ (begin ≡ typesAt (now old)) × (start ≡ typesAt (now new)) ⌝ }
-    requires { ⌜ (t < typeRows (now old)) × (u < typeRows (now new)) ⌝ }
-    requires { ⌜ Agreed (now old) (now new) (now cells) (t + 1) ⌝ }
-    ensures { λ r. ⌜ r ≡ sameTy (partTy (now (old .entry)) t (field (now (old .entry)) t i)) (partTy (now (new .entry)) u (field (now (new .entry)) u i)) ⌝ }
+    requires { ⌜ (begin ≡ typesAt (now old)) × (start ≡ typesAt (now table)) ⌝ }
+    requires { ⌜ (t < typeRows (now old)) × (u < typeRows (now table)) × (base ≤ 257) ⌝ }
+    requires { ⌜ Alike (now old) (now table) (now cells) base (t + 1) (u + 1) ⌝ }
+    ensures { λ r. ⌜ r ≡ sameTy (partTy (now (old .entry)) t (field (now (old .entry)) t i)) (partTy (now (table .entry)) u (field (now (table .entry)) u i)) ⌝ }
 {
     let x = index_below(t, table::field(old, begin, t, i));
-    let y = index_below(u, table::field(new, start, u, i));
-    is_same(cells, x, y)
+    let y = index_below(u, table::field(table, start, u, i));
+    is_same(cells, base, x, y)
 }
 
 // The index of member row m's type as a part of row t; `first` is where the member rows begin.
@@ -93,21 +95,22 @@ fn types(
     first: usize,
     t: usize,
     m: usize,
-    new: &[u8],
+    table: &[u8],
     from: usize,
     u: usize,
     k: usize,
-    cells: &[u8; 66049],
+    cells: &[usize; 514],
+    base: usize,
 ) -> bool
     requires { ⌜ (first ≡ membersAt (now old)) × (first < 1048576) × (m < 131072) ⌝ }
-    requires { ⌜ (from ≡ membersAt (now new)) × (from < 1048576) × (k < 131072) ⌝ }
-    requires { ⌜ (t < typeRows (now old)) × (u < typeRows (now new)) ⌝ }
-    requires { ⌜ Agreed (now old) (now new) (now cells) (t + 1) ⌝ }
-    ensures { λ r. ⌜ r ≡ sameTy (memberTy (now (old .entry)) (tys (now (old .entry)) t) m) (memberTy (now (new .entry)) (tys (now (new .entry)) u) k) ⌝ }
+    requires { ⌜ (from ≡ membersAt (now table)) × (from < 1048576) × (k < 131072) ⌝ }
+    requires { ⌜ (t < typeRows (now old)) × (u < typeRows (now table)) × (base ≤ 257) ⌝ }
+    requires { ⌜ Alike (now old) (now table) (now cells) base (t + 1) (u + 1) ⌝ }
+    ensures { λ r. ⌜ r ≡ sameTy (memberTy (now (old .entry)) (tys (now (old .entry)) t) m) (memberTy (now (table .entry)) (tys (now (table .entry)) u) k) ⌝ }
 {
     let x = member_below(old, first, t, m);
-    let y = member_below(new, from, u, k);
-    is_same(cells, x, y)
+    let y = member_below(table, from, u, k);
+    is_same(cells, base, x, y)
 }
 
 // The types of the n member rows from row m on and of those from row k on agree, each as a part of row t or u; `first` and `from` are where the member rows begin.
@@ -116,22 +119,23 @@ fn run(
     first: usize,
     t: usize,
     m: usize,
-    new: &[u8],
+    table: &[u8],
     from: usize,
     u: usize,
     k: usize,
-    cells: &[u8; 66049],
+    cells: &[usize; 514],
+    base: usize,
     n: usize,
 ) -> bool
     requires { ⌜ (first ≡ membersAt (now old)) × (first < 1048576) × (m < 65536) ⌝ }
-    requires { ⌜ (from ≡ membersAt (now new)) × (from < 1048576) × (k < 65536) × (n < 65536) ⌝ }
-    requires { ⌜ (t < typeRows (now old)) × (u < typeRows (now new)) ⌝ }
-    requires { ⌜ Agreed (now old) (now new) (now cells) (t + 1) ⌝ }
-    ensures { λ r. ⌜ r ≡ sameTys (memberTys (now (old .entry)) (tys (now (old .entry)) t) (range m n)) (memberTys (now (new .entry)) (tys (now (new .entry)) u) (range k n)) ⌝ }
+    requires { ⌜ (from ≡ membersAt (now table)) × (from < 1048576) × (k < 65536) × (n < 65536) ⌝ }
+    requires { ⌜ (t < typeRows (now old)) × (u < typeRows (now table)) × (base ≤ 257) ⌝ }
+    requires { ⌜ Alike (now old) (now table) (now cells) base (t + 1) (u + 1) ⌝ }
+    ensures { λ r. ⌜ r ≡ sameTys (memberTys (now (old .entry)) (tys (now (old .entry)) t) (range m n)) (memberTys (now (table .entry)) (tys (now (table .entry)) u) (range k n)) ⌝ }
 {
     let mut i = 0;
     while i < n {
-        if !types(old, first, t, m + i, new, from, u, k + i, cells) {
+        if !types(old, first, t, m + i, table, from, u, k + i, cells, base) {
             return false;
         }
         i += 1;
@@ -143,33 +147,35 @@ fn run(
 fn structs(
     old: &[u8],
     begin: usize,
-    new: &[u8],
+    table: &[u8],
     start: usize,
-    cells: &[u8; 66049],
+    cells: &[usize; 514],
+    base: usize,
     t: usize,
     u: usize,
 ) -> bool
-    requires { ⌜ (begin ≡ typesAt (now old)) × (start ≡ typesAt (now new)) ⌝ }
-    requires { ⌜ (t < typeRows (now old)) × (u < typeRows (now new)) ⌝ }
-    requires { ⌜ Agreed (now old) (now new) (now cells) (t + 1) ⌝ }
-    ensures { λ r. ⌜ r ≡ sameTys (memberTys (now (old .entry)) (tys (now (old .entry)) t) (ownRows (now (old .entry)) t)) (memberTys (now (new .entry)) (tys (now (new .entry)) u) (ownRows (now (new .entry)) u)) ⌝ }
+    requires { ⌜ (begin ≡ typesAt (now old)) × (start ≡ typesAt (now table)) ⌝ }
+    requires { ⌜ (t < typeRows (now old)) × (u < typeRows (now table)) × (base ≤ 257) ⌝ }
+    requires { ⌜ Alike (now old) (now table) (now cells) base (t + 1) (u + 1) ⌝ }
+    ensures { λ r. ⌜ r ≡ sameTys (memberTys (now (old .entry)) (tys (now (old .entry)) t) (ownRows (now (old .entry)) t)) (memberTys (now (table .entry)) (tys (now (table .entry)) u) (ownRows (now (table .entry)) u)) ⌝ }
 {
     let n = table::field_b(old, begin, t);
-    if n != table::field_b(new, start, u) {
+    if n != table::field_b(table, start, u) {
         return false;
     }
     let m = table::field_a(old, begin, t);
-    let k = table::field_a(new, start, u);
+    let k = table::field_a(table, start, u);
     run(
         old,
         table::members_at(old, begin),
         t,
         m,
-        new,
-        table::members_at(new, start),
+        table,
+        table::members_at(table, start),
         u,
         k,
         cells,
+        base,
         n,
     )
 }
@@ -251,100 +257,114 @@ fn enums(old: &[u8], begin: usize, new: &[u8], start: usize, t: usize, u: usize)
         == table::greatest(table::type_row(new, start, u))
 }
 
-// Rows t and u, both of kind k, agree; the array has the cells of the rows below t.
+// Row t of the old table and row u, whose kind is k, agree.
 fn rows(
     old: &[u8],
     begin: usize,
-    new: &[u8],
+    table: &[u8],
     start: usize,
-    cells: &[u8; 66049],
+    cells: &[usize; 514],
+    base: usize,
     k: usize,
     t: usize,
     u: usize,
 ) -> bool
-    requires { ⌜ (begin ≡ typesAt (now old)) × (start ≡ typesAt (now new)) ⌝ }
-    requires { ⌜ (t < typeRows (now old)) × (u < typeRows (now new)) ⌝ }
-    requires { ⌜ (k ≡ kind (now old) t) × (k ≡ kind (now new) u) ⌝ }
-    requires { ⌜ Agreed (now old) (now new) (now cells) (t + 1) ⌝ }
-    ensures { λ r. ⌜ r ≡ sameTy (tyOf (now (old .entry)) t) (tyOf (now (new .entry)) u) ⌝ }
+    requires { ⌜ (begin ≡ typesAt (now old)) × (start ≡ typesAt (now table)) ⌝ }
+    requires { ⌜ (t < typeRows (now old)) × (u < typeRows (now table)) × (base ≤ 257) ⌝ }
+    requires { ⌜ (k ≡ kind (now table) u) × (k ≤ 12) ⌝ }
+    requires { ⌜ Alike (now old) (now table) (now cells) base (t + 1) (u + 1) ⌝ }
+    ensures { λ r. ⌜ r ≡ sameTy (tyOf (now (old .entry)) t) (tyOf (now (table .entry)) u) ⌝ }
 {
+    if table::kind(old, begin, t) != k {
+        return false;
+    }
     if k == 8 {
-        return enums(old, begin, new, start, t, u);
+        return enums(old, begin, table, start, t, u);
     }
     if k == 9 {
-        return structs(old, begin, new, start, cells, t, u);
+        return structs(old, begin, table, start, cells, base, t, u);
     }
     if k == 10 {
-        return part(old, begin, new, start, cells, t, u, 0);
+        return part(old, begin, table, start, cells, base, t, u, 0);
     }
     if k == 11 {
-        if part(old, begin, new, start, cells, t, u, 0) {
-            return part(old, begin, new, start, cells, t, u, 1);
+        if part(old, begin, table, start, cells, base, t, u, 0) {
+            return part(old, begin, table, start, cells, base, t, u, 1);
         }
         return false;
     }
     true
 }
 
-// Indexes x and y agree; the array has the cells of the indexes below x.
-fn cell(
+// The first index of the old table below `end` that agrees with index y of a table, or `end` if there is none. The array has the cells of the indexes below `end` and, from place `base` on, below y.
+fn first(
     old: &[u8],
     begin: usize,
-    new: &[u8],
+    table: &[u8],
     start: usize,
-    cells: &[u8; 66049],
-    x: usize,
+    cells: &[usize; 514],
+    base: usize,
+    end: usize,
     y: usize,
-) -> bool
-    requires { ⌜ (begin ≡ typesAt (now old)) × (start ≡ typesAt (now new)) ⌝ }
-    requires { ⌜ Agreed (now old) (now new) (now cells) x ⌝ }
-    ensures { λ r. ⌜ r ≡ sameTy (indexed (now (old .entry)) x) (indexed (now (new .entry)) y) ⌝ }
+) -> usize
+    requires { ⌜ (begin ≡ typesAt (now old)) × (start ≡ typesAt (now table)) ⌝ }
+    requires { ⌜ (end ≤ typeRows (now old) + 1) × (base ≤ 257) ⌝ }
+    requires { ⌜ Alike (now old) (now table) (now cells) base end y ⌝ }
+    ensures { λ r. ⌜ IsFirst (now (old .entry)) end (indexed (now (table .entry)) y) r ⌝ }
 {
-    let k = sort_at(old, begin, x);
-    if k != sort_at(new, start, y) {
-        return false;
-    }
+    let k = sort_at(table, start, y);
     if k == 13 {
-        return true;
+        return 0;
     }
-    rows(old, begin, new, start, cells, k, x - 1, y - 1)
+    let mut x = 1;
+    while x < end {
+        if rows(old, begin, table, start, cells, base, k, x - 1, y - 1) {
+            return x;
+        }
+        x += 1;
+    }
+    end
 }
 
-// 1 for yes, 0 for no.
-fn bit(b: bool) -> u8
-    ensures { λ r. ⌜ r ≡ pick b 1 0 ⌝ }
+// Sets the cells of the old table.
+fn fill_old(old: &[u8], begin: usize, cells: &mut [usize; 514])
+    requires { ⌜ begin ≡ typesAt (now old) ⌝ }
+    requires { ⌜ length (now cells) ≡ 514 ⌝ }
+    ensures { λ _. ⌜ Firsts (now (old .entry)) (now (cells .exit)) (typeRows (now (old .entry)) + 1) ⌝ }
 {
-    if b { 1 } else { 0 }
+    let n = table::rows(old);
+    let mut x = 0;
+    while x <= n {
+        let c = first(old, begin, old, begin, cells, 0, x, x);
+        cells[x] = c;
+        x += 1;
+    }
 }
 
-// Sets the cells of index x; the array has those of the indexes below it.
-fn fill_row(old: &[u8], begin: usize, new: &[u8], start: usize, cells: &mut [u8; 66049], x: usize)
+// Sets the cells of the new table; the array has those of the old one.
+fn fill_new(old: &[u8], begin: usize, new: &[u8], start: usize, cells: &mut [usize; 514])
     requires { ⌜ (begin ≡ typesAt (now old)) × (start ≡ typesAt (now new)) ⌝ }
-    requires { ⌜ x ≤ typeRows (now old) ⌝ }
-    requires { ⌜ Agreed (now old) (now new) (now cells) x ⌝ }
-    ensures { λ _. ⌜ Agreed (now (old .entry)) (now (new .entry)) (now (cells .exit)) (x + 1) ⌝ }
+    requires { ⌜ Firsts (now old) (now cells) (typeRows (now old) + 1) ⌝ }
+    ensures { λ _. ⌜ Agreed (now (old .entry)) (now (new .entry)) (now (cells .exit)) ⌝ }
 {
+    let end = table::rows(old) + 1;
     let n = table::rows(new);
     let mut y = 0;
     while y <= n {
-        let b = cell(old, begin, new, start, cells, x, y);
-        cells[257 * x + y] = bit(b);
+        let c = first(old, begin, new, start, cells, 257, end, y);
+        cells[257 + y] = c;
         y += 1;
     }
 }
 
 // Sets the cells of all rows of the two tables.
-pub fn fill(old: &[u8], begin: usize, new: &[u8], start: usize, cells: &mut [u8; 66049])
+pub fn fill(old: &[u8], begin: usize, new: &[u8], start: usize, cells: &mut [usize; 514])
     requires { ⌜ (begin ≡ typesAt (now old)) × (start ≡ typesAt (now new)) ⌝ }
-    requires { ⌜ length (now cells) ≡ 66049 ⌝ }
-    ensures { λ _. ⌜ Agreed (now (old .entry)) (now (new .entry)) (now (cells .exit)) (typeRows (now (old .entry)) + 1) ⌝ }
+    requires { ⌜ length (now cells) ≡ 514 ⌝ }
+    ensures { λ _. ⌜ Agreed (now (old .entry)) (now (new .entry)) (now (cells .exit)) ⌝ }
 {
-    let n = table::rows(old);
-    let mut x = 0;
-    while x <= n {
-        fill_row(old, begin, new, start, cells, x);
-        x += 1;
-    }
+    fill_old(old, begin, cells);
+    fill_new(old, begin, new, start, cells);
 }
 
 // Member row m of the old table and member row n of the new one agree in type.
@@ -354,15 +374,15 @@ pub fn members(
     begin: usize,
     new: &[u8],
     start: usize,
-    cells: &[u8; 66049],
+    cells: &[usize; 514],
     m: usize,
     n: usize,
 ) -> bool
     requires { ⌜ (begin ≡ typesAt (now old)) × (start ≡ typesAt (now new)) ⌝ }
-    requires { ⌜ Agreed (now old) (now new) (now cells) (typeRows (now old) + 1) ⌝ }
+    requires { ⌜ Agreed (now old) (now new) (now cells) ⌝ }
     ensures { λ r. ⌜ r ≡ sameTy (memberTy (now (old .entry)) (trees (now (old .entry))) m) (memberTy (now (new .entry)) (trees (now (new .entry))) n) ⌝ }
 {
     let x = index(old, table::type_of_member(old, begin, m));
     let y = index(new, table::type_of_member(new, start, n));
-    is_same(cells, x, y)
+    is_same(cells, 257, x, y)
 }

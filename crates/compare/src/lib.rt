@@ -1,11 +1,11 @@
 // Two tables compared: pairs.rt lists the differences of all pairs of records and parameter lists, this file has the call.
-// Stack: the cells of two rows each (66,049 bytes), the tags of two owners (16,384) and the records in order (4,096).
+// Stack: the tags of two owners (16,384 bytes), a cell for each row of both tables (4,112) and the records in order (4,096).
 mod pairs;
 
 ghost use mathlib.Core.Path.{_≡_};
 ghost use Prim.Native.Nat.{_+_, _<_};
 ghost use lib.ListN.{length};
-ghost use Rattle.encoding.specs.Table.{types, typesAt, typeRows, fine, faults};
+ghost use Rattle.encoding.specs.Table.{types, typesAt, fine, faults};
 ghost use Rattle.encoding.specs.Result.{pick};
 ghost use Rattle.encoding.specs.Message.{noTop};
 ghost use Rattle.agreeing.specs.Agreeing.{Agreed};
@@ -55,14 +55,14 @@ fn told(
     begin: usize,
     new: &[u8],
     start: usize,
-    cells: &[u8; 66049],
+    cells: &[usize; 514],
     t: usize,
     u: usize,
     bytes: usize,
     list: &mut [u8],
 ) -> Compared
     requires { ⌜ (begin ≡ typesAt (now old)) × (start ≡ typesAt (now new)) ⌝ }
-    requires { ⌜ Agreed (now old) (now new) (now cells) (typeRows (now old) + 1) ⌝ }
+    requires { ⌜ Agreed (now old) (now new) (now cells) ⌝ }
     requires { ⌜ (faults (now old) ≡ fine) × (faults (now new) ≡ fine) × (t < types (now old)) × (u < types (now new)) ⌝ }
     ensures { λ r. ⌜ r ≡ comparedOf (wholeOf (now (old .entry)) t (now (new .entry)) u bytes) ⌝ }
     ensures { λ _. ⌜ now (list .exit) ≡ enter 0 (wholeOf (now (old .entry)) t (now (new .entry)) u bytes .found) (now (list .entry)) ⌝ }
@@ -98,7 +98,7 @@ fn whole(
     ensures { λ r. ⌜ r ≡ comparedOf (wholeOf (now (old .entry)) t (now (new .entry)) u bytes) ⌝ }
     ensures { λ _. ⌜ now (list .exit) ≡ enter 0 (wholeOf (now (old .entry)) t (now (new .entry)) u bytes .found) (now (list .entry)) ⌝ }
 {
-    let mut cells = [0u8; 66049];
+    let mut cells = [0usize; 514];
     agreeing::fill(old, begin, new, start, &mut cells);
     told(old, begin, new, start, &cells, t, u, bytes, list)
 }

@@ -4,7 +4,7 @@ ghost use mathlib.Core.Path.{_≡_};
 ghost use mathlib.Core.List.{map};
 ghost use Prim.Native.Nat.{_+_, _≤_, _<_};
 ghost use lib.ListN.{length, drop};
-ghost use Rattle.encoding.specs.Table.{types, typesAt, fine, faults, typeRows};
+ghost use Rattle.encoding.specs.Table.{types, typesAt, fine, faults};
 ghost use Rattle.agreeing.specs.Agreeing.{Agreed};
 ghost use Rattle.differences.specs.Compare.{pairDifferences, paired, listPairs, allDifferences, differences};
 ghost use Rattle.ordering.specs.Ordering.{itemPair, items};
@@ -16,14 +16,14 @@ fn item(
     begin: usize,
     new: &[u8],
     start: usize,
-    cells: &[u8; 66049],
+    cells: &[usize; 514],
     tags: &mut [usize; 2048],
     k: usize,
     list: &mut [u8],
     n: usize,
 ) -> usize
     requires { ⌜ (begin ≡ typesAt (now old)) × (start ≡ typesAt (now new)) ⌝ }
-    requires { ⌜ Agreed (now old) (now new) (now cells) (typeRows (now old) + 1) ⌝ }
+    requires { ⌜ Agreed (now old) (now new) (now cells) ⌝ }
     requires { ⌜ (k < 131072) × (length (now tags) ≡ 2048) × (types (now new) ≤ 256) ⌝ }
     requires { ⌜ FewMembers (now old) (itemPair (now old) (now new) k .0) × FewMembers (now new) (itemPair (now old) (now new) k .1) ⌝ }
     requires { ⌜ (k < types (now old) + types (now new)) × (n + length (pairDifferences (now old) (now new) (itemPair (now old) (now new) k .0) (itemPair (now old) (now new) k .1)) < 4294967296) ⌝ }
@@ -44,7 +44,7 @@ fn records(
     begin: usize,
     new: &[u8],
     start: usize,
-    cells: &[u8; 66049],
+    cells: &[usize; 514],
     tags: &mut [usize; 2048],
     slots: &[usize; 512],
     s: usize,
@@ -52,7 +52,7 @@ fn records(
     n: usize,
 ) -> usize
     requires { ⌜ (begin ≡ typesAt (now old)) × (start ≡ typesAt (now new)) ⌝ }
-    requires { ⌜ Agreed (now old) (now new) (now cells) (typeRows (now old) + 1) ⌝ }
+    requires { ⌜ Agreed (now old) (now new) (now cells) ⌝ }
     requires { ⌜ (faults (now old) ≡ fine) × (faults (now new) ≡ fine) × (length (now tags) ≡ 2048) ⌝ }
     requires { ⌜ (length (now slots) ≡ 512) × (s ≤ 512) × (drop s (now slots) ≡ items (now old) (now new)) ⌝ }
     requires { ⌜ n + length (allDifferences (now old) (now new) (map (itemPair (now old) (now new)) (drop s (now slots)))) < 4294967296 ⌝ }
@@ -108,7 +108,7 @@ fn walk(
     begin: usize,
     new: &[u8],
     start: usize,
-    cells: &[u8; 66049],
+    cells: &[usize; 514],
     tags: &mut [usize; 2048],
     m: usize,
     k: usize,
@@ -116,7 +116,7 @@ fn walk(
     n: usize,
 ) -> usize
     requires { ⌜ (begin ≡ typesAt (now old)) × (start ≡ typesAt (now new)) ⌝ }
-    requires { ⌜ Agreed (now old) (now new) (now cells) (typeRows (now old) + 1) ⌝ }
+    requires { ⌜ Agreed (now old) (now new) (now cells) ⌝ }
     requires { ⌜ (faults (now old) ≡ fine) × (faults (now new) ≡ fine) × (length (now tags) ≡ 2048) ⌝ }
     requires { ⌜ (m ≤ 65536) × (k ≤ 65536) × FewMembers (now old) m × FewMembers (now new) k ⌝ }
     requires { ⌜ n + length (allDifferences (now old) (now new) (paired (leftOf (isList (now old)) m (types (now old))) (leftOf (isList (now new)) k (types (now new))))) < 4294967296 ⌝ }
@@ -142,13 +142,13 @@ fn lists(
     begin: usize,
     new: &[u8],
     start: usize,
-    cells: &[u8; 66049],
+    cells: &[usize; 514],
     tags: &mut [usize; 2048],
     list: &mut [u8],
     n: usize,
 ) -> usize
     requires { ⌜ (begin ≡ typesAt (now old)) × (start ≡ typesAt (now new)) ⌝ }
-    requires { ⌜ Agreed (now old) (now new) (now cells) (typeRows (now old) + 1) ⌝ }
+    requires { ⌜ Agreed (now old) (now new) (now cells) ⌝ }
     requires { ⌜ (faults (now old) ≡ fine) × (faults (now new) ≡ fine) × (length (now tags) ≡ 2048) ⌝ }
     requires { ⌜ n + length (allDifferences (now old) (now new) (listPairs (now old) (now new))) < 4294967296 ⌝ }
     ensures { λ r. ⌜ Listed (allDifferences (now (old .entry)) (now (new .entry)) (listPairs (now (old .entry)) (now (new .entry)))) n (now (list .entry)) (now (list .exit)) r ⌝ }
@@ -164,11 +164,11 @@ pub fn all(
     begin: usize,
     new: &[u8],
     start: usize,
-    cells: &[u8; 66049],
+    cells: &[usize; 514],
     list: &mut [u8],
 ) -> usize
     requires { ⌜ (begin ≡ typesAt (now old)) × (start ≡ typesAt (now new)) ⌝ }
-    requires { ⌜ Agreed (now old) (now new) (now cells) (typeRows (now old) + 1) ⌝ }
+    requires { ⌜ Agreed (now old) (now new) (now cells) ⌝ }
     requires { ⌜ (faults (now old) ≡ fine) × (faults (now new) ≡ fine) ⌝ }
     ensures { λ r. ⌜ Listed (differences (now (old .entry)) (now (new .entry))) 0 (now (list .entry)) (now (list .exit)) r ⌝ }
     ensures { λ r. ⌜ r < 4294967296 ⌝ }

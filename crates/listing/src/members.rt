@@ -3,7 +3,7 @@
 ghost use mathlib.Core.Path.{_≡_};
 ghost use Prim.Native.Nat.{_+_, _≤_, _<_};
 ghost use lib.ListN.{length, drop};
-ghost use Rattle.encoding.specs.Table.{typesAt, membersAt, field, typeRows, optionalMembers};
+ghost use Rattle.encoding.specs.Table.{typesAt, membersAt, field, optionalMembers};
 ghost use Rattle.agreeing.specs.Agreeing.{Agreed};
 ghost use Rattle.differences.specs.Compare.{paired, memberDifferences, requiredDifferences, optionalDifferences};
 ghost use Rattle.listing.specs.Listing.{Listed, agreeRows, memberDifference, isRequired, nextOf, followOf, leftOf, rowDifferences, tagDifference};
@@ -15,12 +15,12 @@ pub fn agree(
     begin: usize,
     new: &[u8],
     start: usize,
-    cells: &[u8; 66049],
+    cells: &[usize; 514],
     m: usize,
     k: usize,
 ) -> bool
     requires { ⌜ (begin ≡ typesAt (now old)) × (start ≡ typesAt (now new)) ⌝ }
-    requires { ⌜ Agreed (now old) (now new) (now cells) (typeRows (now old) + 1) ⌝ }
+    requires { ⌜ Agreed (now old) (now new) (now cells) ⌝ }
     ensures { λ r. ⌜ r ≡ agreeRows (now (old .entry)) (now (new .entry)) m k ⌝ }
 {
     if m == 0 {
@@ -38,7 +38,7 @@ fn member(
     begin: usize,
     new: &[u8],
     start: usize,
-    cells: &[u8; 66049],
+    cells: &[usize; 514],
     what: usize,
     t: usize,
     u: usize,
@@ -48,7 +48,7 @@ fn member(
     n: usize,
 ) -> usize
     requires { ⌜ (begin ≡ typesAt (now old)) × (start ≡ typesAt (now new)) ⌝ }
-    requires { ⌜ Agreed (now old) (now new) (now cells) (typeRows (now old) + 1) ⌝ }
+    requires { ⌜ Agreed (now old) (now new) (now cells) ⌝ }
     requires { ⌜ (t < 65536) × (u < 65536) × (n < 4294967296) ⌝ }
     ensures { λ r. ⌜ Listed (memberDifference (now (old .entry)) (now (new .entry)) what t u m k) n (now (list .entry)) (now (list .exit)) r ⌝ }
 {
@@ -99,7 +99,7 @@ fn walk(
     begin: usize,
     new: &[u8],
     start: usize,
-    cells: &[u8; 66049],
+    cells: &[usize; 514],
     t: usize,
     u: usize,
     m: usize,
@@ -110,7 +110,7 @@ fn walk(
     n: usize,
 ) -> usize
     requires { ⌜ (begin ≡ typesAt (now old)) × (start ≡ typesAt (now new)) ⌝ }
-    requires { ⌜ Agreed (now old) (now new) (now cells) (typeRows (now old) + 1) ⌝ }
+    requires { ⌜ Agreed (now old) (now new) (now cells) ⌝ }
     requires { ⌜ (t < 65536) × (u < 65536) × (end ≤ 131072) × (stop ≤ 131072) × (m ≤ 131072) × (k ≤ 131072) ⌝ }
     requires { ⌜ n + length (rowDifferences (now old) (now new) t u (paired (leftOf (isRequired (now old)) m end) (leftOf (isRequired (now new)) k stop))) < 4294967296 ⌝ }
     ensures { λ r. ⌜ Listed (rowDifferences (now (old .entry)) (now (new .entry)) t u (paired (leftOf (isRequired (now (old .entry))) m end) (leftOf (isRequired (now (new .entry))) k stop))) n (now (list .entry)) (now (list .exit)) r ⌝ }
@@ -134,14 +134,14 @@ pub fn required(
     begin: usize,
     new: &[u8],
     start: usize,
-    cells: &[u8; 66049],
+    cells: &[usize; 514],
     t: usize,
     u: usize,
     list: &mut [u8],
     n: usize,
 ) -> usize
     requires { ⌜ (begin ≡ typesAt (now old)) × (start ≡ typesAt (now new)) ⌝ }
-    requires { ⌜ Agreed (now old) (now new) (now cells) (typeRows (now old) + 1) ⌝ }
+    requires { ⌜ Agreed (now old) (now new) (now cells) ⌝ }
     requires { ⌜ (t < 65536) × (u < 65536) × (n + length (requiredDifferences (now old) (now new) t u) < 4294967296) ⌝ }
     ensures { λ r. ⌜ Listed (requiredDifferences (now (old .entry)) (now (new .entry)) t u) n (now (list .entry)) (now (list .exit)) r ⌝ }
 {
@@ -172,7 +172,7 @@ fn tagged(
     begin: usize,
     new: &[u8],
     start: usize,
-    cells: &[u8; 66049],
+    cells: &[usize; 514],
     t: usize,
     u: usize,
     g: usize,
@@ -180,7 +180,7 @@ fn tagged(
     n: usize,
 ) -> usize
     requires { ⌜ (begin ≡ typesAt (now old)) × (start ≡ typesAt (now new)) ⌝ }
-    requires { ⌜ Agreed (now old) (now new) (now cells) (typeRows (now old) + 1) ⌝ }
+    requires { ⌜ Agreed (now old) (now new) (now cells) ⌝ }
     requires { ⌜ (t < 65536) × (u < 65536) × (n < 4294967296) ⌝ }
     ensures { λ r. ⌜ Listed (tagDifference (now (old .entry)) (now (new .entry)) t u g) n (now (list .entry)) (now (list .exit)) r ⌝ }
 {
@@ -195,7 +195,7 @@ fn by_tags(
     begin: usize,
     new: &[u8],
     start: usize,
-    cells: &[u8; 66049],
+    cells: &[usize; 514],
     t: usize,
     u: usize,
     tags: &[usize; 2048],
@@ -204,7 +204,7 @@ fn by_tags(
     n: usize,
 ) -> usize
     requires { ⌜ (begin ≡ typesAt (now old)) × (start ≡ typesAt (now new)) ⌝ }
-    requires { ⌜ Agreed (now old) (now new) (now cells) (typeRows (now old) + 1) ⌝ }
+    requires { ⌜ Agreed (now old) (now new) (now cells) ⌝ }
     requires { ⌜ (t < 65536) × (u < 65536) × (s ≤ 2048) × (length (now tags) ≡ 2048) ⌝ }
     requires { ⌜ n + length (memberDifferences 3 t u (optionalMembers (now old) t) (optionalMembers (now new) u) (drop s (now tags))) < 4294967296 ⌝ }
     ensures { λ r. ⌜ Listed (memberDifferences 3 t u (optionalMembers (now (old .entry)) t) (optionalMembers (now (new .entry)) u) (drop s (now (tags .entry)))) n (now (list .entry)) (now (list .exit)) r ⌝ }
@@ -224,7 +224,7 @@ pub fn optionals(
     begin: usize,
     new: &[u8],
     start: usize,
-    cells: &[u8; 66049],
+    cells: &[usize; 514],
     tags: &mut [usize; 2048],
     t: usize,
     u: usize,
@@ -232,7 +232,7 @@ pub fn optionals(
     n: usize,
 ) -> usize
     requires { ⌜ (begin ≡ typesAt (now old)) × (start ≡ typesAt (now new)) ⌝ }
-    requires { ⌜ Agreed (now old) (now new) (now cells) (typeRows (now old) + 1) ⌝ }
+    requires { ⌜ Agreed (now old) (now new) (now cells) ⌝ }
     requires { ⌜ (t < 65536) × (u < 65536) × (length (now tags) ≡ 2048) × (field (now old) t 1 ≤ 1024) × (field (now new) u 1 ≤ 1024) ⌝ }
     requires { ⌜ n + length (optionalDifferences (now old) (now new) t u) < 4294967296 ⌝ }
     ensures { λ r. ⌜ Listed (optionalDifferences (now (old .entry)) (now (new .entry)) t u) n (now (list .entry)) (now (list .exit)) r ⌝ }

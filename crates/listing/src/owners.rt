@@ -2,7 +2,7 @@
 ghost use mathlib.Core.Path.{_≡_};
 ghost use Prim.Native.Nat.{_+_, _≤_, _<_};
 ghost use lib.ListN.{length};
-ghost use Rattle.encoding.specs.Table.{typesAt, field, typeRows};
+ghost use Rattle.encoding.specs.Table.{typesAt, field};
 ghost use Rattle.agreeing.specs.Agreeing.{Agreed};
 ghost use Rattle.differences.specs.Compare.{basesDiffer, baseDifference, ownerDifferences, pairDifferences};
 ghost use Rattle.listing.specs.Listing.{Listed, FewMembers};
@@ -52,7 +52,7 @@ fn owners(
     begin: usize,
     new: &[u8],
     start: usize,
-    cells: &[u8; 66049],
+    cells: &[usize; 514],
     tags: &mut [usize; 2048],
     t: usize,
     u: usize,
@@ -60,7 +60,7 @@ fn owners(
     n: usize,
 ) -> usize
     requires { ⌜ (begin ≡ typesAt (now old)) × (start ≡ typesAt (now new)) ⌝ }
-    requires { ⌜ Agreed (now old) (now new) (now cells) (typeRows (now old) + 1) ⌝ }
+    requires { ⌜ Agreed (now old) (now new) (now cells) ⌝ }
     requires { ⌜ (t < 65536) × (u < 65536) × (length (now tags) ≡ 2048) × (field (now old) t 1 ≤ 1024) × (field (now new) u 1 ≤ 1024) ⌝ }
     requires { ⌜ n + length (ownerDifferences (now old) (now new) t u) < 4294967296 ⌝ }
     ensures { λ r. ⌜ Listed (ownerDifferences (now (old .entry)) (now (new .entry)) t u) n (now (list .entry)) (now (list .exit)) r ⌝ }
@@ -77,7 +77,7 @@ pub fn pair(
     begin: usize,
     new: &[u8],
     start: usize,
-    cells: &[u8; 66049],
+    cells: &[usize; 514],
     tags: &mut [usize; 2048],
     o: usize,
     p: usize,
@@ -85,7 +85,7 @@ pub fn pair(
     n: usize,
 ) -> usize
     requires { ⌜ (begin ≡ typesAt (now old)) × (start ≡ typesAt (now new)) ⌝ }
-    requires { ⌜ Agreed (now old) (now new) (now cells) (typeRows (now old) + 1) ⌝ }
+    requires { ⌜ Agreed (now old) (now new) (now cells) ⌝ }
     requires { ⌜ (o ≤ 65536) × (p ≤ 65536) × (length (now tags) ≡ 2048) × FewMembers (now old) o × FewMembers (now new) p ⌝ }
     requires { ⌜ n + length (pairDifferences (now old) (now new) o p) < 4294967296 ⌝ }
     ensures { λ r. ⌜ Listed (pairDifferences (now (old .entry)) (now (new .entry)) o p) n (now (list .entry)) (now (list .exit)) r ⌝ }

@@ -1,7 +1,7 @@
 // Whether a new table extends an old one and the tops match. `begin` and `start` are where the type rows of the old and the new table begin, and the cells say which of their rows agree.
 ghost use mathlib.Core.Path.{_≡_};
 ghost use Prim.Native.Nat.{_+_, _≤_, _<_};
-ghost use Rattle.encoding.specs.Table.{types, typesAt, membersAt, field, fine, faults, range, typeRows, requiredMembers, optionalMembers};
+ghost use Rattle.encoding.specs.Table.{types, typesAt, membersAt, field, fine, faults, range, requiredMembers, optionalMembers};
 ghost use Rattle.agreeing.specs.Agreeing.{Agreed};
 ghost use Rattle.differences.specs.Compare.{records, sameRecord, requiredMatch, optionalsMatch, ownersMatch, basesMatch, matchedBy, allMatched, topsMatch, extending};
 ghost use Rattle.listing.specs.Listing.{FewMembers};
@@ -13,13 +13,13 @@ fn optional(
     begin: usize,
     new: &[u8],
     start: usize,
-    cells: &[u8; 66049],
+    cells: &[usize; 514],
     u: usize,
     first: usize,
     m: usize,
 ) -> bool
     requires { ⌜ (begin ≡ typesAt (now old)) × (start ≡ typesAt (now new)) ⌝ }
-    requires { ⌜ Agreed (now old) (now new) (now cells) (typeRows (now old) + 1) ⌝ }
+    requires { ⌜ Agreed (now old) (now new) (now cells) ⌝ }
     requires { ⌜ (first ≡ membersAt (now old)) × (first < 1048576) × (m < 131072) ⌝ }
     ensures { λ r. ⌜ r ≡ optionalMatches (now (old .entry)) (now (new .entry)) u m ⌝ }
 {
@@ -37,13 +37,13 @@ fn every(
     begin: usize,
     new: &[u8],
     start: usize,
-    cells: &[u8; 66049],
+    cells: &[usize; 514],
     u: usize,
     m: usize,
     n: usize,
 ) -> bool
     requires { ⌜ (begin ≡ typesAt (now old)) × (start ≡ typesAt (now new)) ⌝ }
-    requires { ⌜ Agreed (now old) (now new) (now cells) (typeRows (now old) + 1) ⌝ }
+    requires { ⌜ Agreed (now old) (now new) (now cells) ⌝ }
     requires { ⌜ (m < 65536) × (n < 65536) ⌝ }
     ensures { λ r. ⌜ r ≡ everyRow (optionalMatches (now (old .entry)) (now (new .entry)) u) (range m n) ⌝ }
 {
@@ -64,12 +64,12 @@ fn optionals(
     begin: usize,
     new: &[u8],
     start: usize,
-    cells: &[u8; 66049],
+    cells: &[usize; 514],
     t: usize,
     u: usize,
 ) -> bool
     requires { ⌜ (begin ≡ typesAt (now old)) × (start ≡ typesAt (now new)) ⌝ }
-    requires { ⌜ Agreed (now old) (now new) (now cells) (typeRows (now old) + 1) ⌝ }
+    requires { ⌜ Agreed (now old) (now new) (now cells) ⌝ }
     ensures { λ r. ⌜ r ≡ optionalsMatch (optionalMembers (now (old .entry)) t) (optionalMembers (now (new .entry)) u) ⌝ }
 {
     let m = table::field_a(old, begin, t);
@@ -83,12 +83,12 @@ fn required(
     begin: usize,
     new: &[u8],
     start: usize,
-    cells: &[u8; 66049],
+    cells: &[usize; 514],
     t: usize,
     u: usize,
 ) -> bool
     requires { ⌜ (begin ≡ typesAt (now old)) × (start ≡ typesAt (now new)) ⌝ }
-    requires { ⌜ Agreed (now old) (now new) (now cells) (typeRows (now old) + 1) ⌝ }
+    requires { ⌜ Agreed (now old) (now new) (now cells) ⌝ }
     requires { ⌜ (t < 65536) × (u < 65536) × (field (now old) t 1 ≤ 1024) × (field (now new) u 1 ≤ 1024) ⌝ }
     ensures { λ r. ⌜ r ≡ requiredMatch (requiredMembers (now (old .entry)) t) (requiredMembers (now (new .entry)) u) ⌝ }
 {
@@ -102,12 +102,12 @@ fn owners(
     begin: usize,
     new: &[u8],
     start: usize,
-    cells: &[u8; 66049],
+    cells: &[usize; 514],
     t: usize,
     u: usize,
 ) -> bool
     requires { ⌜ (begin ≡ typesAt (now old)) × (start ≡ typesAt (now new)) ⌝ }
-    requires { ⌜ Agreed (now old) (now new) (now cells) (typeRows (now old) + 1) ⌝ }
+    requires { ⌜ Agreed (now old) (now new) (now cells) ⌝ }
     requires { ⌜ (t < 65536) × (u < 65536) × (field (now old) t 1 ≤ 1024) × (field (now new) u 1 ≤ 1024) ⌝ }
     ensures { λ r. ⌜ r ≡ ownersMatch (now (old .entry)) (now (new .entry)) t u ⌝ }
 {
@@ -148,12 +148,12 @@ fn matched_by(
     begin: usize,
     new: &[u8],
     start: usize,
-    cells: &[u8; 66049],
+    cells: &[usize; 514],
     t: usize,
     p: usize,
 ) -> bool
     requires { ⌜ (begin ≡ typesAt (now old)) × (start ≡ typesAt (now new)) ⌝ }
-    requires { ⌜ Agreed (now old) (now new) (now cells) (typeRows (now old) + 1) ⌝ }
+    requires { ⌜ Agreed (now old) (now new) (now cells) ⌝ }
     requires { ⌜ (t < 65536) × (p ≤ 65536) × (field (now old) t 1 ≤ 1024) × FewMembers (now new) p ⌝ }
     ensures { λ r. ⌜ r ≡ matchedBy (now (old .entry)) (now (new .entry)) t p ⌝ }
 {
@@ -174,11 +174,11 @@ fn matched(
     begin: usize,
     new: &[u8],
     start: usize,
-    cells: &[u8; 66049],
+    cells: &[usize; 514],
     t: usize,
 ) -> bool
     requires { ⌜ (begin ≡ typesAt (now old)) × (start ≡ typesAt (now new)) ⌝ }
-    requires { ⌜ Agreed (now old) (now new) (now cells) (typeRows (now old) + 1) ⌝ }
+    requires { ⌜ Agreed (now old) (now new) (now cells) ⌝ }
     requires { ⌜ (faults (now old) ≡ fine) × (faults (now new) ≡ fine) × (t < types (now old)) ⌝ }
     ensures { λ r. ⌜ r ≡ rowMatched (now (old .entry)) (now (new .entry)) t ⌝ }
 {
@@ -190,9 +190,9 @@ fn matched(
 }
 
 // Every record of the old table has a match.
-fn all_matched(old: &[u8], begin: usize, new: &[u8], start: usize, cells: &[u8; 66049]) -> bool
+fn all_matched(old: &[u8], begin: usize, new: &[u8], start: usize, cells: &[usize; 514]) -> bool
     requires { ⌜ (begin ≡ typesAt (now old)) × (start ≡ typesAt (now new)) ⌝ }
-    requires { ⌜ Agreed (now old) (now new) (now cells) (typeRows (now old) + 1) ⌝ }
+    requires { ⌜ Agreed (now old) (now new) (now cells) ⌝ }
     requires { ⌜ (faults (now old) ≡ fine) × (faults (now new) ≡ fine) ⌝ }
     ensures { λ r. ⌜ r ≡ allMatched (now (old .entry)) (now (new .entry)) (records (now (old .entry))) ⌝ }
 {
@@ -213,12 +213,12 @@ fn tops(
     begin: usize,
     new: &[u8],
     start: usize,
-    cells: &[u8; 66049],
+    cells: &[usize; 514],
     t: usize,
     u: usize,
 ) -> bool
     requires { ⌜ (begin ≡ typesAt (now old)) × (start ≡ typesAt (now new)) ⌝ }
-    requires { ⌜ Agreed (now old) (now new) (now cells) (typeRows (now old) + 1) ⌝ }
+    requires { ⌜ Agreed (now old) (now new) (now cells) ⌝ }
     requires { ⌜ (faults (now old) ≡ fine) × (faults (now new) ≡ fine) × (t < types (now old)) × (u < types (now new)) ⌝ }
     ensures { λ r. ⌜ r ≡ topsMatch (now (old .entry)) (now (new .entry)) t u ⌝ }
 {
@@ -241,12 +241,12 @@ pub fn extending(
     begin: usize,
     new: &[u8],
     start: usize,
-    cells: &[u8; 66049],
+    cells: &[usize; 514],
     t: usize,
     u: usize,
 ) -> bool
     requires { ⌜ (begin ≡ typesAt (now old)) × (start ≡ typesAt (now new)) ⌝ }
-    requires { ⌜ Agreed (now old) (now new) (now cells) (typeRows (now old) + 1) ⌝ }
+    requires { ⌜ Agreed (now old) (now new) (now cells) ⌝ }
     requires { ⌜ (faults (now old) ≡ fine) × (faults (now new) ≡ fine) × (t < types (now old)) × (u < types (now new)) ⌝ }
     ensures { λ r. ⌜ r ≡ extending (now (old .entry)) (now (new .entry)) t u ⌝ }
 {

@@ -1,6 +1,7 @@
 -- The cell of two types. Assumes nothing.
 use Rattle.agreeing.proofs.Cells.{all-members, row-inside}
 use borrow.Author.Needs.{needs}
+use native.Mathlib.Omega.{arith}
 use Rattle.agreeing.proofs.members.Statement.{statement}
 use Rattle.agreeing.proofs.members.Tie as tie
 
@@ -12,5 +13,5 @@ members-spec =
     (λ c κs. search needs)  -- index-requires
     (λ c κs. search needs)  -- type-of-member-requires-2
     (λ c κs. search needs)  -- index-requires-2
-    (λ c κs. search row-inside)  -- is-same-requires
+    (λ c κs. (search row-inside, search row-inside, omega arith))  -- is-same-requires
     (λ c. search all-members))  -- returns

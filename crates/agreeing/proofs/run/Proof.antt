@@ -7,10 +7,10 @@ use Rattle.agreeing.proofs.run.Statement.{statement}
 use Rattle.agreeing.proofs.run.Tie as tie
 
 abbrev Inv-loop : tie.InvT-loop
-Inv-loop old first t m new from u k cells n i₀ i = Structs old new t u m k n i
+Inv-loop old first t m table from u k cells base n i₀ i = Structs old table t u m k n i
 
 abbrev μ-loop : tie.MeasureT-loop
-μ-loop old first t m new from u k cells n i₀ i = n - i
+μ-loop old first t m table from u k cells base n i₀ i = n - i
 
 pub run-spec : {M : Type 1} → statement M
 run-spec =
