@@ -5,7 +5,7 @@
 --   format-one, format-other, format-two              23
 --   old-other, old-two                                26
 --   early-top, early-format, early-old, early-long, early-none   2, 23, 26 and 3 in turn
---   broken-checks, early-checks, ready-checks         what `checks` gives
+--   broken-checks, early-checks, ready-checks         what `checks` gives; fine-table the table breaks no rule
 use mathlib.Core.Path.{_≡_, refl, sym, ap, _∙_}
 use mathlib.Core.Bool.{Bool, true, false, _&&_, not}
 use mathlib.Core.List.{List, [], _∷_}
@@ -23,6 +23,7 @@ use Rattle.encoding.specs.Write.{noFormat}
 use Rattle.rules.specs.Checks.{findingOf}
 use Rattle.rules.specs.declared.Finding.{Finding}
 use Rattle.rules.specs.declared.Finding.the-variants.{Fine, Broken}
+use Rattle.rules.proofs.Judging.{is-fine}
 use Rattle.prepare.specs.declared.Prepared.the-variants.{Ready, Refused}
 use Rattle.prepare.specs.Preparing.{before, checked, checks}
 
@@ -108,23 +109,22 @@ module _ (T : List ℕ) (top format len : ℕ) (v : Finding) (ev : v ≡ finding
       go fine h = let z : _≡_ {A = ℕ} 0 1 = cc in absurd (omega arith)
       go (fault d x) h = let ed : c ≡ d = cc in let ex : p ≡ x = cc in rw (ed, ex)
 
-  module _ (q : v ≡ Fine) (n : ℕ) (en : n ≡ before T top format len) where
-    passed : checks T top format len ≡ checked fine n
-    unfolding findingOf checks
-    passed = go (faults T) (sym q ∙ ev)
-      where
-        go : (f : Fault) → Fine ≡ findingOf f → checked f (before T top format len) ≡ checked fine n
-        go fine h = ap (checked fine) (sym en)
-        go (fault d x) h = let z : _≡_ {A = ℕ} 0 1 = cc in absurd (omega arith)
+  pub fine-table : v ≡ Fine → faults T ≡ fine
+  fine-table q = is-fine (faults T) (sym ev ∙ q)
 
-    pub early-checks : (n ≡ 0 → ⊥) → Refused n 0 ≡ checks T top format len
-    unfolding checked
-    early-checks h = go n h ∙ sym passed
-      where
-        go : (k : ℕ) → (k ≡ 0 → ⊥) → Refused k 0 ≡ checked fine k
-        go zero h = absurd (h refl)
-        go (suc k) h = refl
+module _ (T : List ℕ) (top format len : ℕ) (f : faults T ≡ fine) (n : ℕ) (en : n ≡ before T top format len) where
+  passed : checks T top format len ≡ checked fine n
+  unfolding checks
+  passed = rw (f, ← en)
 
-    pub ready-checks : n ≡ 0 → Ready ≡ checks T top format len
-    unfolding checked
-    ready-checks e = sym (passed ∙ ap (checked fine) e)
+  pub early-checks : (n ≡ 0 → ⊥) → Refused n 0 ≡ checks T top format len
+  unfolding checked
+  early-checks h = go n h ∙ sym passed
+    where
+      go : (k : ℕ) → (k ≡ 0 → ⊥) → Refused k 0 ≡ checked fine k
+      go zero h = absurd (h refl)
+      go (suc k) h = refl
+
+  pub ready-checks : n ≡ 0 → Ready ≡ checks T top format len
+  unfolding checked
+  ready-checks e = sym (passed ∙ ap (checked fine) e)

@@ -1,10 +1,10 @@
-// What is checked before a message: the table's rules, then 2, 23, 26 and 3. Every call that reads, views or writes a message begins with `prepare`, and nothing after it checks the table again.
+// What is checked before a message: the table's rules, then 2, 23, 26 and 3. Every call that reads, views or writes a message begins with `prepare`, or with `onepass` and `after_rules`, and nothing after it checks the table again.
 ghost use mathlib.Core.Path.{_≡_};
 ghost use mathlib.Core.Bool.{_&&_};
 ghost use lib.ListN.{length};
 ghost use lib.Dec.{eqb};
 ghost use Rattle.encoding.specs.Number.{Bytes};
-ghost use Rattle.encoding.specs.Table.{typesAt, kind};
+ghost use Rattle.encoding.specs.Table.{typesAt, kind, fine, faults};
 ghost use Rattle.encoding.specs.Old.{noOld};
 ghost use Rattle.encoding.specs.Message.{noTop};
 ghost use Rattle.encoding.specs.Write.{noFormat};
@@ -83,6 +83,19 @@ fn early(table: &[u8], begin: usize, top: usize, format: usize, len: usize) -> u
     0
 }
 
+// What is checked after the rules of a table that breaks none.
+pub fn after_rules(table: &[u8], begin: usize, top: usize, format: usize, len: usize) -> Prepared
+    requires { ⌜ begin ≡ typesAt (now table) ⌝ }
+    requires { ⌜ faults (now table) ≡ fine ⌝ }
+    ensures { λ r. ⌜ r ≡ checks (now (table .entry)) top format len ⌝ }
+{
+    let n = early(table, begin, top, format, len);
+    if n != 0 {
+        return Prepared::Refused(n, 0);
+    }
+    Prepared::Ready
+}
+
 // Checks the table, the top, the format and the length of a message or buffer. A reader, which knows no format yet, passes 1: so 23 and 26 do not come.
 // Wrong and ruled out: a call that lets format 0 pass; one that lets format 2 pass where the types may have optionals; one that refuses exactly 65,536 bytes.
 pub fn prepare(table: &[u8], top: usize, format: usize, len: usize) -> Prepared
@@ -91,13 +104,6 @@ pub fn prepare(table: &[u8], top: usize, format: usize, len: usize) -> Prepared
     let v = rules::check(table);
     match v {
         Finding::Broken(c, p) => Prepared::Refused(c, p),
-        Finding::Fine => {
-            let begin = table::types_at(table);
-            let n = early(table, begin, top, format, len);
-            if n != 0 {
-                return Prepared::Refused(n, 0);
-            }
-            Prepared::Ready
-        }
+        Finding::Fine => after_rules(table, table::types_at(table), top, format, len),
     }
 }

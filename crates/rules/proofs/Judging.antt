@@ -18,7 +18,7 @@
 --   Lists, lists-..            the pass over the lists and the entries left over
 --   Tags, tags-..              the loop over the tags before; alike-above, alike-below only of a tag below a bound
 --   required-.., optional-.., member-..   the rules of a member row
---   Fields, fields, tag-of     the eight bytes of a member row as one number, by its fields
+--   Fields, fields             the eight bytes of a member row as one number, by its fields; tag-of, type-of its tag and its type
 --   usual-..                   the tests of a usual row, and that it breaks no rule but perhaps that of its type
 --   Owner, owner-..            the member rows of one owner, each of its class (class-..), read whole or usual; Owners, owners-.. of all owners
 --   check-..                   the passes one after another; check-rows, check-all-rows the type rows lie inside, all rows do
@@ -667,7 +667,7 @@ module _ (T : List ℕ) (t : ℕ) (basic : isBasic T t ≡ true) where
   unfolding isBasic
   basic-tests = let b = both-true (ltb (at T 4 (rowAt T t)) 8) _ basic in (ltb-true _ _ (b .0), eqb-true _ _ (b .1))
 
-  basic-kind : kind T t < 8
+  pub basic-kind : kind T t < 8
   unfolding kind
   basic-kind = omega (arith, at-split T 2 2 (rowAt T t), at-split T 1 1 (rowAt T t), basic-tests .0)
 
@@ -730,7 +730,7 @@ unfolding findingOf orElse
 or-broken fine g c p e = let z : _≡_ {A = ℕ} 0 1 = cc in absurd (omega arith)
 or-broken (fault k q) g c p e = e
 
-is-fine : (f : Fault) → findingOf f ≡ Fine → f ≡ fine
+pub is-fine : (f : Fault) → findingOf f ≡ Fine → f ≡ fine
 unfolding findingOf
 is-fine fine e = refl
 is-fine (fault c p) e = let z : _≡_ {A = ℕ} 0 1 = cc in absurd (omega arith)
@@ -1108,6 +1108,10 @@ fields T small m x e =
 tag-of : (r : MemberRow) (x : ℕ) → Fields r x → x / 4294967296 ≡ r .tag
 tag-of r x parts = omega (arith, parts .whole, parts .of-small, parts .mark-small, parts .spare-small)
 
+-- its type, from the first two bytes
+pub type-of : (T : List ℕ) → ((i : ℕ) → getD T i 0 < 256) → (m x : ℕ) → x ≡ at T 8 (memberAt T m) → x % 65536 ≡ memberType T m
+type-of T small m x e = let parts = fields T small m x e in omega (arith, parts .whole, parts .of-small)
+
 -- a member row that is usual breaks no rule but perhaps that of its type
 module _ (T : List ℕ) (o : ℕ) (own : TypeRow) (r : MemberRow) (x above : ℕ) (parts : Fields r x) (s : Bool) (new : above ≤ r .tag → s ≡ false) (b : Bool) (eb : b ≡ noPart T o (r .of)) where
   usual-required : x < 65536 → pick b 34 0 ≡ firstOf (memberRulesBy T o own r s)
@@ -1202,7 +1206,7 @@ module _ (T : List ℕ) (o : ℕ) (own : TypeRow) (left m above : ℕ) (inv : Ow
       usual-class : (s : Bool) → b ≡ s → pick s 34 0 ≡ firstOf (memberRulesOf T o m)
       unfolding memberRulesOf
       usual-class s q =
-          let z : x % 65536 ≡ memberType T m = omega (arith, parts .whole, parts .of-small) in
+          let z = type-of T (inv .bytes) m x (ex ∙ ap (at T 8) ep) in
           usual-rules T o (typeRowOf T o) (memberRowOf T m) x above parts (isTagBefore T (field T o 0) m (tag T m)) (tag-new (tag T m)) s (sym q ∙ eb ∙ ap (noPart T o) z)
           (not (eqb (own .kind) 9)) (ap (λ (k : ℕ). not (eqb k 9)) (inv .own-is .kind-is)) (sym eu ∙ not-false u usual)
 

@@ -34,7 +34,7 @@ fn is_marked(table: &[u8]) -> bool
 }
 
 // The class of the first rule that the header breaks, or 0.
-fn header(table: &[u8], begin: usize) -> usize
+pub fn header(table: &[u8], begin: usize) -> usize
     requires { ⌜ begin ≡ typesAt (now table) ⌝ }
     ensures { λ r. ⌜ faultAt 0 r ≡ headerRules (now (table .entry)) ⌝ }
 {
@@ -74,7 +74,7 @@ fn header(table: &[u8], begin: usize) -> usize
 }
 
 // One of the fields c, d, e of a row is not 0.
-fn is_set_from_c(row: TypeRow) -> bool
+pub fn is_set_from_c(row: TypeRow) -> bool
     ensures { λ r. ⌜ r ≡ isSetFrom row 2 ⌝ }
 {
     if row.c != 0 {
@@ -87,7 +87,7 @@ fn is_set_from_c(row: TypeRow) -> bool
 }
 
 // One of the fields b to e is not 0.
-fn is_set_from_b(row: TypeRow) -> bool
+pub fn is_set_from_b(row: TypeRow) -> bool
     ensures { λ r. ⌜ r ≡ isSetFrom row 1 ⌝ }
 {
     if row.b != 0 {
@@ -97,7 +97,7 @@ fn is_set_from_b(row: TypeRow) -> bool
 }
 
 // One of the fields is not 0.
-fn is_set_from_a(row: TypeRow) -> bool
+pub fn is_set_from_a(row: TypeRow) -> bool
     ensures { λ r. ⌜ r ≡ isSetFrom row 0 ⌝ }
 {
     if row.a != 0 {
@@ -148,7 +148,7 @@ fn is_unused_set(table: &[u8], begin: usize, row: TypeRow) -> bool
 }
 
 // Row r cannot be a part of row t: it is not below t, or not of kinds 0 to 12. The rows below t lie inside the table.
-fn no_part(table: &[u8], begin: usize, t: usize, r: usize) -> bool
+pub fn no_part(table: &[u8], begin: usize, t: usize, r: usize) -> bool
     requires { ⌜ begin ≡ typesAt (now table) ⌝ }
     requires { ⌜ rowAt (now table) t ≤ length (now table) ⌝ }
     ensures { λ b. ⌜ b ≡ noPart (now (table .entry)) t r ⌝ }
@@ -160,7 +160,7 @@ fn no_part(table: &[u8], begin: usize, t: usize, r: usize) -> bool
 }
 
 // Row b - 1 cannot be the base of row t of kind k: it is not below t, or of another kind. With b = 0 there is no base to judge.
-fn no_base(table: &[u8], begin: usize, t: usize, k: usize, b: usize) -> bool
+pub fn no_base(table: &[u8], begin: usize, t: usize, k: usize, b: usize) -> bool
     requires { ⌜ begin ≡ typesAt (now table) ⌝ }
     requires { ⌜ rowAt (now table) t ≤ length (now table) ⌝ }
     ensures { λ r. ⌜ r ≡ noBaseOf (now (table .entry)) t k b ⌝ }
@@ -196,7 +196,7 @@ fn is_name_before(table: &[u8], begin: usize, name: &[u8], from: usize, t: usize
 }
 
 // A record among rows `from` to t - 1 has the name of row t. The names begin at `labels`.
-fn alike(table: &[u8], begin: usize, labels: usize, t: usize, row: TypeRow, from: usize) -> bool
+pub fn alike(table: &[u8], begin: usize, labels: usize, t: usize, row: TypeRow, from: usize) -> bool
     requires { ⌜ begin ≡ typesAt (now table) ⌝ }
     requires { ⌜ (labels ≡ namesAt (now table)) × (labels < 2097152) ⌝ }
     requires { ⌜ rowAt (now table) t ≤ length (now table) ⌝ }
@@ -210,7 +210,7 @@ fn alike(table: &[u8], begin: usize, labels: usize, t: usize, row: TypeRow, from
 }
 
 // The name of row t is text. The names begin at `labels`.
-fn is_name_text(table: &[u8], labels: usize, t: usize, row: TypeRow) -> bool
+pub fn is_name_text(table: &[u8], labels: usize, t: usize, row: TypeRow) -> bool
     requires { ⌜ (labels ≡ namesAt (now table)) × (labels < 2097152) ⌝ }
     requires { ⌜ IsTypeRow (now table) t row ⌝ }
     ensures { λ r. ⌜ r ≡ isUtf8 (nameOf (now (table .entry)) t) ⌝ }
@@ -389,7 +389,7 @@ fn type_class(
 }
 
 // How many member rows a row takes.
-fn share(row: TypeRow) -> usize
+pub fn share(row: TypeRow) -> usize
     ensures { λ r. ⌜ (r ≡ share row) × (r ≤ row .b) ⌝ }
 {
     if table::owns(row.kind) {
@@ -399,7 +399,7 @@ fn share(row: TypeRow) -> usize
 }
 
 // Type row t is basic: its kind is below 8 and every other byte is 0.
-fn is_basic(table: &[u8], begin: usize, t: usize) -> bool
+pub fn is_basic(table: &[u8], begin: usize, t: usize) -> bool
     requires { ⌜ begin ≡ typesAt (now table) ⌝ }
     requires { ⌜ rowAt (now table) (t + 1) ≤ length (now table) ⌝ }
     ensures { λ r. ⌜ r ≡ isBasic (now (table .entry)) t ⌝ }
@@ -414,7 +414,7 @@ fn is_basic(table: &[u8], begin: usize, t: usize) -> bool
 }
 
 // Advances `from`, the first row that may be a record, past row t if t is not one (`plain`).
-fn past(from: usize, t: usize, plain: bool) -> usize
+pub fn past(from: usize, t: usize, plain: bool) -> usize
     requires { ⌜ t < 65536 ⌝ }
     ensures { λ r. ⌜ r ≡ past from t plain ⌝ }
 {
@@ -676,7 +676,7 @@ fn member_class(
 }
 
 // The bound above the tags so far, raised above this tag too.
-fn raised(above: usize, tag: usize) -> usize
+pub fn raised(above: usize, tag: usize) -> usize
     requires { ⌜ tag < 4294967296 ⌝ }
     ensures { λ r. ⌜ r ≡ max above (tag + 1) ⌝ }
 {
@@ -684,7 +684,7 @@ fn raised(above: usize, tag: usize) -> usize
 }
 
 // A member row, given as one number, is usual: required with tag 0, or optional, in no struct, with a tag not below `above`. Only its type is left to judge.
-fn is_usual(x: usize, optional: bool, above: usize) -> bool
+pub fn is_usual(x: usize, optional: bool, above: usize) -> bool
     ensures { λ r. ⌜ r ≡ isUsual x optional above ⌝ }
 {
     if x < 65536 {

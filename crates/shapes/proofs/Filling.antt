@@ -197,7 +197,7 @@ module _ (T : List ℕ) (t m left : ℕ) (inv : Members T t m left) where
 -- ---- the width of a struct
 
 -- the width of row i as a part of row t
-width-part : (T shapes : List ℕ) (t i r : ℕ) → t ≤ typeRows T → Shaped T shapes t → r ≡ pick (leb t i) 0 (widthIn shapes i) → r ≡ widthOf (partTy T t i)
+pub width-part : (T shapes : List ℕ) (t i r : ℕ) → t ≤ typeRows T → Shaped T shapes t → r ≡ pick (leb t i) 0 (widthIn shapes i) → r ≡ widthOf (partTy T t i)
 unfolding widthOf shapeAt partTy
 width-part T shapes t i r l below e = e ∙ go (leb t i) refl
   where

@@ -77,7 +77,7 @@ pub fn is_enum(shapes: &[u8; 256], t: usize) -> bool
 }
 
 // Row i is below t and fixed-size.
-fn is_fixed(table: &[u8], begin: usize, shapes: &[u8; 256], t: usize, i: usize) -> bool
+pub fn is_fixed(table: &[u8], begin: usize, shapes: &[u8; 256], t: usize, i: usize) -> bool
     requires { ⌜ begin ≡ typesAt (now table) ⌝ }
     requires { ⌜ t ≤ typeRows (now table) ⌝ }
     requires { ⌜ Shaped (now table) (now shapes) t ⌝ }
@@ -185,7 +185,7 @@ fn struct_shape(table: &[u8], begin: usize, shapes: &[u8; 256], t: usize) -> u8
 }
 
 // The shape of a row without parts, by its kind.
-fn plain(k: usize) -> u8
+pub fn plain(k: usize) -> u8
     ensures { λ r. ⌜ r ≡ plainShape k ⌝ }
 {
     match k {
@@ -203,7 +203,7 @@ fn plain(k: usize) -> u8
 }
 
 // The shape of a container, or of a struct without a width: 9 (an optional after a VSize) if its parts are fixed-size, else 10 (after an FSize).
-fn counted(fixed: bool) -> u8
+pub fn counted(fixed: bool) -> u8
     ensures { λ r. ⌜ r ≡ pick fixed 9 10 ⌝ }
 {
     if fixed { 9 } else { 10 }

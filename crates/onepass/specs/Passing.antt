@@ -1,0 +1,25 @@
+-- What the pass knows of a type row that it lets pass.
+--
+--   RowPassed T t row n b x   row t breaks no rule, nor does one of its member rows, and x is its shape; the rows before it take n member rows, b: its name is alike
+--   AlonePassed T t row x        the same, whatever the rows before it take: a row that takes no member rows and has no name
+--   UnnamedPassed T t row n x    the same, whatever names come before it: a row without a name
+use mathlib.Core.Path.{_≡_}
+use mathlib.Core.Bool.{Bool}
+use mathlib.Core.List.{List}
+use Prim.Native.Nat.{ℕ}
+use Rattle.encoding.specs.Result.{firstOf}
+use Rattle.table.specs.declared.TypeRow.{TypeRow}
+use Rattle.rules.specs.Checks.{findingOf, rowRules, ownerPass}
+use Rattle.rules.specs.declared.Finding.the-variants.{Fine}
+use Rattle.shapes.specs.Shapes.{shapeAt}
+
+pub record RowPassed (T : List ℕ) (t : ℕ) (row : TypeRow) (n : ℕ) (b : Bool) (x : ℕ) : Type 0 where
+  pub rules : 0 ≡ firstOf (rowRules T t row n b)
+  pub members : Fine ≡ findingOf (ownerPass T t)
+  pub shape : x ≡ shapeAt T t
+
+pub record UnnamedPassed (T : List ℕ) (t : ℕ) (row : TypeRow) (n x : ℕ) : Type 0 where
+  pub passed : (b : Bool) → RowPassed T t row n b x
+
+pub record AlonePassed (T : List ℕ) (t : ℕ) (row : TypeRow) (x : ℕ) : Type 0 where
+  pub passed : (n : ℕ) → UnnamedPassed T t row n x
