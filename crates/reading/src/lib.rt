@@ -49,6 +49,7 @@ fn row_count(w: Walk) -> usize
 }
 
 // What `prepare` finds; if it refuses nothing, the shapes are filled. Where the caller has both, nothing is done.
+// Usual tables are judged, and their shapes filled, in one pass; others by `prepare` and `shapes`.
 fn prepared(table: &[u8], top: usize, len: usize, ready: bool, shapes: &mut [u8; 256]) -> Prepared
     requires { ⌜ Lent (now table) top len ready (now shapes) ⌝ }
     ensures { λ r. ⌜ r ≡ checks (now (table .entry)) top 1 len ⌝ }
@@ -57,11 +58,15 @@ fn prepared(table: &[u8], top: usize, len: usize, ready: bool, shapes: &mut [u8;
     if ready {
         return Prepared::Ready;
     }
+    let begin = table::types_at(table);
+    if onepass::fill(table, begin, shapes) {
+        return prepare::after_rules(table, begin, top, 1, len);
+    }
     let p = prepare::prepare(table, top, 1, len);
     match p {
         Prepared::Refused(c, q) => Prepared::Refused(c, q),
         Prepared::Ready => {
-            shapes::fill(table, table::types_at(table), shapes);
+            shapes::fill(table, begin, shapes);
             Prepared::Ready
         }
     }
