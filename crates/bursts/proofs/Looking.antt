@@ -2,24 +2,22 @@
 --
 --   Looking, looking-..    the entries before that may clash with a message
 --   Seeking, seeking-..    the first message that is too long
---   late-..                entries are looked through only for a message below all so far
-use mathlib.Core.Path.{_≡_, refl, sym, ap, _∙_}
+--   risen-..               entries are looked through only for a message below a number above all of theirs
+use mathlib.Core.Path.{_≡_, refl, sym, ap, _∙_, subst}
 use mathlib.Core.Bool.{Bool, true, false, _||_}
-use mathlib.Core.Option.{Option, none, some}
+use mathlib.Core.Option.{some}
 use mathlib.Core.List.{List, [], _∷_}
-use Prim.Native.Nat.{ℕ, zero, suc, _+_, _*_, _/_, _≤_, _<_}
+use Prim.Native.Nat.{ℕ, suc, _+_, _*_, _/_, _≤_, _<_}
 use native.Mathlib.Omega.{arith}
 use native.Mathlib.Numerals.{add-one}
 use lib.ListN.{length, take, drop, getD}
 use lib.Seq.{drop-cons, getD-take, length-take-le}
-use lib.Dec.{eqb, leb, ltb}
-use borrow.Author.Tests.{lt-ltb, le-ltb}
-use Rattle.encoding.specs.Result.{pick}
-use Rattle.bursts.specs.declared.Found.{Found}
+use borrow.Author.Tests.{lt-ltb, le-ltb, lt-leb, le-leb}
+use Rattle.bursts.specs.declared.Risen.the-variants.{To, Late}
 use Rattle.bursts.specs.declared.Found.the-variants.{At, Nowhere}
-use Rattle.bursts.specs.Bursts.{Waiting, Entry, most, waitings, entries, messageAt, lengthOf, cabinOf, anyEntry, tooLong}
+use Rattle.bursts.specs.Bursts.{Waiting, Entry, most, waitings, entries, messageAt, lengthOf, anyEntry, tooLong}
 use Rattle.bursts.specs.BurstDemands.{noEntry, entryAt}
-use Rattle.bursts.specs.Running.{clashing, clashes, late, foundOf}
+use Rattle.bursts.specs.Running.{Known, clashing, clashes, rising, foundOf}
 use Rattle.bursts.specs.RunningLaws.{drop-all}
 use Rattle.bursts.specs.PairLaws.{waitings-count, entries-count, length-at, message-at}
 
@@ -32,7 +30,7 @@ pub record Looking (ms ns : List ℕ) (n m j : ℕ) : Type 0 where
 pub looking-begin : (ms ns : List ℕ) (n m : ℕ) → Looking ms ns n m 0
 looking-begin ms ns n m = record { inside = omega arith; rest = refl }
 
-clashes-cons : (ws : List Waiting) (m : ℕ) (e : Entry) (es : List Entry) → clashes ws m (e ∷ es) ≡ (clashing ws m (cabinOf ws m) (e .message) || clashes ws m es)
+clashes-cons : (ws : List Waiting) (m : ℕ) (e : Entry) (es : List Entry) → clashes ws m (e ∷ es) ≡ (clashing ws m (e .message) || clashes ws m es)
 unfolding clashes anyEntry
 clashes-cons ws m e es = refl
 
@@ -44,36 +42,45 @@ module _ (ms ns : List ℕ) (n m j : ℕ) (l : Looking ms ns n m j) (room : n �
   counted : length (take n (entries ns)) ≡ n
   counted = length-take-le n (entries ns) (omega (arith, entries-count ns))
 
-  module _ (h : j < n) (own : ℕ) (o : own ≡ cabinOf (waitings ms) m) (t : Bool) (e : t ≡ clashing (waitings ms) m own (getD ns (2 * j) 0)) where
-    looked : clashes (waitings ms) m (take n (entries ns)) ≡ (t || clashes (waitings ms) m (drop (suc j) (take n (entries ns))))
-    looked =
-        l .rest
-        ∙ ap (clashes (waitings ms) m) (drop-cons (take n (entries ns)) j noEntry (omega (arith, counted)))
-        ∙ clashes-cons (waitings ms) m (entryAt (take n (entries ns)) j) (drop (suc j) (take n (entries ns)))
-        ∙ ap (λ (b : Bool). b || clashes (waitings ms) m (drop (suc j) (take n (entries ns)))) (ap (clashing (waitings ms) m (cabinOf (waitings ms) m)) here ∙ ap (λ (x : ℕ). clashing (waitings ms) m x (getD ns (2 * j) 0)) (sym o) ∙ sym e)
-      where
-        here : entryAt (take n (entries ns)) j .message ≡ getD ns (2 * j) 0
-        here = ap (λ (x : Entry). x .message) (getD-take n (entries ns) j noEntry h) ∙ message-at ns j (omega arith)
+  module _ (h : j < n) where
+    here : entryAt (take n (entries ns)) j .message ≡ getD ns (2 * j) 0
+    here = ap (λ (x : Entry). x .message) (getD-take n (entries ns) j noEntry h) ∙ message-at ns j (omega arith)
 
-    pub looking-found : t ≡ true → true ≡ clashes (waitings ms) m (take n (entries ns))
-    looking-found q = sym (looked ∙ rw q)
+    pub looking-known : Known (waitings ms) (take n (entries ns)) → getD ns (2 * j) 0 < length ms / 2
+    looking-known k = omega (arith, here, k .at j (omega (arith, counted)), waitings-count ms)
 
-    pub looking-next : t ≡ false → Looking ms ns n m (j + 1)
-    looking-next q = record { inside = omega arith; rest = looked ∙ rw (q, add-one) }
+    module _ (t : Bool) (e : t ≡ clashing (waitings ms) m (getD ns (2 * j) 0)) where
+      looked : clashes (waitings ms) m (take n (entries ns)) ≡ (t || clashes (waitings ms) m (drop (suc j) (take n (entries ns))))
+      looked =
+          l .rest
+          ∙ ap (clashes (waitings ms) m) (drop-cons (take n (entries ns)) j noEntry (omega (arith, counted)))
+          ∙ clashes-cons (waitings ms) m (entryAt (take n (entries ns)) j) (drop (suc j) (take n (entries ns)))
+          ∙ ap (λ (b : Bool). b || clashes (waitings ms) m (drop (suc j) (take n (entries ns)))) (ap (clashing (waitings ms) m) here ∙ sym e)
+
+      pub looking-found : t ≡ true → true ≡ clashes (waitings ms) m (take n (entries ns))
+      looking-found q = sym (looked ∙ rw q)
+
+      pub looking-next : t ≡ false → Looking ms ns n m (j + 1)
+      looking-next q = record { inside = omega arith; rest = looked ∙ rw (q, add-one) }
 
   pub looking-done : n ≤ j → false ≡ clashes (waitings ms) m (take n (entries ns))
   looking-done h = sym (l .rest ∙ ap (clashes (waitings ms) m) (drop-all j (take n (entries ns)) (omega (arith, counted))) ∙ clashes-none (waitings ms) m)
 
--- only a message below all so far
+-- ---- whether entries are looked through
 
-module _ (ws : List Waiting) (m above : ℕ) (es : List Entry) where
-  pub late-looked : (t : Bool) → t ≡ clashes ws m es → m < above → t ≡ late ws above m es
-  unfolding late
-  late-looked t e h = e ∙ rw (lt-ltb m above h)
+module _ (ws : List Waiting) (es : List Entry) (above m : ℕ) where
+  pub risen-over : above ≤ m → To (m + 1) ≡ rising ws es above m
+  unfolding rising
+  risen-over h = rw (le-leb above m h) (ap To (add-one m))
 
-  pub late-never : above ≤ m → false ≡ late ws above m es
-  unfolding late
-  late-never h = rw (le-ltb m above h)
+  module _ (h : m < above) (t : Bool) (e : t ≡ clashes ws m es) where
+    pub risen-late : t ≡ true → Late ≡ rising ws es above m
+    unfolding rising
+    risen-late q = rw (lt-leb above m h, sym e ∙ q)
+
+    pub risen-clear : t ≡ false → To above ≡ rising ws es above m
+    unfolding rising
+    risen-clear q = rw (lt-leb above m h, sym e ∙ q)
 
 -- ---- the first message that is too long
 
@@ -112,3 +119,18 @@ module _ (ms : List ℕ) (i : ℕ) (s : Seeking ms i) where
   pub seeking-done : length ms / 2 ≤ i → Nowhere ≡ foundOf (tooLong 0 (waitings ms))
   unfolding foundOf tooLong
   seeking-done h = sym (ap foundOf (s .rest ∙ ap (tooLong i) (drop-all i (waitings ms) (omega (arith, waitings-count ms)))))
+
+-- two messages a turn
+module _ (ms : List ℕ) (i : ℕ) (s : Seeking ms i) (h : i + 1 < length ms / 2) where
+  pub seeking-first : 340 < getD ms (2 * i) 0 → At i ≡ foundOf (tooLong 0 (waitings ms))
+  seeking-first l = seeking-here ms i s (omega arith) l
+
+  module _ (a : getD ms (2 * i) 0 ≤ 340) where
+    one : Seeking ms (i + 1)
+    one = seeking-next ms i s (omega arith) a
+
+    pub seeking-second : 340 < getD ms (2 * (i + 1)) 0 → At (i + 1) ≡ foundOf (tooLong 0 (waitings ms))
+    seeking-second l = seeking-here ms (i + 1) one h l
+
+    pub seeking-on : getD ms (2 * (i + 1)) 0 ≤ 340 → Seeking ms (i + 2)
+    seeking-on b = let e : i + 1 + 1 ≡ i + 2 = omega arith in subst (λ (n : ℕ). Seeking ms n) e (seeking-next ms (i + 1) one h b)

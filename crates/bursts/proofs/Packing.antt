@@ -3,22 +3,23 @@
 --   put-.., pack-..          what a burst has left, or that it is full
 --   opens-..                 the first burst number
 --   in-.., new-.., whole-..  the burst that a message goes to
---   cabin-known, cabin-none  the cabin of a message
+--   room-..                  the room of a burst
+--   cabin-known              the cabin of a message
 --   clash-..                 whether a message may not be before another
 use mathlib.Core.Path.{_≡_, refl, sym, ap, _∙_}
 use mathlib.Core.Bool.{Bool, true, false, _||_}
 use mathlib.Core.List.{List, [], _∷_}
-use Prim.Native.Nat.{ℕ, zero, suc, _+_, _-_, _*_, _/_, _≤_, _<_}
+use Prim.Native.Nat.{ℕ, suc, _+_, _-_, _*_, _/_, _%_, _^_, _≤_, _<_}
 use native.Mathlib.Omega.{arith}
 use lib.ListN.{length, getD}
 use lib.Dec.{eqb, leb}
-use borrow.Author.Tests.{le-leb, lt-leb, lt-ltb, le-ltb, eq-eqb, ne-eqb}
+use borrow.Author.Tests.{eqb-true, eqb-false, le-leb, lt-leb, eq-eqb, ne-eqb}
 use Rattle.encoding.specs.Result.{pick}
 use Rattle.bursts.specs.declared.Packed.{Packed}
 use Rattle.bursts.specs.declared.Packed.the-variants.{Holds, Full}
 use Rattle.bursts.specs.Bursts.{most, waitings, entries, cabinOf}
 use Rattle.bursts.specs.Running.{clashing, opening, mayFollow, packed, packing}
-use Rattle.bursts.specs.PairLaws.{cabin-at, cabin-past}
+use Rattle.bursts.specs.PairLaws.{cabin-at}
 
 module _ (room n : ℕ) where
   pub put-in : n ≤ room → Holds (room - n) ≡ packed room n
@@ -29,29 +30,38 @@ module _ (room n : ℕ) where
   unfolding packed
   put-out h = rw (lt-leb n room h)
 
-module _ (last left b n : ℕ) where
-  module _ (p : Packed) where
-    pub pack-on : b ≡ last → p ≡ packed left n → p ≡ packing last left b n
-    unfolding packing mayFollow
-    pack-on h e = e ∙ rw (eq-eqb b last h)
+module _ (step left : ℕ) where
+  pub room-left : step ≡ 0 → left ≡ pick (eqb step 0) left most
+  room-left h = rw (eq-eqb step 0 h)
 
-    pub pack-new : (b ≡ last → ⊥) → last ≤ b → b - last ≡ 1 → p ≡ packed 340 n → p ≡ packing last left b n
-    unfolding packing mayFollow
-    pack-new a h o e = e ∙ rw (ne-eqb b last a, eq-eqb b (suc last) (omega arith))
+  pub room-whole : (step ≡ 0 → ⊥) → 340 ≡ pick (eqb step 0) left most
+  room-whole h = rw (ne-eqb step 0 h)
 
-  pub pack-less : (b ≡ last → ⊥) → b < last → Full ≡ packing last left b n
+-- the step from the last burst, modulo 2 ^ 64
+module _ (last left b n : ℕ) (l : last < 18446744073709551615) (step : ℕ) (s : (step + last) % 2 ^ 64 ≡ b) where
+  pub pack-astray : 1 < step → step < 2 ^ 64 → Full ≡ packing last left b n
   unfolding packing mayFollow
-  pack-less a h = rw (ne-eqb b last a, ne-eqb b (suc last) (λ q. aside h q))
+  pack-astray h k = rw (ne-eqb b last same, ne-eqb b (suc last) next)
     where
-      aside : b < last → b ≡ suc last → ⊥
-      aside h q = omega arith
+      same : b ≡ last → ⊥
+      same q = omega arith
 
-  pub pack-far : (b ≡ last → ⊥) → last ≤ b → (b - last ≡ 1 → ⊥) → Full ≡ packing last left b n
+      next : b ≡ suc last → ⊥
+      next q = omega arith
+
+  pub pack-held : step ≤ 1 → (r : ℕ) → r ≡ pick (eqb step 0) left most → (p : Packed) → p ≡ packed r n → p ≡ packing last left b n
   unfolding packing mayFollow
-  pack-far a h o = rw (ne-eqb b last a, ne-eqb b (suc last) (λ q. o (aside q)))
+  pack-held h r e p q = q ∙ ap (λ (x : ℕ). packed x n) e ∙ go (eqb step 0) refl
     where
-      aside : b ≡ suc last → b - last ≡ 1
-      aside q = omega arith
+      away : b ≡ suc last → b ≡ last → ⊥
+      away q z = omega arith
+
+      new : b ≡ suc last → packed most n ≡ pick (eqb b last || eqb b (suc last)) (packed (pick (eqb b last) left most) n) Full
+      new q = rw (ne-eqb b last (away q), eq-eqb b (suc last) q)
+
+      go : (t : Bool) → eqb step 0 ≡ t → packed (pick t left most) n ≡ pick (eqb b last || eqb b (suc last)) (packed (pick (eqb b last) left most) n) Full
+      go true w = let z = eqb-true step 0 w in rw (eq-eqb b last (omega arith))
+      go false w = let z = eqb-false step 0 w in new (omega arith)
 
 pub opens-none : (ns : List ℕ) → length ns < 2 → true ≡ opening (entries ns)
 unfolding opening entries
@@ -85,26 +95,13 @@ module _ (burst left n : ℕ) where
 pub cabin-known : (ms : List ℕ) (m : ℕ) → m < length ms / 2 → getD ms (2 * m + 1) 0 ≡ cabinOf (waitings ms) m
 cabin-known ms m h = sym (cabin-at ms m h)
 
-pub cabin-none : (ms : List ℕ) (m : ℕ) → length ms / 2 ≤ m → 0 ≡ cabinOf (waitings ms) m
-cabin-none ms m h = sym (cabin-past ms m h)
-
 -- ---- messages that may not be before another
 
-module _ (ms : List ℕ) (m own x : ℕ) where
-  pub clash-same : x ≡ m → true ≡ clashing (waitings ms) m own x
+module _ (ms : List ℕ) (m x : ℕ) where
+  pub clash-lower : x < m → false ≡ clashing (waitings ms) m x
   unfolding clashing
-  clash-same h = rw (eq-eqb x m h)
+  clash-lower h = rw (lt-leb m x h)
 
-  pub clash-lower : x < m → false ≡ clashing (waitings ms) m own x
+  pub clash-greater : m ≤ x → (c : ℕ) → c ≡ cabinOf (waitings ms) x → (own : ℕ) → own ≡ cabinOf (waitings ms) m → eqb c own ≡ clashing (waitings ms) m x
   unfolding clashing
-  clash-lower h = rw (ne-eqb x m (away h), le-ltb m x (omega arith))
-    where
-      away : x < m → x ≡ m → ⊥
-      away h q = omega arith
-
-  pub clash-greater : (x ≡ m → ⊥) → m ≤ x → (c : ℕ) → c ≡ cabinOf (waitings ms) x → eqb c own ≡ clashing (waitings ms) m own x
-  unfolding clashing
-  clash-greater n h c e = rw (ne-eqb x m n, lt-ltb m x (strict n h), ← e)
-    where
-      strict : (x ≡ m → ⊥) → m ≤ x → m < x
-      strict n h = omega arith
+  clash-greater h c e own o = rw (le-leb m x h, ← e, ← o)

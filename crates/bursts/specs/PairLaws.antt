@@ -2,15 +2,15 @@
 -- Assumes nothing.
 --
 --   waitings-count, entries-count    how many pairs there are
---   length-at, cabin-at              length and cabin of a message; cabin-past: 0 past the last one
+--   length-at, cabin-at              length and cabin of a message
 --   entry-pair, message-at, burst-at an entry by its two numbers; its message and burst
 use mathlib.Core.Path.{_≡_, refl, sym, ap, _∙_}
 use mathlib.Core.List.{List, [], _∷_}
-use Prim.Native.Nat.{ℕ, zero, suc, _+_, _*_, _/_, _≤_, _<_}
+use Prim.Native.Nat.{ℕ, zero, suc, _+_, _*_, _/_, _<_}
 use native.Mathlib.Omega.{arith}
-use lib.ListN.{length, getD, List·getD-eq-default}
+use lib.ListN.{length, getD}
 use Rattle.bursts.specs.Bursts.{Waiting, Entry, waitings, entries, messageAt, lengthOf, cabinOf}
-use Rattle.bursts.specs.BurstDemands.{noEntry, entryAt}
+use Rattle.bursts.specs.BurstDemands.{entryAt}
 
 pub waitings-count : (ms : List ℕ) → length (waitings ms) ≡ length ms / 2
 unfolding waitings
@@ -45,10 +45,6 @@ length-at ms m h = ap (λ (w : Waiting). w .bytes) (waiting-at ms m h) ∙ sym (
 pub cabin-at : (ms : List ℕ) (m : ℕ) → m < length ms / 2 → cabinOf (waitings ms) m ≡ getD ms (2 * m + 1) 0
 unfolding cabinOf
 cabin-at ms m h = ap (λ (w : Waiting). w .cabin) (waiting-at ms m h)
-
-pub cabin-past : (ms : List ℕ) (m : ℕ) → length ms / 2 ≤ m → cabinOf (waitings ms) m ≡ 0
-unfolding cabinOf messageAt
-cabin-past ms m h = ap (λ (w : Waiting). w .cabin) (List·getD-eq-default (waitings ms) _ (omega (arith, waitings-count ms)))
 
 entry-at : (es : List ℕ) (i : ℕ) → i < length es / 2 → entryAt (entries es) i ≡ record { message = getD es (2 * i + 0) 0; burst = getD es (2 * i + 1) 0 }
 unfolding entries

@@ -1,26 +1,27 @@
--- The check by one pass over the entries is the check: `running-stuck`, `running-next`, `running-missing`, `running-sound`.
+-- The check by one pass over the entries is the check: `running-stuck`, `running-late`, `running-next`, `running-missing`, `running-sound`.
 -- The idea: what the pass keeps (the last burst, its bytes, a number above all messages so far) is all that `Fits` asks of the entries before.
 -- Assumes nothing.
 use mathlib.Core.Path.{_≡_, refl, sym, ap, _∙_, subst}
-use mathlib.Core.Bool.{Bool, true, false, _&&_, _||_, true≢false, false≢true}
+use mathlib.Core.Bool.{Bool, true, false, _&&_, _||_, true≢false}
 use mathlib.Core.List.{List, [], _∷_, _++_}
 use Prim.Native.Nat.{ℕ, zero, suc, _+_, _-_, _≤_, _<_}
 use native.Mathlib.Omega.{arith}
-use lib.ListN.{length, take, drop, getD, length-append}
-use lib.Seq.{take-suc, take-all, drop-cons, drop-length, getD-take, length-take-le}
+use lib.ListN.{length, take, drop}
+use lib.Seq.{take-suc, take-all, drop-cons, getD-take, length-take-le}
 use lib.Dec.{eqb, leb, ltb}
 use borrow.Author.Tests.{eqb-true, eqb-false, leb-true, leb-false, ltb-true, ltb-false, lt-ltb, le-ltb, le-leb, lt-leb, eq-eqb, ne-eqb}
 use Rattle.encoding.specs.Result.{pick}
-use Rattle.encoding.specs.ResultLaws.{both-true, either-false}
-use Rattle.bursts.specs.declared.Checked.{Checked}
+use Rattle.encoding.specs.ResultLaws.{both-true}
 use Rattle.bursts.specs.declared.Checked.the-variants.{Sound, Breaks}
 use Rattle.bursts.specs.declared.Packed.{Packed}
 use Rattle.bursts.specs.declared.Packed.the-variants.{Holds, Full}
-use Rattle.bursts.specs.Bursts.{Waiting, Entry, most, lengthOf, cabinOf, anyEntry, bytesIn, brokenBy, firstBroken, verdict, judge, missing}
+use Rattle.bursts.specs.declared.Risen.{Risen}
+use Rattle.bursts.specs.declared.Risen.the-variants.{To, Late}
+use Rattle.bursts.specs.Bursts.{Waiting, Entry, most, lengthOf, cabinOf, bytesIn, brokenBy, firstBroken, verdict, judge, missing}
 use Rattle.bursts.specs.BurstDemands.{noEntry, entryAt, Or, one, other, Begun}
 use Rattle.bursts.specs.BurstLaws.{any-found, any-none, Fits, fits-of, of-fits, begun-snoc, begun-empty, broken-here, broken-step, bytes-append, bytes-one, bytes-other}
 use Rattle.bursts.specs.BurstCounts.{missing-counted}
-use Rattle.bursts.specs.Running.{clashing, clashes, late, opening, mayFollow, packed, packing, entering}
+use Rattle.bursts.specs.Running.{Known, clashing, clashes, rising, opening, mayFollow, packed, packing, entering}
 
 pub drop-all : {A : Type 0} (n : ℕ) (l : List A) → length l ≤ n → drop n l ≡ []
 drop-all zero [] h = refl
@@ -54,6 +55,9 @@ room last left b = pick (eqb b last) left most
 
 holds≢full : {p : Packed} {h : ℕ} → p ≡ Holds h → p ≡ Full → ⊥
 holds≢full e f = let z : _≡_ {A = ℕ} 0 1 = cc in omega arith
+
+to≢late : {y : Risen} {a : ℕ} → y ≡ To a → y ≡ Late → ⊥
+to≢late e f = let z : _≡_ {A = ℕ} 0 1 = cc in omega arith
 
 holds-same : {p : Packed} {h k : ℕ} → p ≡ Holds h → p ≡ Holds k → h ≡ k
 holds-same e f = cc
@@ -115,6 +119,7 @@ pub record Running (ws : List Waiting) (es : List Entry) (i above last left : �
   pub below : (j : ℕ) → j < i → entryAt es j .message < above
   pub latest : (j : ℕ) → suc j ≡ i → entryAt es j .burst ≡ last
   pub start : i ≡ 0 → last ≡ 0
+  pub few : last ≤ i
   pub bytes : bytesIn ws last (take i es) + left ≡ most
   pub later : (c : ℕ) → last < c → bytesIn ws c (take i es) ≡ 0
   pub rest : judge ws es ≡ verdict ws es (firstBroken ws i (take i es) (drop i es))
@@ -127,6 +132,7 @@ running-begin ws es = record {
   below = λ j h. absurd (omega (arith, h));
   latest = λ j h. absurd (omega (arith, h));
   start = λ h. refl;
+  few = omega arith;
   bytes = refl;
   later = λ c h. refl;
   rest = refl;
@@ -153,6 +159,16 @@ module _ (ws : List Waiting) (es : List Entry) (i above last left : ℕ) (r : Ru
   follows-least b (first z h) = let s = r .start z in omega arith
   follows-least b (same n e) = omega arith
   follows-least b (new n e) = omega arith
+
+  -- nor does it exceed the number of entries
+  follows-few : (b : ℕ) → Follows i last b → b ≤ suc i
+  follows-few b (first z h) = omega arith
+  follows-few b (same n e) = omega (arith, r .few)
+  follows-few b (new n e) = omega (arith, r .few)
+
+  -- the messages so far are waiting ones
+  pub running-before : Known ws (take i es)
+  running-before = record { at = r .begun .known }
 
   -- an entry before is the same among the first i
   front : (j : ℕ) → j < i → entryAt (take i es) j ≡ entryAt es j
@@ -207,26 +223,13 @@ module _ (ws : List Waiting) (es : List Entry) (i above last left : ℕ) (r : Ru
     -- a message that clashes with one before
     running-clash : clashes ws (e .message) (take i es) ≡ true → Fits ws (take i es) e → ⊥
     unfolding clashes clashing
-    running-clash c f =
-        let w = any-found (λ x. clashing ws (e .message) (cabinOf ws (e .message)) (x .message)) (take i es) c in
-        go (w .0) (w .1) (eqb (entryAt (take i es) (w .0) .message) (e .message)) refl (w .2)
+    running-clash c f = go (any-found (λ x. clashing ws (e .message) (x .message)) (take i es) c)
       where
-        go : (j : ℕ) → j < length (take i es) → (t : Bool) → eqb (entryAt (take i es) j .message) (e .message) ≡ t
-            → t || (ltb (e .message) (entryAt (take i es) j .message) && eqb (cabinOf ws (entryAt (take i es) j .message)) (cabinOf ws (e .message))) ≡ true → ⊥
-        go j k true w v = f .new j k (eqb-true _ _ w)
-        go j k false w v =
-            let b = both-true (ltb (e .message) (entryAt (take i es) j .message)) _ v in
+        go : (j : ℕ) × (j < length (take i es)) × (clashing ws (e .message) (entryAt (take i es) j .message) ≡ true) → ⊥
+        go (j, k, w) =
+            let b = both-true (leb (e .message) (entryAt (take i es) j .message)) _ w in
             let o = f .order j k (eqb-true _ _ (b .1)) in
-            let l = ltb-true (e .message) (entryAt (take i es) j .message) (b .0) in
-            omega arith
-
-    running-late : late ws above (e .message) (take i es) ≡ true → Fits ws (take i es) e → ⊥
-    unfolding late
-    running-late c = running-clash (found (ltb (e .message) above) c)
-      where
-        found : (b : Bool) → pick b (clashes ws (e .message) (take i es)) false ≡ true → clashes ws (e .message) (take i es) ≡ true
-        found true w = w
-        found false w = absurd (false≢true w)
+            f .new j k (omega (arith, o, leb-true (e .message) (entryAt (take i es) j .message) (b .0)))
 
     -- no message before clashes: none is equal, and those of the cabin are lower
     record Early : Type 0 where
@@ -236,20 +239,19 @@ module _ (ws : List Waiting) (es : List Entry) (i above last left : ℕ) (r : Ru
     early-looked : clashes ws (e .message) (take i es) ≡ false → Early
     unfolding clashes clashing
     early-looked c = record {
-      apart = λ j k. eqb-false (entryAt (take i es) j .message) (e .message) (either-false (eqb (entryAt (take i es) j .message) (e .message)) _ (at j k) .0);
-      order = λ j k. ordered j (either-false (eqb (entryAt (take i es) j .message) (e .message)) _ (at j k) .1);
+      apart = λ j k q. let l = lower j k (ap (cabinOf ws) q) in away l q;
+      order = λ j k alike. let l = lower j k alike in omega arith;
     }
       where
-        at : (j : ℕ) → j < length (take i es) → clashing ws (e .message) (cabinOf ws (e .message)) (entryAt (take i es) j .message) ≡ false
-        at j k = any-none (λ x. clashing ws (e .message) (cabinOf ws (e .message)) (x .message)) (take i es) c j k
+        away : {x : ℕ} → x < e .message → x ≡ e .message → ⊥
+        away l q = omega arith
 
-        ordered : (j : ℕ) → (ltb (e .message) (entryAt (take i es) j .message) && eqb (cabinOf ws (entryAt (take i es) j .message)) (cabinOf ws (e .message))) ≡ false
-            → cabinOf ws (entryAt (take i es) j .message) ≡ cabinOf ws (e .message) → entryAt (take i es) j .message ≤ e .message
-        ordered j w alike = go (ltb (e .message) (entryAt (take i es) j .message)) refl (rw (eq-eqb _ _ alike) at w)
+        lower : (j : ℕ) → j < length (take i es) → cabinOf ws (entryAt (take i es) j .message) ≡ cabinOf ws (e .message) → entryAt (take i es) j .message < e .message
+        lower j k alike = let n = any-none (λ x. clashing ws (e .message) (x .message)) (take i es) c j k in go (leb (e .message) (entryAt (take i es) j .message)) refl (rw (eq-eqb _ _ alike) at n)
           where
-            go : (t : Bool) → ltb (e .message) (entryAt (take i es) j .message) ≡ t → (t && true) ≡ false → entryAt (take i es) j .message ≤ e .message
+            go : (t : Bool) → leb (e .message) (entryAt (take i es) j .message) ≡ t → (t && true) ≡ false → entryAt (take i es) j .message < e .message
             go true q w = absurd (true≢false w)
-            go false q w = ltb-false (e .message) (entryAt (take i es) j .message) q
+            go false q w = leb-false (e .message) (entryAt (take i es) j .message) q
 
     early-above : above ≤ e .message → Early
     early-above a = record { apart = λ j k q. less j k (lower j k) q; order = λ j k alike. let l = lower j k in omega arith }
@@ -259,14 +261,6 @@ module _ (ws : List Waiting) (es : List Entry) (i above last left : ℕ) (r : Ru
 
         less : (j : ℕ) → j < length (take i es) → entryAt (take i es) j .message < e .message → entryAt (take i es) j .message ≡ e .message → ⊥
         less j k l q = omega arith
-
-    early-of : late ws above (e .message) (take i es) ≡ false → Early
-    unfolding late
-    early-of p = go (ltb (e .message) above) refl p
-      where
-        go : (t : Bool) → ltb (e .message) above ≡ t → pick t (clashes ws (e .message) (take i es)) false ≡ false → Early
-        go true w p = early-looked p
-        go false w p = early-above (ltb-false (e .message) above w)
 
     -- an entry that breaks no rule
     module _ (o : Opens es) (p : ℕ) (known : e .message < length ws) (y : Early) (d : Held last left (e .burst) (lengthOf ws (e .message)) p) where
@@ -318,6 +312,7 @@ module _ (ws : List Waiting) (es : List Entry) (i above last left : ℕ) (r : Ru
         below = λ j k. below-at j k (ltb j i) refl;
         latest = λ j k. latest-at j k;
         start = λ z. absurd (omega (arith, z));
+        few = follows-few (e .burst) goes;
         bytes = let m = ap (bytesIn ws (e .burst)) more in omega (arith, m, bytes-append ws (e .burst) (take i es) (e ∷ []), bytes-one ws e, follows-bytes (e .burst) goes, d .fits, d .rest);
         later = λ c k. ap (bytesIn ws c) more ∙ omega (arith, bytes-append ws c (take i es) (e ∷ []), bytes-other ws c e (λ q. differ c k q), r .later c (omega (arith, follows-least (e .burst) goes, k)));
         rest =
@@ -342,43 +337,75 @@ module _ (ws : List Waiting) (es : List Entry) (i above last left : ℕ) (r : Ru
     -- by the tests in turn
     data Entered (x : Packed) : Type 0 where
       unknown : length ws ≤ e .message → x ≡ Full → Entered x
-      too-late : late ws above (e .message) (take i es) ≡ true → x ≡ Full → Entered x
-      goes-on : e .message < length ws → late ws above (e .message) (take i es) ≡ false → packing last left (e .burst) (lengthOf ws (e .message)) ≡ x → Entered x
+      goes-on : e .message < length ws → packing last left (e .burst) (lengthOf ws (e .message)) ≡ x → Entered x
 
-    entered : Entered (entering ws (take i es) above last left (e .message) (e .burst))
+    entered : Entered (entering ws last left (e .message) (e .burst))
     unfolding entering
-    entered = go (leb (length ws) (e .message)) refl (late ws above (e .message) (take i es)) refl
+    entered = go (leb (length ws) (e .message)) refl
       where
-        go : (t : Bool) → leb (length ws) (e .message) ≡ t → (u : Bool) → late ws above (e .message) (take i es) ≡ u
-            → Entered (pick t Full (pick u Full (packing last left (e .burst) (lengthOf ws (e .message)))))
-        go true w u v = unknown (leb-true (length ws) (e .message) w) refl
-        go false w true v = too-late v refl
-        go false w false v = goes-on (leb-false (length ws) (e .message) w) v refl
+        go : (t : Bool) → leb (length ws) (e .message) ≡ t → Entered (pick t Full (packing last left (e .burst) (lengthOf ws (e .message))))
+        go true w = unknown (leb-true (length ws) (e .message) w) refl
+        go false w = goes-on (leb-false (length ws) (e .message) w) refl
 
-    module _ (x : Packed) (q : x ≡ entering ws (take i es) above last left (e .message) (e .burst)) where
+    data Rose (x : Risen) : Type 0 where
+      over : above ≤ e .message → x ≡ To (suc (e .message)) → Rose x
+      clash : clashes ws (e .message) (take i es) ≡ true → x ≡ Late → Rose x
+      clear : e .message < above → clashes ws (e .message) (take i es) ≡ false → x ≡ To above → Rose x
+
+    rose : Rose (rising ws (take i es) above (e .message))
+    unfolding rising
+    rose = go (leb above (e .message)) refl (clashes ws (e .message) (take i es)) refl
+      where
+        go : (t : Bool) → leb above (e .message) ≡ t → (u : Bool) → clashes ws (e .message) (take i es) ≡ u → Rose (pick t (To (suc (e .message))) (pick u Late (To above)))
+        go true w u v = over (leb-true above (e .message) w) refl
+        go false w true v = clash v refl
+        go false w false v = clear (leb-false above (e .message) w) v refl
+
+    module _ (y : Risen) (q : y ≡ rising ws (take i es) above (e .message)) where
+      pub running-late : y ≡ Late → Breaks i ≡ judge ws es
+      running-late f = running-broken (go (subst Rose (sym q) rose))
+        where
+          go : Rose y → Fits ws (take i es) e → ⊥
+          go (over k g) t = to≢late g f
+          go (clash c g) t = running-clash c t
+          go (clear k c g) t = to≢late g f
+
+      -- what a message that may come says
+      record Came (a : ℕ) : Type 0 where
+        early : Early
+        more : above ≤ a
+        most-so-far : e .message < a
+
+      came : (a : ℕ) → y ≡ To a → Came a
+      came a f = go (subst Rose (sym q) rose)
+        where
+          go : Rose y → Came a
+          go (over k g) = let z : a ≡ suc (e .message) = cc in record { early = early-above k; more = omega arith; most-so-far = omega arith }
+          go (clash c g) = absurd (to≢late f g)
+          go (clear k c g) = let z : a ≡ above = cc in record { early = early-looked c; more = omega arith; most-so-far = omega arith }
+
+    module _ (x : Packed) (q : x ≡ entering ws last left (e .message) (e .burst)) where
       pub running-stuck : x ≡ Full → Breaks i ≡ judge ws es
       running-stuck f = running-broken (go (subst Entered (sym q) entered))
         where
           go : Entered x → Fits ws (take i es) e → ⊥
           go (unknown k g) t = omega (arith, k, t .known)
-          go (too-late l g) t = running-late l t
-          go (goes-on k l g) t = running-full (g ∙ f) t
+          go (goes-on k g) t = running-full (g ∙ f) t
 
-      pub running-known : (p : ℕ) → x ≡ Holds p → e .message < length ws
-      running-known p f = go (subst Entered (sym q) entered)
-        where
-          go : Entered x → e .message < length ws
-          go (unknown k g) = absurd (holds≢full f g)
-          go (too-late l g) = absurd (holds≢full f g)
-          go (goes-on k l g) = k
+      module _ (p : ℕ) (f : x ≡ Holds p) where
+        pub running-known : e .message < length ws
+        running-known = go (subst Entered (sym q) entered)
+          where
+            go : Entered x → e .message < length ws
+            go (unknown k g) = absurd (holds≢full f g)
+            go (goes-on k g) = k
 
-      pub running-next : Opens es → (p above′ : ℕ) → x ≡ Holds p → above ≤ above′ → e .message < above′ → Running ws es (suc i) above′ (e .burst) p
-      running-next o p above′ f a m = go (subst Entered (sym q) entered)
-        where
-          go : Entered x → Running ws es (suc i) above′ (e .burst) p
-          go (unknown k g) = absurd (holds≢full f g)
-          go (too-late l g) = absurd (holds≢full f g)
-          go (goes-on k l g) = running-step o p k (early-of l) (packing-held last left (e .burst) (lengthOf ws (e .message)) p (g ∙ f)) above′ a m
+        pub running-next : Opens es → (y : Risen) → y ≡ rising ws (take i es) above (e .message) → (a : ℕ) → y ≡ To a → Running ws es (suc i) a (e .burst) p
+        running-next o y s a t = go (came y s a t) (subst Entered (sym q) entered)
+          where
+            go : Came y s a → Entered x → Running ws es (suc i) a (e .burst) p
+            go c (unknown k g) = absurd (holds≢full f g)
+            go c (goes-on k g) = running-step o p k (c .early) (packing-held last left (e .burst) (lengthOf ws (e .message)) p (g ∙ f)) a (c .more) (c .most-so-far)
 
   -- the pass is over
   module _ (h : length es ≤ i) where

@@ -4,11 +4,11 @@
 ghost use mathlib.Core.Path.{_≡_};
 ghost use mathlib.Core.List.{_++_};
 ghost use Prim.Native.Nat.{suc, _-_, _*_, _/_, _≤_, _<_};
-ghost use lib.Dec.{leb};
+ghost use lib.Dec.{eqb, leb};
 ghost use lib.ListN.{length, take, drop};
 ghost use Rattle.encoding.specs.Result.{pick};
 ghost use Rattle.bursts.specs.Bursts.{most, waitings, entries as entriesOf, cabinOf, checking, tooLong, plan as planOf, entryNumbers, planning, plannedOf, planListed};
-ghost use Rattle.bursts.specs.Running.{clashing, clashes, late, opening, packed, packing, entering, foundOf};
+ghost use Rattle.bursts.specs.Running.{Known, clashing, clashes, rising, opening, packed, packing, entering, foundOf};
 
 // The plan is accepted; or the place of its 46.
 pub enum Checked {
@@ -26,6 +26,12 @@ pub enum Planned {
 enum Packed {
     Holds(u64),
     Full,
+}
+
+// The least number above a message and all before it; or the message may not come after one of them.
+enum Risen {
+    To(u64),
+    Late,
 }
 
 // A burst's number and the bytes that it has left.
@@ -51,21 +57,23 @@ fn put_in(room: u64, length: u64) -> Packed
     }
 }
 
-// The same of a burst, where the burst of the entry before is `last` and has so many bytes left.
+// The room of a burst, so many bursts after one that has `left` bytes left: these, or a whole burst.
+fn room(step: u64, left: u64) -> u64
+    ensures { λ r. ⌜ r ≡ pick (eqb step 0) left most ⌝ }
+{
+    if step == 0 { left } else { 340 }
+}
+
+// What is left of a burst after a message, where the burst of the entry before is `last` and has so many bytes left. The step to a lower burst wraps to a great one: one test refuses both.
 fn pack(last: u64, left: u64, burst: u64, length: u64) -> Packed
+    requires { ⌜ last < 18446744073709551615 ⌝ }
     ensures { λ r. ⌜ r ≡ packing last left burst length ⌝ }
 {
-    if burst == last {
-        return put_in(left, length);
-    }
-    if burst < last {
+    let step = std::num::wrapping_sub_u64(burst, last);
+    if 1 < step {
         return Packed::Full;
     }
-    if burst - last == 1 {
-        put_in(340, length)
-    } else {
-        Packed::Full
-    }
+    put_in(room(step, left), length)
 }
 
 // Whether the first burst number is 0, if there is an entry.
@@ -78,24 +86,20 @@ fn opens(entries: &[u64]) -> bool
     entries[1] == 0
 }
 
-// The cabin of a message; 0 if there is no such message.
+// The cabin of a message.
 fn cabin(messages: &[u64], m: u64) -> u64
+    requires { ⌜ m < length (now messages) / 2 ⌝ }
     ensures { λ r. ⌜ r ≡ cabinOf (waitings (now (messages .entry))) m ⌝ }
 {
-    if m < messages.len() as u64 / 2 {
-        messages[2 * m as usize + 1]
-    } else {
-        0
-    }
+    messages[2 * m as usize + 1]
 }
 
 // Whether message `other` may not be before message m, whose cabin is `own`: it is m, or a later message of that cabin.
 fn is_clash(messages: &[u64], m: u64, own: u64, other: u64) -> bool
-    ensures { λ r. ⌜ r ≡ clashing (waitings (now (messages .entry))) m own other ⌝ }
+    requires { ⌜ other < length (now messages) / 2 ⌝ }
+    requires { ⌜ own ≡ cabinOf (waitings (now messages)) m ⌝ }
+    ensures { λ r. ⌜ r ≡ clashing (waitings (now (messages .entry))) m other ⌝ }
 {
-    if other == m {
-        return true;
-    }
     if other < m {
         return false;
     }
@@ -105,6 +109,8 @@ fn is_clash(messages: &[u64], m: u64, own: u64, other: u64) -> bool
 // Whether one of the first n entries may not be before one of message m.
 fn is_late(messages: &[u64], entries: &[u64], n: usize, m: u64) -> bool
     requires { ⌜ n ≤ length (now entries) / 2 ⌝ }
+    requires { ⌜ m < length (now messages) / 2 ⌝ }
+    requires { ⌜ Known (waitings (now messages)) (take n (entriesOf (now entries))) ⌝ }
     ensures { λ r. ⌜ r ≡ clashes (waitings (now (messages .entry))) m (take n (entriesOf (now (entries .entry)))) ⌝ }
 {
     let own = cabin(messages, m);
@@ -118,47 +124,32 @@ fn is_late(messages: &[u64], entries: &[u64], n: usize, m: u64) -> bool
     false
 }
 
-// The same where all messages of the first n entries are below `above`: only a message below it is looked for.
-fn is_late_below(messages: &[u64], entries: &[u64], n: usize, above: u64, m: u64) -> bool
+// The least number above message m and those of the first n entries, which are below `above`; or m may not come after one of them. Only an m below `above` is looked for among them.
+fn rise(messages: &[u64], entries: &[u64], n: usize, above: u64, m: u64) -> Risen
     requires { ⌜ n ≤ length (now entries) / 2 ⌝ }
-    ensures { λ r. ⌜ r ≡ late (waitings (now (messages .entry))) above m (take n (entriesOf (now (entries .entry)))) ⌝ }
+    requires { ⌜ m < length (now messages) / 2 ⌝ }
+    requires { ⌜ Known (waitings (now messages)) (take n (entriesOf (now entries))) ⌝ }
+    ensures { λ r. ⌜ r ≡ rising (waitings (now (messages .entry))) (take n (entriesOf (now (entries .entry)))) above m ⌝ }
 {
-    if m < above {
-        is_late(messages, entries, n, m)
+    if above <= m {
+        return Risen::To(m + 1);
+    }
+    if is_late(messages, entries, n, m) {
+        Risen::Late
     } else {
-        false
+        Risen::To(above)
     }
 }
 
-// The bytes left in the burst after message m as entry n, or that the entry breaks a rule with the n entries before it.
-fn enter(
-    messages: &[u64],
-    entries: &[u64],
-    n: usize,
-    above: u64,
-    last: u64,
-    left: u64,
-    m: u64,
-    burst: u64,
-) -> Packed
-    requires { ⌜ n ≤ length (now entries) / 2 ⌝ }
-    ensures { λ r. ⌜ r ≡ entering (waitings (now (messages .entry))) (take n (entriesOf (now (entries .entry)))) above last left m burst ⌝ }
+// The bytes left in the burst after message m, if it is a waiting one.
+fn enter(messages: &[u64], last: u64, left: u64, m: u64, burst: u64) -> Packed
+    requires { ⌜ last < 18446744073709551615 ⌝ }
+    ensures { λ r. ⌜ r ≡ entering (waitings (now (messages .entry))) last left m burst ⌝ }
 {
     if messages.len() as u64 / 2 <= m {
         return Packed::Full;
     }
-    if is_late_below(messages, entries, n, above, m) {
-        return Packed::Full;
-    }
     pack(last, left, burst, messages[2 * m as usize])
-}
-
-// The least number above all message numbers so far and m.
-fn beyond(above: u64, m: u64) -> u64
-    requires { ⌜ m < 18446744073709551615 ⌝ }
-    ensures { λ r. ⌜ (above ≤ r) × (m < r) ⌝ }
-{
-    if m < above { above } else { m + 1 }
 }
 
 // The check of a plan: accepted exactly if it has the form of a plan, each message stands in it once, each burst has at most 340 bytes, and the messages of one cabin keep their order.
@@ -178,7 +169,7 @@ pub fn check_plan(messages: &[u64], entries: &[u64]) -> Checked
     while i < n {
         let m = entries[2 * i];
         let burst = entries[2 * i + 1];
-        let packed = enter(messages, entries, i, above, last, left, m, burst);
+        let packed = enter(messages, last, left, m, burst);
         match packed {
             Packed::Holds(rest) => {
                 left = rest;
@@ -187,7 +178,15 @@ pub fn check_plan(messages: &[u64], entries: &[u64]) -> Checked
                 return Checked::Breaks(i as u64);
             }
         }
-        above = beyond(above, m);
+        let risen = rise(messages, entries, i, above, m);
+        match risen {
+            Risen::To(a) => {
+                above = a;
+            }
+            Risen::Late => {
+                return Checked::Breaks(i as u64);
+            }
+        }
         last = burst;
         i += 1;
     }
@@ -198,17 +197,27 @@ pub fn check_plan(messages: &[u64], entries: &[u64]) -> Checked
     }
 }
 
-// The first message of more than 340 bytes.
+// The first message of more than 340 bytes. It looks at two messages a turn: a loop of one is so short that its speed depends on where the code lies.
 fn too_long(messages: &[u64]) -> Found
     ensures { λ r. ⌜ r ≡ foundOf (tooLong 0 (waitings (now (messages .entry)))) ⌝ }
 {
     let n = messages.len() / 2;
     let mut i = 0;
-    while i < n {
+    while i + 1 < n {
+        let next = i + 1;
         if 340 < messages[2 * i] {
             return Found::At(i as u64);
         }
-        i += 1;
+        if 340 < messages[2 * next] {
+            return Found::At(next as u64);
+        }
+        i += 2;
+    }
+    if n <= i {
+        return Found::Nowhere;
+    }
+    if 340 < messages[2 * i] {
+        return Found::At(i as u64);
     }
     Found::Nowhere
 }

@@ -1,6 +1,6 @@
--- The second number of the message's pair, if there is one. Assumes nothing.
+-- The second number of the message's pair. Assumes nothing.
 use borrow.Author.Needs.{needs}
-use Rattle.bursts.proofs.Packing.{cabin-known, cabin-none}
+use Rattle.bursts.proofs.Packing.{cabin-known}
 use Rattle.bursts.proofs.cabin.Statement.{statement}
 use Rattle.bursts.proofs.cabin.Tie as tie
 
@@ -12,5 +12,4 @@ cabin-spec =
     (λ c. search needs)  -- add-result
     (λ c. search needs)  -- mul-result-2
     (λ c. search needs)  -- shared-slice-read-result
-    (λ c. search cabin-known)  -- returns
-    (λ c. search cabin-none))  -- returns-2
+    (λ c. search cabin-known))  -- returns

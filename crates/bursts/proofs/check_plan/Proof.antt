@@ -2,7 +2,7 @@
 use Prim.Native.Nat.{_-_}
 use borrow.Author.Needs.{needs}
 use native.Mathlib.Omega.{arith}
-use Rattle.bursts.proofs.Judging.{Passed, judged-begin, judged-astray, judged-stuck, judged-known, judged-next, judged-missing, judged-sound}
+use Rattle.bursts.proofs.Judging.{Passed, judged-begin, judged-astray, judged-few, judged-before, judged-late, judged-stuck, judged-known, judged-next, judged-missing, judged-sound}
 use Rattle.bursts.proofs.check_plan.Statement.{statement}
 use Rattle.bursts.proofs.check_plan.Tie as tie
 
@@ -28,13 +28,16 @@ check-plan-spec =
     (λ c. omega arith)  -- add-burst
     (λ c. omega arith)  -- mul-burst-2
     (λ c. omega arith)  -- shared-slice-read-burst
-    (λ c κs. omega arith)  -- enter-requires
+    (λ c κs. search judged-few)  -- enter-requires
     (λ c. search needs)  -- enum-known-packed
     (λ c. search needs)  -- enum-told
     (λ c. judged-stuck _ _ _ _ _ _ (c .before .before .before .before .before .before .loop .inv) (c .before .before .before .before .before .loop-test .taken) _ (c .before .before .enter .ensures) (c .enum-told .given .1))  -- returns-2
-    (λ c κs. search judged-known)  -- beyond-requires
+    (λ c κs. (omega arith, (judged-known _ _ _ _ _ _ (c .before .before .before .before .before .before .before .loop .inv) (c .before .before .before .before .before .before .loop-test .taken) _ (c .before .before .before .enter .ensures) _ (c .before .packed .given .1), search judged-before)))  -- rise-requires
+    (λ c. search needs)  -- enum-known-risen
+    (λ c. search needs)  -- enum-told-2
+    (λ c. judged-late _ _ _ _ _ _ (c .before .before .before .before .before .before .before .before .before .before .loop .inv) (c .before .before .before .before .before .before .before .before .before .loop-test .taken) _ (c .before .before .rise .ensures) (c .enum-told2 .given .1))  -- returns-3
     (λ c. omega arith)  -- add-i
     (λ c. omega arith)  -- loop-less
-    (λ c. judged-next _ _ _ _ _ _ (c .before .before .before .before .before .before .before .before .loop .inv) (c .before .before .before .before .before .before .before .loop-test .taken) _ (c .before .before .before .before .enter .ensures) _ _ (c .before .before .packed .given .1) (c .beyond .ensures .0) (c .beyond .ensures .1))  -- loop-again
-    (λ c. search judged-missing)  -- returns-3
-    (λ c. search judged-sound))  -- returns-4
+    (λ c. judged-next _ _ _ _ _ _ (c .before .before .before .before .before .before .before .before .before .before .before .loop .inv) (c .before .before .before .before .before .before .before .before .before .before .loop-test .taken) _ (c .before .before .before .before .before .before .before .enter .ensures) _ (c .before .before .before .before .before .packed .given .1) _ (c .before .before .before .rise .ensures) _ (c .before .risen .given .1))  -- loop-again
+    (λ c. search judged-missing)  -- returns-4
+    (λ c. search judged-sound))  -- returns-5

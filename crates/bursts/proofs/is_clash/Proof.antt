@@ -1,6 +1,6 @@
--- By the order of the two message numbers. Assumes nothing.
+-- By the order of the two message numbers; equal ones are of one cabin. Assumes nothing.
 use borrow.Author.Needs.{needs}
-use Rattle.bursts.proofs.Packing.{clash-same, clash-lower, clash-greater}
+use Rattle.bursts.proofs.Packing.{clash-lower, clash-greater}
 use Rattle.bursts.proofs.is_clash.Statement.{statement}
 use Rattle.bursts.proofs.is_clash.Tie as tie
 
@@ -8,7 +8,6 @@ pub is-clash-spec : {M : Type 1} → statement M
 is-clash-spec =
     tie.close
     (tie.spec
-    (λ c. search clash-same)  -- returns
-    (λ c. search clash-lower)  -- returns-2
+    (λ c. search clash-lower)  -- returns
     (λ c κs. search needs)  -- cabin-requires
-    (λ c. search clash-greater))  -- returns-3
+    (λ c. search clash-greater))  -- returns-2

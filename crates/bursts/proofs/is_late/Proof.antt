@@ -2,7 +2,7 @@
 use Prim.Native.Nat.{_-_}
 use borrow.Author.Needs.{needs}
 use native.Mathlib.Omega.{arith}
-use Rattle.bursts.proofs.Looking.{Looking, looking-begin, looking-found, looking-next, looking-done}
+use Rattle.bursts.proofs.Looking.{Looking, looking-begin, looking-known, looking-found, looking-next, looking-done}
 use Rattle.bursts.proofs.is_late.Statement.{statement}
 use Rattle.bursts.proofs.is_late.Tie as tie
 
@@ -23,7 +23,7 @@ is-late-spec =
     (λ c. omega arith)  -- mul-is-clash
     (λ c. omega arith)  -- mul-is-clash-2
     (λ c. omega arith)  -- shared-slice-read-is-clash
-    (λ c κs. search needs)  -- is-clash-requires
+    (λ c κs. search (looking-known, needs))  -- is-clash-requires
     (λ c. search looking-found)  -- returns
     (λ c. omega arith)  -- add-j
     (λ c. omega arith)  -- loop-less

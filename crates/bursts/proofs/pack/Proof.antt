@@ -1,6 +1,6 @@
--- By the burst number: the last one, a lower one, the next, a later one. Assumes nothing.
+-- By the step from the last burst. Assumes nothing.
 use borrow.Author.Needs.{needs}
-use Rattle.bursts.proofs.Packing.{pack-on, pack-less, pack-new, pack-far}
+use Rattle.bursts.proofs.Packing.{pack-astray, pack-held}
 use Rattle.bursts.proofs.pack.Statement.{statement}
 use Rattle.bursts.proofs.pack.Tie as tie
 
@@ -8,9 +8,8 @@ pub pack-spec : {M : Type 1} → statement M
 pack-spec =
     tie.close
     (tie.spec
+    (λ c κs. search needs)  -- wrapping-sub-requires
+    (λ c. search pack-astray)  -- returns
+    (λ c κs. search needs)  -- room-requires
     (λ c κs. search needs)  -- put-in-requires
-    (λ c. search pack-on)  -- returns
-    (λ c. search pack-less)  -- returns-2
-    (λ c κs. search needs)  -- put-in-requires-2
-    (λ c. search pack-new)  -- returns-3
-    (λ c. search pack-far))  -- returns-4
+    (λ c. search pack-held))  -- returns-2

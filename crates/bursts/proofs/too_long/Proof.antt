@@ -1,7 +1,7 @@
 -- The loop's invariant: the messages left decide the answer. The measure is their number. Assumes nothing.
 use Prim.Native.Nat.{_-_}
 use native.Mathlib.Omega.{arith}
-use Rattle.bursts.proofs.Looking.{Seeking, seeking-begin, seeking-here, seeking-next, seeking-done}
+use Rattle.bursts.proofs.Looking.{Seeking, seeking-begin, seeking-first, seeking-second, seeking-on, seeking-here, seeking-next, seeking-done}
 use Rattle.bursts.proofs.too_long.Statement.{statement}
 use Rattle.bursts.proofs.too_long.Tie as tie
 
@@ -18,11 +18,22 @@ too-long-spec =
     Inv-loop
     μ-loop
     (λ c. search seeking-begin)  -- loop-holds
+    (λ c. omega (arith, c .loop .inv .inside))  -- add-loop
+    (λ c. omega arith)  -- add-next
     (λ c. omega arith)  -- mul-if1
     (λ c. omega arith)  -- mul-if1-2
     (λ c. omega arith)  -- shared-slice-read-if1
-    (λ c. search seeking-here)  -- returns
+    (λ c. search seeking-first)  -- returns
+    (λ c. omega arith)  -- mul-if2
+    (λ c. omega arith)  -- mul-if2-2
+    (λ c. omega arith)  -- shared-slice-read-if2
+    (λ c. search seeking-second)  -- returns-2
     (λ c. omega arith)  -- add-i
     (λ c. omega arith)  -- loop-less
-    (λ c. search seeking-next)  -- loop-again
-    (λ c. search seeking-done))  -- returns-2
+    (λ c. search seeking-on)  -- loop-again
+    (λ c. search seeking-done)  -- returns-3
+    (λ c. omega arith)  -- mul-if4
+    (λ c. omega arith)  -- mul-if4-2
+    (λ c. omega arith)  -- shared-slice-read-if4
+    (λ c. search seeking-here)  -- returns-4
+    (λ c. search (seeking-done, seeking-next)))  -- returns-5

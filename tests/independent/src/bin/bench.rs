@@ -44,6 +44,11 @@ const FREEZE: frost::Guard = frost::Guard { set: 0, tick: Some(1 << 31), start: 
 /// Setting a member takes at most so many times the time of reading the message (M-112).
 const SETTING: f64 = 1.5;
 
+/// 10,000 messages are planned, and a plan of them whose numbers rise is checked, in at most so many times the time of
+/// plain Rust, and of 1,000 messages (M-110).
+const PLAN: f64 = 1.2;
+const TEN_PLANS: f64 = 11.0;
+
 /// A table and a message under it, with the rows that the reader gives.
 #[derive(Clone)]
 struct Case {
@@ -407,31 +412,61 @@ impl<'a> Night<'a> {
     }
 }
 
-/// So many messages planned, and that plan checked; of some also a plan in falling order, each cabin with one message.
-fn run_bursts(count: u64) {
-    let waiting = |cabins: u64| (0..count).flat_map(move |i| [20 + i * 37 % 120, i * 7 % cabins]).collect::<Vec<_>>();
-    let messages = waiting(50);
+/// So many waiting messages of so many cabins.
+fn waiting(count: u64, cabins: u64) -> Vec<u64> {
+    (0..count).flat_map(|i| [20 + i * 37 % 120, i * 7 % cabins]).collect()
+}
+
+/// So many messages planned, and that plan checked.
+fn run_bursts(count: u64, bar: Option<f64>) -> [Result<(), String>; 2] {
+    let messages = waiting(count, 50);
     let (mut entries, mut other) = (vec![0; messages.len()], vec![0; messages.len()]);
-    report(
+    let planned = compare(
         &format!("plan of {count} messages"),
         || ffi::plan(black_box(&messages), &mut entries),
         || bursts::plan(black_box(&messages), &mut other).err().map_or(0, |(number, _)| number),
         0,
+        bar,
     );
-    let check = |what: &str, messages: &[u64], entries: &[u64]| {
-        report(
-            &format!("check of {count} messages, {what}"),
-            || ffi::check_plan(black_box(messages), black_box(entries)),
-            || bursts::check_plan(black_box(messages), black_box(entries)).map_or(46, |()| 0),
-            0,
-        );
-    };
-    check("rising", &messages, &entries);
-    if count <= 1_000 {
-        let messages = waiting(u64::MAX);
-        let falling: Vec<_> = (0..count).flat_map(|i| [count - 1 - i, i]).collect();
-        check("falling", &messages, &falling);
-    }
+    [planned, run_plan_check("rising", &messages, &entries, bar)]
+}
+
+/// A plan in falling order checked, each cabin with one message.
+fn run_falling(count: u64) {
+    let falling: Vec<_> = (0..count).flat_map(|i| [count - 1 - i, i]).collect();
+    // Without a bar none is missed.
+    let _ = run_plan_check("falling", &waiting(count, u64::MAX), &falling, None);
+}
+
+fn run_plan_check(what: &str, messages: &[u64], entries: &[u64], bar: Option<f64>) -> Result<(), String> {
+    compare(
+        &format!("check of {} messages, {what}", messages.len() / 2),
+        || ffi::check_plan(black_box(messages), black_box(entries)),
+        || bursts::check_plan(black_box(messages), black_box(entries)).map_or(46, |()| 0),
+        0,
+        bar,
+    )
+}
+
+/// The library's planner, and its check of that plan, on 10,000 messages against the same on 1,000.
+fn run_plan_lengths() -> [Result<(), String>; 2] {
+    let (many, few) = (waiting(10_000, 50), waiting(1_000, 50));
+    let (mut entries, mut other) = (vec![0; many.len()], vec![0; few.len()]);
+    let planned = compare(
+        "plan of 10000 : 1000 messages",
+        || ffi::plan(black_box(&many), &mut entries),
+        || ffi::plan(black_box(&few), &mut other),
+        0,
+        Some(TEN_PLANS),
+    );
+    let checked = compare(
+        "check of 10000 : 1000 messages, rising",
+        || ffi::check_plan(black_box(&many), black_box(&entries)),
+        || ffi::check_plan(black_box(&few), black_box(&other)),
+        0,
+        Some(TEN_PLANS),
+    );
+    [planned, checked]
 }
 
 /// A table of 256 rows and 1,024 members: structs of four ints, or of four members of the row before, and classes with
@@ -778,9 +813,14 @@ fn all_but_logs() -> Vec<String> {
         run_compare("compare: 256 rows, 1,024 members", false),
         run_compare("compare: the same, each struct of the row before", true),
     ];
-    run_bursts(1_000);
-    run_bursts(10_000);
+    let _ = run_bursts(1_000, None);
+    run_falling(1_000);
+    let plans = run_bursts(10_000, Some(PLAN));
     p2.run_report();
+
+    println!();
+    heads("long", "short");
+    let ten_plans = run_plan_lengths();
 
     println!();
     heads("call", "icehub_read");
@@ -809,5 +849,6 @@ fn all_but_logs() -> Vec<String> {
     println!();
     heads("call", "from_utf8");
     texts.iter().for_each(Case::run_text);
-    [setting, reporting].into_iter().chain(compared).chain(sheets).filter_map(Result::err).collect()
+    let bars = [setting, reporting].into_iter().chain(compared).chain(plans).chain(ten_plans).chain(sheets);
+    bars.filter_map(Result::err).collect()
 }
