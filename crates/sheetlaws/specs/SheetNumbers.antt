@@ -8,7 +8,7 @@
 use mathlib.Core.Path.{_≡_, refl, sym, ap, ap₂, _∙_}
 use mathlib.Core.Bool.{Bool, true, false, _||_}
 use mathlib.Core.List.{List, [], _∷_, _++_, map}
-use Prim.Native.Nat.{ℕ, zero, suc, _+_, _-_, _/_, _%_, _^_, _≤_, _<_}
+use Prim.Native.Nat.{ℕ, zero, suc, _+_, _%_, _^_, _≤_, _<_}
 use native.Mathlib.Omega.{arith}
 use lib.ListN.{length, take, drop, length-take}
 use lib.Seq.{drop-drop, take-take, take-add, drop-at}
@@ -118,8 +118,7 @@ pub record MeanIs (s : Sheet) (w r : ℕ) : Type 0 where
   pub few : total s ≤ most
   pub right : amiss (liftSheet s) ≡ false
   pub some : 0 < s .carriers
-  pub whole : w ≡ lift 4 (liftedSum (liftSheet s) / s .carriers)
-  pub rest : r ≡ liftedSum (liftSheet s) % s .carriers
+  pub told : meanOf (s .carriers) (liftedSum (liftSheet s)) ≡ IsMean w r
 
 pub mean-inv : (s : Sheet) (w r : ℕ) → mean s ≡ IsMean w r → MeanIs s w r
 unfolding mean meanOf
@@ -130,16 +129,12 @@ mean-inv s w r h = go (ltb most (total s)) refl (amiss (liftSheet s)) refl (s .c
     go true ea b eb n en h = let z : _≡_ {A = ℕ} 0 1 = cc in absurd (omega arith)
     go false ea true eb n en h = let z : _≡_ {A = ℕ} 0 1 = cc in absurd (omega arith)
     go false ea false eb zero en h = let z : _≡_ {A = ℕ} 0 1 = cc in absurd (omega arith)
-    go false ea false eb (suc n) en h =
-        let ew : lift 4 (liftedSum (liftSheet s) / suc n) ≡ w = cc in
-        let er : liftedSum (liftSheet s) % suc n ≡ r = cc in
-        record {
-          few = ltb-false most (total s) ea;
-          right = eb;
-          some = omega (arith, en);
-          whole = sym ew ∙ ap (λ (i : ℕ). lift 4 (liftedSum (liftSheet s) / i)) (sym en);
-          rest = sym er ∙ ap (λ (i : ℕ). liftedSum (liftSheet s) % i) (sym en);
-        }
+    go false ea false eb (suc n) en h = record {
+      few = ltb-false most (total s) ea;
+      right = eb;
+      some = omega (arith, en);
+      told = ap (λ (i : ℕ). meanOf i (liftedSum (liftSheet s))) en ∙ h;
+    }
 
 -- a sheet of at most 1,000,000 messages that 53 lets pass has the mean of its numbers
 pub mean-there : (s : Sheet) → total s ≤ most → amiss (liftSheet s) ≡ false → mean s ≡ meanOf (s .carriers) (liftedSum (liftSheet s))
