@@ -84,12 +84,12 @@ pub fn required(
     let all = table::members(table);
     let first = table::members_at(table, begin);
     let owner = table::type_row(table, begin, t);
+    let end = owner.a + owner.b;
     let mut m = owner.a;
-    let mut left = owner.b;
     let mut pos = 0;
     let mut k = count;
-    let mut next = owner.a + owner.b;
-    while left > 0 {
+    let mut next = end;
+    while m < end {
         let row = table::member_row_from(table, first, m);
         if row.mark == 0 {
             let step = put_member(
@@ -108,6 +108,7 @@ pub fn required(
                 Step::Took(n) => {
                     k += 1;
                     pos += n;
+                    m += 1;
                 }
                 Step::Fault(c, p) => {
                     return Members::Refused(c, pos + p);
@@ -115,9 +116,8 @@ pub fn required(
             }
         } else {
             next = wire::least(next, m);
+            m = table::chain::required_from(table, first, m + 1, end);
         }
-        m += 1;
-        left -= 1;
     }
     Members::Read(pos, k, next)
 }

@@ -4,21 +4,25 @@
 --   top-.., owner-..  the loop up a chain that looks for a row, or for the owner of a member
 --   takes-.., end-is  whether a row takes a member, and where its members end
 --   Optionals, optionals-..   the loop over a row's members that looks for a tag
+--   Skipping, skipping-..     the loops over member rows that pass optional rows, four at a time and one by one
 --   Passing, passing-..       the loop over the rows before a member that looks for a tag above its own
 use Prim.Native.Nat.{ℕ, zero, suc, _+_, _-_, _≤_, _<_}
-use mathlib.Core.Path.{_≡_, refl, sym, ap, ap₂, _∙_}
+use mathlib.Core.Path.{_≡_, refl, sym, ap, ap₂, _∙_, subst}
 use mathlib.Core.Bool.{Bool, true, false}
 use mathlib.Core.List.{List, _∷_}
 use native.Mathlib.Numerals.{add-one, sub-one}
 use native.Mathlib.Omega.{arith}
+use lib.ListN.{getD}
+use lib.Bits.{bitAnd, and-zero-r}
 use lib.Dec.{eqb, ltb}
 use borrow.Author.Tests.{le-leb, lt-leb, lt-ltb, le-ltb, eq-eqb, ne-eqb}
 use Rattle.encoding.specs.Result.{pick}
-use Rattle.encoding.specs.Table.{kind, field, isRecord, memberType, mark, tag, range, takes, any, base, upward, chain, Member, memberTy, optionalsIn, trees, lookup}
+use Rattle.wire.specs.At.{at-byte}
+use Rattle.encoding.specs.Table.{at, memberAt, kind, field, isRecord, memberType, mark, tag, range, takes, any, base, upward, chain, Member, memberTy, optionalsIn, trees, lookup}
 use Rattle.encoding.specs.TableLaws.{chain-row}
 use Rattle.table.specs.Found.{memberFound}
 use Rattle.table.specs.Rows.{IsMemberRow}
-use Rattle.table.specs.Tags.{optionalFrom, isAbove, firstAbove, behind}
+use Rattle.table.specs.Tags.{optionalFrom, firstRequired, isAbove, firstAbove, behind}
 use Rattle.table.specs.declared.MemberRow.{MemberRow}
 use Rattle.table.specs.declared.FoundMember.{FoundMember}
 use Rattle.table.specs.declared.FoundMember.the-variants.{At, Nothing}
@@ -175,3 +179,69 @@ module _ (T : List ℕ) (from m key i : ℕ) (inv : Passing T from m key i) wher
   pub passing-end : m ≤ i → m + 1 ≡ behind T from m key
   unfolding firstAbove
   passing-end h = let e : m - i ≡ 0 = omega arith in sym (inv ∙ rw e)
+
+-- ---- optional rows that are passed
+
+required-here : (T : List ℕ) (i end : ℕ) → i < end → mark T i ≡ 0 → firstRequired T i (end - i) ≡ i
+unfolding firstRequired
+required-here T i end h z = let e : end - i ≡ suc (end - (i + 1)) = omega arith in rw (e, z)
+
+required-past : (T : List ℕ) (i end : ℕ) → i < end → (mark T i ≡ 0 → ⊥) → firstRequired T i (end - i) ≡ firstRequired T (i + 1) (end - (i + 1))
+unfolding firstRequired
+required-past T i end h z = let e : end - i ≡ suc (end - (i + 1)) = omega arith in rw (e, ne-eqb (mark T i) 0 z, add-one i)
+
+-- the row that is looked at has the same first required row as row m
+pub record Skipping (T : List ℕ) (m end i : ℕ) : Type 0 where
+  pub begun : m ≤ i
+  pub within : i ≤ end
+  pub same : firstRequired T i (end - i) ≡ firstRequired T m (end - m)
+
+pub skipping-begin : (T : List ℕ) (m end : ℕ) → m ≤ end → {i : ℕ} → i ≡ m → Skipping T m end i
+skipping-begin T m end h q = rw q (record { begun = omega arith; within = h; same = refl })
+
+pub skipping-begun : (T : List ℕ) (m end r : ℕ) → firstRequired T r (end - r) ≡ firstRequired T m (end - m) → m ≤ r → r ≤ end → {i : ℕ} → i ≡ r → Skipping T m end i
+skipping-begun T m end r e l h q = rw q (record { begun = l; within = h; same = e })
+
+module _ (T : List ℕ) (m end i : ℕ) (inv : Skipping T m end i) where
+  pub skipping-same : firstRequired T i (end - i) ≡ firstRequired T m (end - m)
+  skipping-same = inv .same
+
+  pub skipping-past : m ≤ i
+  skipping-past = inv .begun
+
+  pub skipping-within : i ≤ end
+  skipping-within = inv .within
+
+  pub skipping-end : end ≤ i → end ≡ firstRequired T m (end - m)
+  unfolding firstRequired
+  skipping-end h =
+      let z : end - i ≡ 0 = omega arith in
+      let e : end ≡ i = omega (arith, inv .within) in
+      e ∙ (rw z at (inv .same))
+
+  module _ (h : i < end) (k : ℕ) (e : k ≡ mark T i) where
+    pub skipping-here : k ≡ 0 → i ≡ firstRequired T m (end - m)
+    skipping-here z = sym (required-here T i end h (sym e ∙ z)) ∙ inv .same
+
+    pub skipping-next : (k ≡ 0 → ⊥) → Skipping T m end (i + 1)
+    skipping-next z = record { begun = omega (arith, inv .begun); within = omega arith; same = sym (required-past T i end h (λ q. z (e ∙ q))) ∙ inv .same }
+
+-- four marks at a time
+some-mark : (a b c d : ℕ) → (bitAnd (bitAnd (bitAnd a b) c) d ≡ 0 → ⊥) → (a ≡ 0 → ⊥) × (b ≡ 0 → ⊥) × (c ≡ 0 → ⊥) × (d ≡ 0 → ⊥)
+some-mark a b c d h =
+    (λ z. h (rw z), λ z. h (rw (z, and-zero-r a)), λ z. h (rw (z, and-zero-r (bitAnd a b))), λ z. h (rw (z, and-zero-r (bitAnd (bitAnd a b) c))))
+
+mark-byte : (T : List ℕ) (i p : ℕ) → p ≡ memberAt T i + 2 → getD T p 0 ≡ mark T i
+unfolding mark
+mark-byte T i p e = sym (at-byte T p) ∙ ap (at T 1) e
+
+pub skipping-four : (T : List ℕ) (m end i : ℕ) → Skipping T m end i → 4 ≤ end - i → (p : ℕ) → p ≡ memberAt T i
+    → (bitAnd (bitAnd (bitAnd (getD T (p + 2) 0) (getD T (p + 2 + 8) 0)) (getD T (p + 2 + 16) 0)) (getD T (p + 2 + 24) 0) ≡ 0 → ⊥) → Skipping T m end (i + 4)
+skipping-four T m end i inv h p e n =
+    let M = some-mark (getD T (p + 2) 0) (getD T (p + 2 + 8) 0) (getD T (p + 2 + 16) 0) (getD T (p + 2 + 24) 0) n in
+    let a = skipping-next T m end i inv (omega arith) (getD T (p + 2) 0) (mark-byte T i (p + 2) (omega arith)) (M .0) in
+    let b = skipping-next T m end (i + 1) a (omega arith) (getD T (p + 2 + 8) 0) (mark-byte T (i + 1) (p + 2 + 8) (omega arith)) (M .1) in
+    let c = skipping-next T m end (i + 1 + 1) b (omega arith) (getD T (p + 2 + 16) 0) (mark-byte T (i + 1 + 1) (p + 2 + 16) (omega arith)) (M .2) in
+    let d = skipping-next T m end (i + 1 + 1 + 1) c (omega arith) (getD T (p + 2 + 24) 0) (mark-byte T (i + 1 + 1 + 1) (p + 2 + 24) (omega arith)) (M .3) in
+    let z : i + 1 + 1 + 1 + 1 ≡ i + 4 = omega arith in
+    subst (Skipping T m end) z d

@@ -3,6 +3,7 @@
 --   optionalFrom end from    the optional members among member rows `from` to `end` - 1, as declared
 --   firstOptional end m n    the first optional row of n from row m on, or `end`
 --   optionalStart t          row t's first optional member row, or the row after its member rows
+--   firstRequired m n        the first required row of n from row m on, or the row after them
 --   isAbove k m              member row m is optional and its tag is above k
 --   firstAbove k end m n     the first of these rows among n from row m on, or `end`
 --   behind from m k          where the look-up of a tag above k begins, once k was found at member row m by a look-up from row `from`
@@ -24,6 +25,10 @@ firstOptional T end m (suc n) = pick (eqb (mark T m) 0) (firstOptional T end (su
 
 unfoldable pub optionalStart : List ℕ → ℕ → ℕ
 optionalStart T t = firstOptional T (field T t 0 + field T t 1) (field T t 0) (field T t 1)
+
+unfoldable pub firstRequired : List ℕ → ℕ → ℕ → ℕ
+firstRequired T m zero = m
+firstRequired T m (suc n) = pick (eqb (mark T m) 0) m (firstRequired T (suc m) n)
 
 abbrev pub isAbove : List ℕ → ℕ → ℕ → Bool
 isAbove T k m = not (eqb (mark T m) 0) && ltb k (tag T m)

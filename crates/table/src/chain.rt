@@ -1,12 +1,12 @@
 // A record's bases, and the member rows that a row takes.
 use crate::FoundMember;
 ghost use mathlib.Core.Path.{_≡_};
-ghost use Prim.Native.Nat.{_+_, _≤_, _<_};
+ghost use Prim.Native.Nat.{_+_, _-_, _≤_, _<_};
 ghost use lib.ListN.{length};
 ghost use lib.Dec.{eqb};
 ghost use Rattle.encoding.specs.Table.{any, field, typesAt, membersAt, memberAt, takes, lookup, base, chain};
 ghost use Rattle.table.specs.Found.{memberFound};
-ghost use Rattle.table.specs.Tags.{optionalFrom, behind};
+ghost use Rattle.table.specs.Tags.{optionalFrom, firstRequired, behind};
 
 // The base row + 1, or 0 if row t has no base; a base that is not a smaller row is none. Here and below, `begin` is where the type rows begin.
 pub fn base(table: &[u8], begin: usize, t: usize) -> usize
@@ -118,6 +118,45 @@ pub fn tag_member(table: &[u8], first: usize, end: usize, from: usize, tag: usiz
         m += 1;
     }
     FoundMember::Nothing
+}
+
+// Row m, or a later one with the same first required row: four rows are passed at a time, as long as all four are optional. Rows m to `end` - 1 lie inside the table; `first` is where the member rows begin.
+// The marks of four rows are joined, so that four rows take one test: the result is 0 if one of the marks is 0.
+fn past_fours(table: &[u8], first: usize, m: usize, end: usize) -> usize
+    requires { ⌜ first ≡ membersAt (now table) ⌝ }
+    requires { ⌜ memberAt (now table) end ≤ length (now table) ⌝ }
+    requires { ⌜ m ≤ end ⌝ }
+    ensures { λ r. ⌜ firstRequired (now (table .entry)) r (end - r) ≡ firstRequired (now (table .entry)) m (end - m) ⌝ }
+    ensures { λ r. ⌜ (m ≤ r) × (r ≤ end) ⌝ }
+{
+    let mut i = m;
+    while 4 <= end - i {
+        let a = crate::member_at(table, first, i) + 2;
+        if table[a] & table[a + 8] & table[a + 16] & table[a + 24] == 0 {
+            return i;
+        }
+        i += 4;
+    }
+    i
+}
+
+// The first required row of member rows m to `end` - 1, or `end`; `first` is where the member rows begin.
+pub fn required_from(table: &[u8], first: usize, m: usize, end: usize) -> usize
+    requires { ⌜ (first ≡ membersAt (now table)) × (first < 1048576) ⌝ }
+    requires { ⌜ (m ≤ end) × (end ≤ 131072) ⌝ }
+    ensures { λ r. ⌜ (r ≡ firstRequired (now (table .entry)) m (end - m)) × ((m ≤ r) × (r ≤ end)) ⌝ }
+{
+    let mut i = m;
+    if crate::member_at(table, first, end) <= table.len() {
+        i = past_fours(table, first, m, end);
+    }
+    while i < end {
+        if crate::mark_from(table, first, i) == 0 {
+            return i;
+        }
+        i += 1;
+    }
+    end
 }
 
 // Where to look up the next tag, after `tag` was found at member row m by a look-up from row `from`: at the first optional row before m with a greater tag, else after m. `first` is where the member rows begin.
