@@ -62,7 +62,7 @@ fn put_member(
     }
 }
 
-// Reads the required members of owner t, as declared, and puts a row for each, from row `count` on; `at` is the place of the first. Gives the first optional row too.
+// Reads the required members of owner t, as declared, and puts a row for each, from row `count` on; `at` is the place of the first. Gives the first optional row too. Optional rows that follow each other are passed by one call.
 pub fn required(
     table: &[u8],
     begin: usize,

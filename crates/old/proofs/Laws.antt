@@ -1,6 +1,6 @@
--- Optionals in a line of descent: the loops over a row's members, up the line and over the rows after the top. Assumes nothing.
+-- Optionals in a line of descent: a row's members, the loops up the line and over the rows after the top. Assumes nothing.
 --
---   Members, members-..        the loop over a row's members: those left decide
+--   members-optional           some of a row's member rows is optional
 --   bars-row, -not             a row of the table
 --   above-here, -end, -next    the loop up the line
 --   inherits-row, -other, -plain   a row after the top
@@ -10,45 +10,41 @@
 --   line-above, -past, -below  the whole: some row of the line, up or down
 use Prim.Native.Nat.{ℕ, zero, suc, _+_, _-_, _≤_, _<_}
 use mathlib.Core.Path.{_≡_, refl, sym, ap, _∙_}
-use mathlib.Core.Bool.{Bool, true, false, _&&_, _||_, false≢true}
+use mathlib.Core.Bool.{Bool, true, false, not, _&&_, _||_, false≢true}
 use mathlib.Core.List.{List, [], _∷_}
-use native.Mathlib.Numerals.{add-one, sub-one}
+use native.Mathlib.Numerals.{sub-one}
 use native.Mathlib.Omega.{arith}
 use lib.Dec.{eqb, ltb}
 use borrow.Author.Tests.{eq-eqb, ne-eqb, eqb-true, lt-ltb, le-ltb, ltb-true}
+use Rattle.encoding.specs.Result.{pick}
 use Rattle.encoding.specs.ResultLaws.{both-true}
-use Rattle.encoding.specs.Table.{types, kind, field, isRecord, mark, range, any, trees, ownRows, optionalsIn, optionalMembers, base, upward, chain}
+use Rattle.encoding.specs.Types.{Ty}
+use Rattle.encoding.specs.Table.{types, kind, field, isRecord, mark, tag, range, any, trees, Member, memberTy, ownRows, optionalsIn, optionalMembers, base, upward, chain}
 use Rattle.encoding.specs.TableLaws.{chain-row, base-below}
 use Rattle.encoding.specs.RuleLaws.{any-none as none-after}
 use Rattle.encoding.specs.Old.{descends, related, anyOf, noOld}
-use Rattle.table.proofs.Ranges.{range-left, range-empty, any-here, any-next, any-none, any-never}
+use Rattle.table.specs.Tags.{hasOptional}
+use Rattle.table.proofs.Ranges.{any-here, any-next, any-none, any-never}
 
 -- ---- a row's members
 
-pub record Members (T : List ℕ) (t m left : ℕ) : Type 0 where
-  pub few : m + left < 131072
-  pub rest : anyOf (optionalMembers T t) ≡ anyOf (optionalsIn T (trees T) (range m left))
+rows-optional : (T : List ℕ) (l : List Ty) (n m : ℕ) → hasOptional T m n ≡ anyOf (optionalsIn T l (range m n))
+unfolding hasOptional any optionalsIn range anyOf
+rows-optional T l zero m = refl
+rows-optional T l (suc n) m = go (eqb (mark T m) 0) (rows-optional T l n (suc m))
+  where
+    rest : List Member
+    rest = optionalsIn T l (range (suc m) n)
 
-pub members-begin : (T : List ℕ) (t a b : ℕ) → a ≡ field T t 0 → b ≡ field T t 1 → a < 65536 → b < 65536 → Members T t a b
+    go : (b : Bool) → hasOptional T (suc m) n ≡ anyOf rest → not b || hasOptional T (suc m) n ≡ anyOf (pick b rest (record { row = m; key = tag T m; ty = memberTy T l m } ∷ rest))
+    go true e = e
+    go false e = refl
+
+pub members-optional : (T : List ℕ) (t a b : ℕ) → a ≡ field T t 0 → b ≡ field T t 1 → (r : Bool) → r ≡ hasOptional T a (a + b - a) → r ≡ anyOf (optionalMembers T t)
 unfolding optionalMembers ownRows
-members-begin T t a b ea eb ha hb = record { few = omega arith; rest = rw (ea, eb) }
-
-module _ (T : List ℕ) (t m left : ℕ) (inv : Members T t m left) where
-  pub members-end : left ≤ 0 → false ≡ anyOf (optionalMembers T t)
-  unfolding optionalsIn anyOf
-  members-end h = sym (inv .rest ∙ rw (range-empty m left h))
-
-  module _ (h : 0 < left) (k : ℕ) (e : k ≡ mark T m) where
-    pub members-here : (k ≡ 0 → ⊥) → true ≡ anyOf (optionalMembers T t)
-    unfolding optionalsIn anyOf
-    members-here n = sym (inv .rest ∙ rw (range-left m left h, ne-eqb (mark T m) 0 (λ z. n (e ∙ z))))
-
-    pub members-next : k ≡ 0 → Members T t (m + 1) (left - 1)
-    unfolding optionalsIn
-    members-next z = record {
-      few = omega (arith, inv .few);
-      rest = inv .rest ∙ rw (range-left m left h, eq-eqb (mark T m) 0 (sym e ∙ z));
-    }
+members-optional T t a b ea eb r e =
+    let z : a + b - a ≡ b = omega arith in
+    e ∙ ap (hasOptional T a) z ∙ rows-optional T (trees T) b a ∙ rw (ea, eb)
 
 -- ---- up the line
 

@@ -4,36 +4,28 @@ ghost use mathlib.Core.Path.{_≡_};
 ghost use mathlib.Core.Bool.{_&&_};
 ghost use Prim.Native.Nat.{_+_, _-_, _<_};
 ghost use lib.Dec.{ltb};
-ghost use Rattle.encoding.specs.Table.{types, typesAt, range, any, optionalMembers, chain};
+ghost use Rattle.encoding.specs.Table.{types, typesAt, membersAt, range, any, optionalMembers, chain};
 ghost use Rattle.encoding.specs.Old.{descends, anyOf, noOld};
 
-// Row t has optional members. Here and below, `begin` is where the type rows begin.
-fn has_optionals(table: &[u8], begin: usize, t: usize) -> bool
+// Row t has optional members. Here and below, `begin` is where the type rows begin, `first` where the member rows begin.
+fn has_optionals(table: &[u8], begin: usize, first: usize, t: usize) -> bool
     requires { ⌜ begin ≡ typesAt (now table) ⌝ }
+    requires { ⌜ (first ≡ membersAt (now table)) × (first < 1048576) ⌝ }
     ensures { λ r. ⌜ r ≡ anyOf (optionalMembers (now (table .entry)) t) ⌝ }
 {
-    let first = table::members_at(table, begin);
     let owner = table::type_row(table, begin, t);
-    let mut m = owner.a;
-    let mut left = owner.b;
-    while left > 0 {
-        if table::mark_from(table, first, m) != 0 {
-            return true;
-        }
-        m += 1;
-        left -= 1;
-    }
-    false
+    table::chain::has_optional(table, first, owner.a, owner.a + owner.b)
 }
 
 // Row o is one of the table's n rows, and has optional members.
-fn bars(table: &[u8], begin: usize, n: usize, o: usize) -> bool
+fn bars(table: &[u8], begin: usize, first: usize, n: usize, o: usize) -> bool
     requires { ⌜ begin ≡ typesAt (now table) ⌝ }
+    requires { ⌜ (first ≡ membersAt (now table)) × (first < 1048576) ⌝ }
     requires { ⌜ n ≡ types (now table) ⌝ }
     ensures { λ r. ⌜ r ≡ ltb o (types (now (table .entry))) && anyOf (optionalMembers (now (table .entry)) o) ⌝ }
 {
     if o < n {
-        return has_optionals(table, begin, o);
+        return has_optionals(table, begin, first, o);
     }
     false
 }
@@ -44,9 +36,10 @@ fn above(table: &[u8], begin: usize, n: usize, top: usize) -> bool
     requires { ⌜ n ≡ types (now table) ⌝ }
     ensures { λ r. ⌜ r ≡ any (λ o. ltb o (types (now (table .entry))) && anyOf (optionalMembers (now (table .entry)) o)) (chain (now (table .entry)) top) ⌝ }
 {
+    let first = table::members_at(table, begin);
     let mut o = top;
     loop {
-        if bars(table, begin, n, o) {
+        if bars(table, begin, first, n, o) {
             return true;
         }
         let b = table::chain::base(table, begin, o);
@@ -58,14 +51,15 @@ fn above(table: &[u8], begin: usize, n: usize, top: usize) -> bool
 }
 
 // Row t, after the top, descends from it and has optional members.
-fn inherits(table: &[u8], begin: usize, top: usize, t: usize) -> bool
+fn inherits(table: &[u8], begin: usize, first: usize, top: usize, t: usize) -> bool
     requires { ⌜ begin ≡ typesAt (now table) ⌝ }
+    requires { ⌜ (first ≡ membersAt (now table)) × (first < 1048576) ⌝ }
     requires { ⌜ top < t ⌝ }
     ensures { λ r. ⌜ r ≡ descends (now (table .entry)) top t && anyOf (optionalMembers (now (table .entry)) t) ⌝ }
 {
     if table::is_record(table::kind(table, begin, t)) {
         if table::chain::in_chain(table, t, top) {
-            return has_optionals(table, begin, t);
+            return has_optionals(table, begin, first, t);
         }
     }
     false
@@ -77,9 +71,10 @@ fn below(table: &[u8], begin: usize, n: usize, top: usize) -> bool
     requires { ⌜ top < n ⌝ }
     ensures { λ r. ⌜ r ≡ any (λ t. descends (now (table .entry)) top t && anyOf (optionalMembers (now (table .entry)) t)) (range (top + 1) (n - (top + 1))) ⌝ }
 {
+    let first = table::members_at(table, begin);
     let mut t = top + 1;
     while t < n {
-        if inherits(table, begin, top, t) {
+        if inherits(table, begin, first, top, t) {
             return true;
         }
         t += 1;

@@ -5,15 +5,16 @@
 --   takes-.., end-is  whether a row takes a member, and where its members end
 --   Optionals, optionals-..   the loop over a row's members that looks for a tag
 --   Skipping, skipping-..     the loops over member rows that pass optional rows, four at a time and one by one
+--   Searching, searching-..   the loops over member rows that look for an optional one, four rows at a time and one by one
 --   Passing, passing-..       the loop over the rows before a member that looks for a tag above its own
 use Prim.Native.Nat.{ℕ, zero, suc, _+_, _-_, _≤_, _<_}
 use mathlib.Core.Path.{_≡_, refl, sym, ap, ap₂, _∙_, subst}
-use mathlib.Core.Bool.{Bool, true, false}
+use mathlib.Core.Bool.{Bool, true, false, not}
 use mathlib.Core.List.{List, _∷_}
 use native.Mathlib.Numerals.{add-one, sub-one}
 use native.Mathlib.Omega.{arith}
 use lib.ListN.{getD}
-use lib.Bits.{bitAnd, and-zero-r}
+use lib.Bits.{bitAnd, bitOr, and-zero-r, and-le-l, and-le-r, or-add-and}
 use lib.Dec.{eqb, ltb}
 use borrow.Author.Tests.{le-leb, lt-leb, lt-ltb, le-ltb, eq-eqb, ne-eqb}
 use Rattle.encoding.specs.Result.{pick}
@@ -22,11 +23,11 @@ use Rattle.encoding.specs.Table.{at, memberAt, kind, field, isRecord, memberTyp
 use Rattle.encoding.specs.TableLaws.{chain-row}
 use Rattle.table.specs.Found.{memberFound}
 use Rattle.table.specs.Rows.{IsMemberRow}
-use Rattle.table.specs.Tags.{optionalFrom, firstRequired, isAbove, firstAbove, behind}
+use Rattle.table.specs.Tags.{optionalFrom, firstRequired, hasOptional, isAbove, firstAbove, behind}
 use Rattle.table.specs.declared.MemberRow.{MemberRow}
 use Rattle.table.specs.declared.FoundMember.{FoundMember}
 use Rattle.table.specs.declared.FoundMember.the-variants.{At, Nothing}
-use Rattle.table.proofs.Ranges.{range-more, range-none}
+use Rattle.table.proofs.Ranges.{range-more, range-none, any-here, any-next, any-none}
 
 -- ---- bases
 
@@ -235,13 +236,71 @@ mark-byte : (T : List ℕ) (i p : ℕ) → p ≡ memberAt T i + 2 → getD T p 0
 unfolding mark
 mark-byte T i p e = sym (at-byte T p) ∙ ap (at T 1) e
 
+-- what each of four rows keeps, by its mark, all four keep
+four-marks : (T : List ℕ) (i p : ℕ) → p ≡ memberAt T i → (Q S : ℕ → Type 0) → ((j : ℕ) → j < i + 4 → Q (mark T j) → S j → S (j + 1))
+    → Q (getD T (p + 2) 0) → Q (getD T (p + 2 + 8) 0) → Q (getD T (p + 2 + 16) 0) → Q (getD T (p + 2 + 24) 0) → S i → S (i + 4)
+four-marks T i p e Q S step q₀ q₁ q₂ q₃ start =
+    let a = step i (omega arith) (subst Q (mark-byte T i (p + 2) (omega arith)) q₀) start in
+    let b = step (i + 1) (omega arith) (subst Q (mark-byte T (i + 1) (p + 2 + 8) (omega arith)) q₁) a in
+    let c = step (i + 1 + 1) (omega arith) (subst Q (mark-byte T (i + 1 + 1) (p + 2 + 16) (omega arith)) q₂) b in
+    let d = step (i + 1 + 1 + 1) (omega arith) (subst Q (mark-byte T (i + 1 + 1 + 1) (p + 2 + 24) (omega arith)) q₃) c in
+    let z : i + 1 + 1 + 1 + 1 ≡ i + 4 = omega arith in
+    subst S z d
+
 pub skipping-four : (T : List ℕ) (m end i : ℕ) → Skipping T m end i → 4 ≤ end - i → (p : ℕ) → p ≡ memberAt T i
     → (bitAnd (bitAnd (bitAnd (getD T (p + 2) 0) (getD T (p + 2 + 8) 0)) (getD T (p + 2 + 16) 0)) (getD T (p + 2 + 24) 0) ≡ 0 → ⊥) → Skipping T m end (i + 4)
 skipping-four T m end i inv h p e n =
     let M = some-mark (getD T (p + 2) 0) (getD T (p + 2 + 8) 0) (getD T (p + 2 + 16) 0) (getD T (p + 2 + 24) 0) n in
-    let a = skipping-next T m end i inv (omega arith) (getD T (p + 2) 0) (mark-byte T i (p + 2) (omega arith)) (M .0) in
-    let b = skipping-next T m end (i + 1) a (omega arith) (getD T (p + 2 + 8) 0) (mark-byte T (i + 1) (p + 2 + 8) (omega arith)) (M .1) in
-    let c = skipping-next T m end (i + 1 + 1) b (omega arith) (getD T (p + 2 + 16) 0) (mark-byte T (i + 1 + 1) (p + 2 + 16) (omega arith)) (M .2) in
-    let d = skipping-next T m end (i + 1 + 1 + 1) c (omega arith) (getD T (p + 2 + 24) 0) (mark-byte T (i + 1 + 1 + 1) (p + 2 + 24) (omega arith)) (M .3) in
-    let z : i + 1 + 1 + 1 + 1 ≡ i + 4 = omega arith in
-    subst (Skipping T m end) z d
+    four-marks T i p e (λ k. k ≡ 0 → ⊥) (Skipping T m end) (λ j l q s. skipping-next T m end j s (omega arith) (mark T j) refl q) (M .0) (M .1) (M .2) (M .3) inv
+
+-- ---- an optional row that is looked for
+
+abbrev optional : List ℕ → ℕ → Bool
+optional T i = not (eqb (mark T i) 0)
+
+-- the rows from the one that is looked at decide
+pub record Searching (T : List ℕ) (m end i : ℕ) : Type 0 where
+  pub within : i ≤ end
+  pub same : hasOptional T i (end - i) ≡ hasOptional T m (end - m)
+
+pub searching-begin : (T : List ℕ) (m end : ℕ) → m ≤ end → {i : ℕ} → i ≡ m → Searching T m end i
+searching-begin T m end h q = rw q (record { within = h; same = refl })
+
+pub searching-begun : (T : List ℕ) (m end r : ℕ) → hasOptional T r (end - r) ≡ hasOptional T m (end - m) → r ≤ end → {i : ℕ} → i ≡ r → Searching T m end i
+searching-begun T m end r e h q = rw q (record { within = h; same = e })
+
+module _ (T : List ℕ) (m end i : ℕ) (inv : Searching T m end i) where
+  pub searching-same : hasOptional T i (end - i) ≡ hasOptional T m (end - m)
+  searching-same = inv .same
+
+  pub searching-within : i ≤ end
+  searching-within = inv .within
+
+  pub searching-end : end ≤ i → false ≡ hasOptional T m (end - m)
+  unfolding hasOptional
+  searching-end h = sym (any-none (optional T) i end h) ∙ inv .same
+
+  module _ (h : i < end) (k : ℕ) (e : k ≡ mark T i) where
+    pub searching-here : (k ≡ 0 → ⊥) → true ≡ hasOptional T m (end - m)
+    unfolding hasOptional
+    searching-here z = sym (any-here (optional T) i end h (rw (ne-eqb (mark T i) 0 (λ q. z (e ∙ q))))) ∙ inv .same
+
+    pub searching-next : k ≡ 0 → Searching T m end (i + 1)
+    unfolding hasOptional
+    searching-next z = record { within = omega arith; same = sym (any-next (optional T) i end h (rw (sym e ∙ z))) ∙ inv .same }
+
+-- four marks at a time
+no-mark : (a b c d : ℕ) → bitOr (bitOr (bitOr a b) c) d ≡ 0 → (a ≡ 0) × (b ≡ 0) × (c ≡ 0) × (d ≡ 0)
+no-mark a b c d h =
+    let x : bitOr (bitOr a b) c ≡ 0 = none (bitOr (bitOr a b) c) d h .0 in
+    let y : bitOr a b ≡ 0 = none (bitOr a b) c x .0 in
+    (none a b y .0, none a b y .1, none (bitOr a b) c x .1, none (bitOr (bitOr a b) c) d h .1)
+  where
+    none : (a b : ℕ) → bitOr a b ≡ 0 → (a ≡ 0) × (b ≡ 0)
+    none a b h = (omega (arith, or-add-and a b, and-le-r a b), omega (arith, or-add-and a b, and-le-l a b))
+
+pub searching-four : (T : List ℕ) (m end i : ℕ) → Searching T m end i → 4 ≤ end - i → (p : ℕ) → p ≡ memberAt T i
+    → bitOr (bitOr (bitOr (getD T (p + 2) 0) (getD T (p + 2 + 8) 0)) (getD T (p + 2 + 16) 0)) (getD T (p + 2 + 24) 0) ≡ 0 → Searching T m end (i + 4)
+searching-four T m end i inv h p e n =
+    let M = no-mark (getD T (p + 2) 0) (getD T (p + 2 + 8) 0) (getD T (p + 2 + 16) 0) (getD T (p + 2 + 24) 0) n in
+    four-marks T i p e (λ k. k ≡ 0) (Searching T m end) (λ j l q s. searching-next T m end j s (omega arith) (mark T j) refl q) (M .0) (M .1) (M .2) (M .3) inv

@@ -4,6 +4,7 @@
 --   firstOptional end m n    the first optional row of n from row m on, or `end`
 --   optionalStart t          row t's first optional member row, or the row after its member rows
 --   firstRequired m n        the first required row of n from row m on, or the row after them
+--   hasOptional m n          some row of n from row m on is optional
 --   isAbove k m              member row m is optional and its tag is above k
 --   firstAbove k end m n     the first of these rows among n from row m on, or `end`
 --   behind from m k          where the look-up of a tag above k begins, once k was found at member row m by a look-up from row `from`
@@ -14,7 +15,7 @@ use mathlib.Core.List.{List}
 use Prim.Native.Nat.{ℕ, zero, suc, _+_, _-_, _≤_, _<_}
 use lib.Dec.{eqb, ltb}
 use Rattle.encoding.specs.Result.{pick}
-use Rattle.encoding.specs.Table.{field, mark, tag, range, trees, Member, optionalsIn}
+use Rattle.encoding.specs.Table.{field, mark, tag, range, any, trees, Member, optionalsIn}
 
 unfoldable pub optionalFrom : List ℕ → ℕ → ℕ → List Member
 optionalFrom T end from = optionalsIn T (trees T) (range from (end - from))
@@ -29,6 +30,9 @@ optionalStart T t = firstOptional T (field T t 0 + field T t 1) (field T t 0) (f
 unfoldable pub firstRequired : List ℕ → ℕ → ℕ → ℕ
 firstRequired T m zero = m
 firstRequired T m (suc n) = pick (eqb (mark T m) 0) m (firstRequired T (suc m) n)
+
+unfoldable pub hasOptional : List ℕ → ℕ → ℕ → Bool
+hasOptional T m n = any (λ i. not (eqb (mark T i) 0)) (range m n)
 
 abbrev pub isAbove : List ℕ → ℕ → ℕ → Bool
 isAbove T k m = not (eqb (mark T m) 0) && ltb k (tag T m)

@@ -6,7 +6,7 @@ ghost use lib.ListN.{length};
 ghost use lib.Dec.{eqb};
 ghost use Rattle.encoding.specs.Table.{any, field, typesAt, membersAt, memberAt, takes, lookup, base, chain};
 ghost use Rattle.table.specs.Found.{memberFound};
-ghost use Rattle.table.specs.Tags.{optionalFrom, firstRequired, behind};
+ghost use Rattle.table.specs.Tags.{optionalFrom, firstRequired, hasOptional, behind};
 
 // The base row + 1, or 0 if row t has no base; a base that is not a smaller row is none. Here and below, `begin` is where the type rows begin.
 pub fn base(table: &[u8], begin: usize, t: usize) -> usize
@@ -157,6 +157,44 @@ pub fn required_from(table: &[u8], first: usize, m: usize, end: usize) -> usize
         i += 1;
     }
     end
+}
+
+// Row m, or a later one after which the same optional rows are left: four rows are passed at a time, as long as all four are required. Rows m to `end` - 1 lie inside the table; the marks are joined in the same way.
+fn past_requireds(table: &[u8], first: usize, m: usize, end: usize) -> usize
+    requires { ⌜ first ≡ membersAt (now table) ⌝ }
+    requires { ⌜ memberAt (now table) end ≤ length (now table) ⌝ }
+    requires { ⌜ m ≤ end ⌝ }
+    ensures { λ r. ⌜ hasOptional (now (table .entry)) r (end - r) ≡ hasOptional (now (table .entry)) m (end - m) ⌝ }
+    ensures { λ r. ⌜ r ≤ end ⌝ }
+{
+    let mut i = m;
+    while 4 <= end - i {
+        let a = crate::member_at(table, first, i) + 2;
+        if table[a] | table[a + 8] | table[a + 16] | table[a + 24] != 0 {
+            return i;
+        }
+        i += 4;
+    }
+    i
+}
+
+// Some of member rows m to `end` - 1 is optional; `first` is where the member rows begin.
+pub fn has_optional(table: &[u8], first: usize, m: usize, end: usize) -> bool
+    requires { ⌜ (first ≡ membersAt (now table)) × (first < 1048576) ⌝ }
+    requires { ⌜ (m ≤ end) × (end ≤ 131072) ⌝ }
+    ensures { λ r. ⌜ r ≡ hasOptional (now (table .entry)) m (end - m) ⌝ }
+{
+    let mut i = m;
+    if crate::member_at(table, first, end) <= table.len() {
+        i = past_requireds(table, first, m, end);
+    }
+    while i < end {
+        if crate::mark_from(table, first, i) != 0 {
+            return true;
+        }
+        i += 1;
+    }
+    false
 }
 
 // Where to look up the next tag, after `tag` was found at member row m by a look-up from row `from`: at the first optional row before m with a greater tag, else after m. `first` is where the member rows begin.

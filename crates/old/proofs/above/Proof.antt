@@ -11,10 +11,10 @@ use Rattle.old.proofs.above.Statement.{statement}
 use Rattle.old.proofs.above.Tie as tie
 
 abbrev Inv-loop : tie.InvT-loop
-Inv-loop table begin n top o₀ o = any (λ r. ltb r (types table) && anyOf (optionalMembers table r)) (chain table top) ≡ any (λ r. ltb r (types table) && anyOf (optionalMembers table r)) (chain table o)
+Inv-loop table begin n top first o₀ o = any (λ r. ltb r (types table) && anyOf (optionalMembers table r)) (chain table top) ≡ any (λ r. ltb r (types table) && anyOf (optionalMembers table r)) (chain table o)
 
 abbrev μ-loop : tie.MeasureT-loop
-μ-loop table begin n top o₀ o = o
+μ-loop table begin n top first o₀ o = o
 
 pub above-spec : {M : Type 1} → statement M
 above-spec =
@@ -22,6 +22,7 @@ above-spec =
     (tie.spec
     Inv-loop
     μ-loop
+    (λ c κs. search needs)  -- members-at-requires
     (λ c. refl)  -- loop-holds
     (λ c κs. search needs)  -- bars-requires
     (λ c. search above-here)  -- returns

@@ -7,10 +7,10 @@ use Rattle.old.proofs.below.Statement.{statement}
 use Rattle.old.proofs.below.Tie as tie
 
 abbrev Inv-loop : tie.InvT-loop
-Inv-loop table begin n top t₀ t = Rows table top n t
+Inv-loop table begin n top first t₀ t = Rows table top n t
 
 abbrev μ-loop : tie.MeasureT-loop
-μ-loop table begin n top t₀ t = n - t
+μ-loop table begin n top first t₀ t = n - t
 
 pub below-spec : {M : Type 1} → statement M
 below-spec =
@@ -18,6 +18,7 @@ below-spec =
     (tie.spec
     Inv-loop
     μ-loop
+    (λ c κs. search needs)  -- members-at-requires
     (λ c. omega arith)  -- add-t
     (λ c. search rows-begin)  -- loop-holds
     (λ c κs. search needs)  -- inherits-requires
