@@ -3,7 +3,7 @@
 --   Known ws es              the messages of entries are waiting ones
 --   clashing ws m x          message x may not be before message m: it is m, or a later message of m's cabin
 --   clashes ws m es          some entry's message may not be before message m
---   rising ws es above m     the least number above m and the messages of entries, which are below `above`; or m may not come after one of them
+--   rising ws es above m     a number above m and the messages of entries, which are below `above`; or m may not come after one of them
 --   opening es               the first burst number is 0
 --   mayFollow last b         burst b may follow burst `last`
 --   packed room n            what is left of so much room after a message of n bytes; or it is full

@@ -28,7 +28,7 @@ enum Packed {
     Full,
 }
 
-// The least number above a message and all before it; or the message may not come after one of them.
+// A number above a message and all before it; or the message may not come after one of them.
 enum Risen {
     To(u64),
     Late,
@@ -124,7 +124,7 @@ fn is_late(messages: &[u64], entries: &[u64], n: usize, m: u64) -> bool
     false
 }
 
-// The least number above message m and those of the first n entries, which are below `above`; or m may not come after one of them. Only an m below `above` is looked for among them.
+// A number above message m and those of the first n entries, which are below `above`; or m may not come after one of them. Only an m below `above` is looked for among them.
 fn rise(messages: &[u64], entries: &[u64], n: usize, above: u64, m: u64) -> Risen
     requires { ⌜ n ≤ length (now entries) / 2 ⌝ }
     requires { ⌜ m < length (now messages) / 2 ⌝ }

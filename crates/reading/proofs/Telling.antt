@@ -6,8 +6,6 @@
 --   unasked                            10s are lent where the checks are made; lent-ready: the shapes, where they are not
 --   anew-old, old-unasked              what is known of encoding 1.0 of slices taken anew; nothing is
 --   ready-known, ready-shapes          what is known where they are left out; blank-lent where they are made
---   passed-table, passed-shapes        what the pass knows where it says yes; blank-again where it does not
---   stop-found, ready-found            what the checks found; no-shapes, shapes-there the shapes then
 --   stop-walked, body-walked           a check refuses, or the walk over the body says all
 --   told-walked, told-listed           the answer of a walk
 --   rows-put                           a list that holds the rows, after they are put
@@ -25,7 +23,7 @@ use Rattle.encoding.specs.Result.{Res, ok, bad, pick, concat}
 use Rattle.encoding.specs.ResultLaws.{ok≢bad}
 use Rattle.encoding.specs.Number.{Bytes}
 use Rattle.encoding.specs.Slice.{sliced, compact}
-use Rattle.encoding.specs.Table.{fine, faults, members}
+use Rattle.encoding.specs.Table.{members}
 use Rattle.encoding.specs.Message.{Encoding, v10, v11, encodingNumber, Read, body, limit, rules, Row, rows, rowBytes, firstKnown, optionalsSkipped, slicesSkipped, Answer, refused, accepted, answer, room, within, reading, listed, readingOf}
 use Rattle.encoding.specs.MessageLaws.{length-rows}
 use Rattle.encoding.specs.declared.Reading.{Reading}
@@ -183,29 +181,6 @@ module _ (T : List ℕ) (top l : ℕ) (b : Bool) (s : List ℕ) (L : Lent T top 
 
   pub blank-lent : b ≡ false → s ≡ replicate 256 10
   blank-lent e = L .blank e
-
--- the pass said yes, or left 10s
-pub passed-shapes : (T s : List ℕ) (b : Bool) → (b ≡ true → s ≡ shapesOf T) → b ≡ true → (top l : ℕ) → checks T top 1 l ≡ Ready → s ≡ shapesOf T
-passed-shapes T s b f e top l h = f e
-
-pub passed-table : (T : List ℕ) (b : Bool) → (b ≡ true → faults T ≡ fine) → b ≡ true → faults T ≡ fine
-passed-table T b f e = f e
-
-pub blank-again : (s : List ℕ) (b : Bool) → (b ≡ false → s ≡ replicate 256 10) → b ≡ false → s ≡ replicate 256 10
-blank-again s b f e = f e
-
-module _ (T : List ℕ) (top l : ℕ) (p : Prepared) (ep : p ≡ checks T top 1 l) where
-  pub stop-found : (c q : ℕ) → p ≡ Stopped c q → Stopped c q ≡ checks T top 1 l
-  stop-found c q e = sym e ∙ ep
-
-  pub ready-found : p ≡ Ready → Ready ≡ checks T top 1 l
-  ready-found e = sym e ∙ ep
-
-  pub no-shapes : (c q : ℕ) → p ≡ Stopped c q → (s : List ℕ) → checks T top 1 l ≡ Ready → s ≡ shapesOf T
-  no-shapes c q e s h = let z : _≡_ {A = ℕ} 0 1 = cc in absurd (omega arith)
-
-  pub shapes-there : p ≡ Ready → (s : List ℕ) → (checks T top 1 l ≡ Ready → s ≡ shapesOf T) → s ≡ shapesOf T
-  shapes-there e s h = h (sym ep ∙ e)
 
 module _ (T : List ℕ) (top : ℕ) (m : List ℕ) (y : Bytes m) (p : Prepared) (ep : p ≡ checks T top 1 (length m)) where
   pub stop-walked : (c q : ℕ) → p ≡ Stopped c q → (out : List ℕ) → Walked T top m (Stop c q) out out

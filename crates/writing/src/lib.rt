@@ -1,13 +1,45 @@
 // The writer's calls: rows and a buffer to a message. None asks anything of its input.
 ghost use mathlib.Core.Path.{_≡_};
 ghost use Prim.Native.Nat.{_<_};
-ghost use lib.ListN.{length};
+ghost use lib.ListN.{length, replicate};
+ghost use Rattle.encoding.specs.Table.{typesAt};
 ghost use Rattle.encoding.specs.Write.{writing, output, writingOf};
+ghost use Rattle.prepare.specs.Preparing.{checks};
+ghost use Rattle.prepare.specs.declared.Prepared.the-variants.{Ready};
+ghost use Rattle.shapes.specs.Shapes.{shapesOf};
 ghost use Rattle.writer.specs.Messages.{outcomeOf};
 ghost use Rattle.writing.specs.Tell.{Fits, fitted, tells};
 use encoding::Writing;
 use prepare::Prepared;
 use writer::Outcome;
+
+// What `prepare` finds; if it refuses nothing, the shapes are filled. `begin` is where the type rows begin.
+// The reader has the same of its own: one function for both would not be inlined, and would cost each call 10 ns.
+fn prepared(
+    table: &[u8],
+    begin: usize,
+    top: usize,
+    format: usize,
+    len: usize,
+    shapes: &mut [u8; 256],
+) -> Prepared
+    requires { ⌜ begin ≡ typesAt (now table) ⌝ }
+    requires { ⌜ now shapes ≡ replicate 256 10 ⌝ }
+    ensures { λ r. ⌜ r ≡ checks (now (table .entry)) top format len ⌝ }
+    ensures { λ _. ⌜ (checks (now (table .entry)) top format len ≡ Ready → now (shapes .exit) ≡ shapesOf (now (table .entry))) ⌝ }
+{
+    if onepass::fill(table, begin, shapes) {
+        return prepare::after_rules(table, begin, top, format, len);
+    }
+    let p = prepare::prepare(table, top, format, len);
+    match p {
+        Prepared::Refused(c, q) => Prepared::Refused(c, q),
+        Prepared::Ready => {
+            shapes::fill(table, begin, shapes);
+            Prepared::Ready
+        }
+    }
+}
 
 // Checks and writes.
 fn checked(
@@ -23,13 +55,12 @@ fn checked(
     ensures { λ r. ⌜ (r ≡ outcomeOf (writing (now (table .entry)) top format count (now (rows .entry)) (now (buffer .entry)) (length (now (out .entry))))) × Fits r ⌝ }
     ensures { λ _. ⌜ now (out .exit) ≡ output (writing (now (table .entry)) top format count (now (rows .entry)) (now (buffer .entry)) (length (now (out .entry)))) (now (out .entry)) ⌝ }
 {
-    let p = prepare::prepare(table, top, format, buffer.len());
+    let mut shapes = [10u8; 256];
+    let begin = table::types_at(table);
+    let p = prepared(table, begin, top, format, buffer.len(), &mut shapes);
     match p {
         Prepared::Refused(c, q) => Outcome::Stopped(c, q),
         Prepared::Ready => {
-            let mut shapes = [10u8; 256];
-            let begin = table::types_at(table);
-            shapes::fill(table, begin, &mut shapes);
             writer::write_rows(
                 table,
                 begin,

@@ -1,6 +1,7 @@
 -- A check refuses, or the walk over the body says all. Assumes nothing.
 use borrow.Author.Needs.{needs}
-use Rattle.reading.proofs.Telling.{shapes-there, stop-walked, body-walked}
+use Rattle.reading.proofs.Telling.{stop-walked, body-walked}
+use Rattle.onepass.specs.PassLaws.{shapes-there}
 use Rattle.reading.proofs.checked.Statement.{statement}
 use Rattle.reading.proofs.checked.Tie as tie
 

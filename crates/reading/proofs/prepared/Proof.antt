@@ -1,6 +1,7 @@
 -- What is known, what the one pass knows, or what `prepare` finds, and the shapes. Assumes nothing.
 use borrow.Author.Needs.{needs}
-use Rattle.reading.proofs.Telling.{ready-known, ready-shapes, blank-lent, passed-table, passed-shapes, blank-again, stop-found, ready-found, no-shapes}
+use Rattle.reading.proofs.Telling.{ready-known, ready-shapes, blank-lent}
+use Rattle.onepass.specs.PassLaws.{passed-table, passed-shapes, blank-again, stop-found, ready-found, no-shapes}
 use Rattle.reading.proofs.prepared.Statement.{statement}
 use Rattle.reading.proofs.prepared.Tie as tie
 
