@@ -5,29 +5,31 @@
 --   alike-..                      two cells that are there say whether two indexes agree
 --   Structs, structs-..           the loop over the members of two structs
 --   listed-.., Lists, lists-..    the lists of two enums; enums-.. what two enums allow
---   rows-..                       two rows of one kind
---   Passed, passed-..             the search for the first index that agrees
+--   rows-..                       two rows
+--   Passed, passed-.., agrees-..  the search for the first index that agrees
+--   firsts-..                     two first indexes are equal exactly if the types agree
+--   rank-.., ranked-..            ranks; Sums, sums-.. their sum; weight-.., weighed-.. the weights of indexes
 --   own-.., Filled, filled-..     the cells of the old table and of both as they fill; all-.. those of all
-use Prim.Native.Nat.{ℕ, zero, suc, _+_, _-_, _≤_, _<_}
+use Prim.Native.Nat.{ℕ, zero, suc, _+_, _-_, _*_, _≤_, _<_}
 use mathlib.Core.Path.{_≡_, refl, sym, ap, ap₂, _∙_}
 use mathlib.Core.Bool.{Bool, true, false, _&&_, not, true≢false}
 use mathlib.Core.Logic.{⊎-elim}
-use mathlib.Core.List.{List, [], _∷_, map}
-use native.Mathlib.Nat.{eq-or-lt-of-le}
+use mathlib.Core.List.{List, map}
+use native.Mathlib.Nat.{eq-or-lt-of-le, zero-add, add-zero}
 use native.Mathlib.Numerals.{add-one}
 use native.Mathlib.Omega.{arith}
 use lib.ListN.{length, getD, set, length-set}
 use lib.Seq.{getD-set-same, getD-set-other}
 use lib.Dec.{eqb, leb, ltb}
-use borrow.Author.Tests.{leb-true, leb-false, le-leb, lt-leb, lt-ltb, le-ltb, ltb-true, ltb-false, eq-eqb, ne-eqb, eqb-true, eqb-false, not-true, not-false}
+use borrow.Author.Tests.{leb-true, leb-false, le-leb, lt-leb, lt-ltb, le-ltb, ltb-true, ltb-false, eq-eqb, ne-eqb, not-true, not-false}
 use Rattle.encoding.specs.Result.{pick, sameBytes}
 use Rattle.encoding.specs.ResultLaws.{sameBytes-ok}
-use Rattle.encoding.specs.Types.{upto, only, allowedOf, short, int, long, float, double, Ty, broken, bool, byte, string, proxy, oldProxy, num, enum, oldEnum, struct, seq, dict}
+use Rattle.encoding.specs.Types.{upto, only, allowedOf, short, int, long, float, double, Ty, nil, broken, bool, byte, string, proxy, oldProxy, num, enum, oldEnum, struct, seq, dict}
 use Rattle.encoding.specs.Table.{withLists, kind, field, greatest, members, memberType, listEntry, entriesOf, allowed, range, memberTy, memberTys, ownRows, tys, partTy, typeRows, trees, tyOf}
 use Rattle.encoding.specs.TableLaws.{rows-below, ty-past, below-ty, below-none, member-in, member-past, members-more, members-none, row-bool, row-byte, row-short, row-int, row-long, row-float, row-double, row-string, row-enum, row-struct, row-seq, row-dict, row-proxy, row-other}
 use Rattle.differences.specs.Compare.{sameAllowed, shape, enumsOf, membersOf, elementOf, valueOf, sameTy, sameTys}
-use Rattle.differences.specs.CompareLaws.{ty-ok, ty-equal, tys-ok}
-use Rattle.agreeing.specs.Agreeing.{indexed, sortAt, below, isListed, IsFirst, Firsts, Alike, Agreed}
+use Rattle.differences.specs.CompareLaws.{ty-ok, ty-equal}
+use Rattle.agreeing.specs.Agreeing.{indexed, sortAt, below, isListed, IsFirst, Firsts, Alike, Agreed, rankFrom, rank, Ranked, weigh, Weighed}
 use Rattle.table.specs.declared.TypeRow.{TypeRow}
 use Rattle.table.specs.Rows.{IsTypeRow, greatestOf}
 use Rattle.table.proofs.ByKind.{by-kind}
@@ -175,11 +177,11 @@ module _ (T : List ℕ) (t m : ℕ) where
 -- ---- two cells
 
 module _ (S T cells : List ℕ) (base x y : ℕ) (A : Alike S T cells base x y) where
-  pub alike-is : (i j : ℕ) → i < x → j < y → (b : Bool) → b ≡ eqb (getD cells i 0) (getD cells (base + j) 0) → b ≡ sameTy (indexed S i) (indexed T j)
+  alike-is : (i j : ℕ) → i < x → j < y → (b : Bool) → b ≡ eqb (getD cells i 0) (getD cells (base + j) 0) → b ≡ sameTy (indexed S i) (indexed T j)
   alike-is i j li lj b e = e ∙ A .same i j li lj
 
-  pub alike-below : (v : ℕ) → 0 < v → v < x → 0 < y → Alike S T cells base (v - 1 + 1) (y - 1 + 1)
-  alike-below v lv lx ly = record { same = λ i j li lj. A .same i j (omega arith) (omega arith) }
+  pub alike-upto : (v : ℕ) → v < x → Alike S T cells base v y
+  alike-upto v lv = record { same = λ i j li lj. A .same i j (omega arith) lj }
 
 module _ (S T cells : List ℕ) (base t u : ℕ) (ht : t < typeRows S) (hu : u < typeRows T) (A : Alike S T cells base (t + 1) (u + 1)) where
   pub part-is : (i a d x y : ℕ) → a ≡ field S t i → d ≡ field T u i → x ≡ below t a → x ≤ t → y ≡ below u d → y ≤ u → (b : Bool) → b ≡ eqb (getD cells x 0) (getD cells (base + y) 0)
@@ -355,6 +357,14 @@ module _ (S T : List ℕ) (t u : ℕ) where
 
 -- ---- two rows
 
+module _ (S T : List ℕ) (t u : ℕ) where
+  pub rows-heavier : (v w : ℕ) → v ≡ weigh S (membersOf (tyOf S t)) → w ≡ weigh S (membersOf (tyOf T u)) → (v ≡ w → ⊥) → false ≡ sameTy (tyOf S t) (tyOf T u)
+  rows-heavier v w ev ew h = go (sameTy (tyOf S t) (tyOf T u)) refl
+    where
+      go : (c : Bool) → sameTy (tyOf S t) (tyOf T u) ≡ c → false ≡ c
+      go true e = absurd (h (ev ∙ ap (λ (x : Ty). weigh S (membersOf x)) (ty-ok (tyOf S t) (tyOf T u) e) ∙ sym ew))
+      go false e = refl
+
 module _ (S T : List ℕ) (t u : ℕ) (ht : t < typeRows S) (hu : u < typeRows T) (j k : ℕ) (ej : j ≡ kind S t) (et : k ≡ kind T u) where
   pub rows-differ : k ≤ 12 → (j ≡ k → ⊥) → false ≡ sameTy (tyOf S t) (tyOf T u)
   rows-differ l h = go (sameTy (tyOf S t) (tyOf T u)) refl
@@ -435,20 +445,22 @@ module _ (S T : List ℕ) (n y k : ℕ) (ek : k ≡ sortAt T y) where
         go true e = absurd (q (ek ∙ sym (sort-is T y) ∙ sym (ap sortOf (ty-ok broken (indexed T y) e))))
         go false e = refl
 
-    module _ (x : ℕ) (P : Passed S T y x) (l : x < n) (lx : 0 < x) (b : Bool) (e : b ≡ sameTy (tyOf S (x - 1)) (tyOf T (y - 1))) where
-      here : b ≡ sameTy (indexed S x) (indexed T y)
-      here = e ∙ sym (ap₂ sameTy (indexed-row S x lx) (indexed-row T y (row-there T y k ek q)))
+-- index x and index y, whose sort is not 13
+module _ (S T : List ℕ) (x y k : ℕ) (lx : 0 < x) (ek : k ≡ sortAt T y) (q : k ≡ 13 → ⊥) where
+  pub agrees-is : (b : Bool) → b ≡ sameTy (tyOf S (x - 1)) (tyOf T (y - 1)) → b ≡ sameTy (indexed S x) (indexed T y)
+  agrees-is b e = e ∙ sym (ap₂ sameTy (indexed-row S x lx) (indexed-row T y (row-there T y k ek q)))
 
-      pub passed-found : b ≡ true → IsFirst S n (indexed T y) x
-      passed-found h = record { within = omega arith; others = P .others; found = λ z. sym here ∙ h }
+  pub agrees-parts : (cells : List ℕ) (base : ℕ) → Alike S T cells base x y → Alike S T cells base (x - 1 + 1) (y - 1 + 1)
+  agrees-parts cells base A = record { same = λ i j li lj. A .same i j (omega arith) (omega (arith, row-there T y k ek q)) }
 
-      pub passed-next : b ≡ false → Passed S T y (x + 1)
-      passed-next h = record {
-        others = λ i li. ⊎-elim (λ z. rw z (sym here ∙ h)) (λ z. P .others i z) (eq-or-lt-of-le {n = i} {m = x} (omega arith));
-      }
+module _ (S T : List ℕ) (n y x : ℕ) (P : Passed S T y x) (l : x < n) (b : Bool) (e : b ≡ sameTy (indexed S x) (indexed T y)) where
+  pub passed-found : b ≡ true → IsFirst S n (indexed T y) x
+  passed-found h = record { within = omega arith; others = P .others; found = λ z. sym e ∙ h }
 
-    pub parts-alike : (cells : List ℕ) (base x : ℕ) → Alike S T cells base n y → 0 < x → x < n → Alike S T cells base (x - 1 + 1) (y - 1 + 1)
-    parts-alike cells base x A lx l = alike-below S T cells base n y A x lx l (row-there T y k ek q)
+  pub passed-next : b ≡ false → Passed S T y (x + 1)
+  passed-next h = record {
+    others = λ i li. ⊎-elim (λ z. rw z (sym e ∙ h)) (λ z. P .others i z) (eq-or-lt-of-le {n = i} {m = x} (omega arith));
+  }
 
 module _ (S T : List ℕ) (y x n : ℕ) (P : Passed S T y x) where
   pub passed-end : n ≤ x → IsFirst S n (indexed T y) n
@@ -490,6 +502,153 @@ module _ (S : List ℕ) (n i c d : ℕ) (l : i < n) (C : IsFirst S i (indexed S 
       go true e = eq-eqb c d (firsts-equal (ty-ok (indexed S i) t e))
       go false e = ne-eqb c d (firsts-unlike e)
 
+-- ---- ranks and weights
+
+rank-from : (S : List ℕ) (t : Ty) (n i c : ℕ) → i ≤ c → c ≤ i + n → ((j : ℕ) → i ≤ j → j < c → sameTy (indexed S j) t ≡ false) → (c < i + n → sameTy (indexed S c) t ≡ true) → rankFrom S i n t ≡ c
+unfolding rankFrom
+rank-from S t zero i c l m before here = omega arith
+rank-from S t (suc n) i c l m before here = ⊎-elim
+    (λ z. let e : sameTy (indexed S i) t ≡ true = rw z (here (omega arith)) in rw e z)
+    (λ z. rw (before i (omega arith) z) (rank-from S t n (suc i) c z (omega arith) (λ j lj. before j (omega arith)) (λ q. here (omega arith))))
+    (eq-or-lt-of-le {n = i} {m = c} l)
+
+first-rank : (S : List ℕ) (t : Ty) (c : ℕ) → IsFirst S (typeRows S + 1) t c → c ≡ rank S t
+unfolding rank
+first-rank S t c F = sym (rank-from S t (typeRows S + 1) 0 c (omega arith) (omega (arith, F .within)) (λ j _ l. F .others j l) (λ q. F .found (omega arith)))
+
+rank-most : (S : List ℕ) (t : Ty) (n i : ℕ) → rankFrom S i n t ≤ i + n
+unfolding rankFrom
+rank-most S t zero i = omega arith
+rank-most S t (suc n) i = go (sameTy (indexed S i) t) (rank-most S t n (suc i))
+  where
+    go : (b : Bool) → rankFrom S (suc i) n t ≤ suc i + n → pick b i (rankFrom S (suc i) n t) ≤ i + suc n
+    go true h = omega arith
+    go false h = omega arith
+
+module _ (S T cells : List ℕ) (base y : ℕ) (R : Ranked S T cells base y) where
+  ranked-below : 0 < y → Ranked S T cells base (y - 1 + 1)
+  ranked-below l = record { rankOf = λ j lj. R .rankOf j (omega arith) }
+
+  ranked-small : (j : ℕ) → j < y → getD cells (base + j) 0 ≤ 257
+  unfolding rank
+  ranked-small j l = omega (arith, R .rankOf j l, rank-most S (indexed T j) (typeRows S + 1) 0, rows-below S)
+
+-- the place of a part's cell
+module _ (T : List ℕ) (base u r : ℕ) (h : u < typeRows T) (l : r ≤ u) (lb : base ≤ 257) where
+  pub place-fits : base + r < 18446744073709551616
+  place-fits = omega (arith, rows-below T)
+
+  pub place-scaled : (base + r) * 8 < 18446744073709551616
+  place-scaled = omega (arith, rows-below T)
+
+  pub place-inside : base + r < 514
+  place-inside = omega (arith, rows-below T)
+
+-- the sum of the cells of the first i of n members
+pub record Sums (S T : List ℕ) (u m n w i : ℕ) : Type 0 where
+  pub within : i ≤ n
+  pub small : w ≤ 257 * i
+  pub rest : weigh S (memberTys T (tys T u) (range m n)) ≡ w + weigh S (memberTys T (tys T u) (range (m + i) (n - i)))
+
+module _ (S T : List ℕ) (u m n : ℕ) where
+  pub sums-begin : Sums S T u m n 0 0
+  sums-begin =
+      let em : m + 0 ≡ m = omega arith in let en : n - 0 ≡ n = omega arith in
+      record { within = omega arith; small = omega arith; rest = rw (em, en) (sym (zero-add (weigh S (memberTys T (tys T u) (range m n))))) }
+
+  module _ (w i : ℕ) (inv : Sums S T u m n w i) where
+    pub sums-end : n ≤ i → w ≡ weigh S (memberTys T (tys T u) (range m n))
+    unfolding weigh
+    sums-end h = sym (inv .rest ∙ rw (members-none T (tys T u) (m + i) (n - i) (omega arith)) (add-zero w))
+
+    module _ (h : i < n) (cells : List ℕ) (base : ℕ) (R : Ranked S T cells base (u + 1)) (r : ℕ) (l : r ≤ u) where
+      pub sums-fit : n < 65536 → w + getD cells (base + r) 0 < 18446744073709551616
+      sums-fit g = omega (arith, inv .small, ranked-small S T cells base (u + 1) R r (omega arith))
+
+      pub sums-next : indexed T r ≡ memberTy T (tys T u) (m + i) → Sums S T u m n (w + getD cells (base + r) 0) (i + 1)
+      unfolding weigh
+      sums-next e =
+          let em : m + i + 1 ≡ m + (i + 1) = omega arith in let en : n - i - 1 ≡ n - (i + 1) = omega arith in
+          let q : getD cells (base + r) 0 ≡ rank S (memberTy T (tys T u) (m + i)) = R .rankOf r (omega arith) ∙ ap (rank S) e in
+          record {
+            within = omega arith;
+            small = omega (arith, inv .small, ranked-small S T cells base (u + 1) R r (omega arith));
+            rest = inv .rest ∙ rw (members-more T (tys T u) (m + i) (n - i) (omega arith), em, en) (rw (← q) (omega arith));
+          }
+
+members-nil : (t : Ty) → (sortOf t ≡ 9 → ⊥) → membersOf t ≡ nil
+unfolding sortOf membersOf
+members-nil broken h = refl
+members-nil bool h = refl
+members-nil byte h = refl
+members-nil string h = refl
+members-nil proxy h = refl
+members-nil oldProxy h = refl
+members-nil (num n) h = refl
+members-nil (enum g) h = refl
+members-nil (oldEnum g) h = refl
+members-nil (struct ts) h = absurd (h refl)
+members-nil (seq t) h = refl
+members-nil (dict k v) h = refl
+
+module _ (S T : List ℕ) (y k : ℕ) (ek : k ≡ sortAt T y) where
+  pub weight-none : (k ≡ 9 → ⊥) → 0 ≡ weigh S (membersOf (indexed T y))
+  unfolding weigh
+  weight-none h = sym (ap (weigh S) (members-nil (indexed T y) (λ q. h (ek ∙ sym (sort-is T y) ∙ q))))
+
+  module _ (q : k ≡ 9) where
+    no-13 : k ≡ 13 → ⊥
+    no-13 e = omega arith
+
+    pub weight-there : 0 < y
+    weight-there = row-there T y k ek no-13
+
+    pub weight-within : y - 1 < typeRows T
+    weight-within = row-within T y k ek no-13
+
+    pub weight-ranked : (cells : List ℕ) (base : ℕ) → Ranked S T cells base y → Ranked S T cells base (y - 1 + 1)
+    weight-ranked cells base R = ranked-below S T cells base y R weight-there
+
+    pub weight-is : (m n : ℕ) → m ≡ field T (y - 1) 0 → n ≡ field T (y - 1) 1 → (r : ℕ) → r ≡ weigh S (memberTys T (tys T (y - 1)) (range m n)) → r ≡ weigh S (membersOf (indexed T y))
+    unfolding membersOf
+    weight-is m n em en r er = er ∙ rw (em, en, indexed-row T y weight-there, row-struct T (y - 1) weight-within (sym (row-kind T y k ek no-13) ∙ q))
+
+module _ (S weights : List ℕ) where
+  pub weighed-begin : length weights ≡ 257 → Weighed S weights 0
+  weighed-begin e = record { size = e; weightOf = λ i l. absurd (omega arith) }
+
+  module _ (x : ℕ) (W : Weighed S weights x) where
+    pub weighed-next : (n : ℕ) → n ≡ typeRows S → x ≤ n → (w : ℕ) → w ≡ weigh S (membersOf (indexed S x)) → Weighed S (set weights x w) (x + 1)
+    weighed-next n en h w ew = record {
+      size = length-set weights x w ∙ W .size;
+      weightOf = λ i l. ⊎-elim
+          (λ z. rw z (getD-set-same weights x w 0 (omega (arith, rows-below S, W .size)) ∙ ew))
+          (λ z. getD-set-other weights x i w 0 (λ q. omega arith) ∙ W .weightOf i z)
+          (eq-or-lt-of-le {n = i} {m = x} (omega arith));
+    }
+
+    pub weighed-end : (n : ℕ) → n ≡ typeRows S → x ≤ n + 1 → n < x → Weighed S weights (typeRows S + 1)
+    weighed-end n en l h = let e : x ≡ typeRows S + 1 = omega arith in rw (← e) W
+
+    pub weighed-upto : (v : ℕ) → v < x → Weighed S weights (v + 1)
+    weighed-upto v l = record { size = W .size; weightOf = λ i li. W .weightOf i (omega arith) }
+
+  pub weighed-row : (x : ℕ) → Weighed S weights (x + 1) → 0 < x → getD weights x 0 ≡ weigh S (membersOf (tyOf S (x - 1)))
+  weighed-row x W l = W .weightOf x (omega arith) ∙ ap (λ (t : Ty). weigh S (membersOf t)) (indexed-row S x l)
+
+  pub weighed-all : Weighed S weights (typeRows S + 1) → (n : ℕ) → n ≡ typeRows S → Weighed S weights (n + 1)
+  weighed-all W n en = rw en W
+
+module _ (S : List ℕ) (x : ℕ) (h : x ≤ typeRows S) where
+  pub weights-scaled : x * 8 < 18446744073709551616
+  weights-scaled = omega (arith, rows-below S)
+
+  pub weights-inside : x < 257
+  weights-inside = omega (arith, rows-below S)
+
+pub weight-row : (S T : List ℕ) (y k w : ℕ) → k ≡ sortAt T y → (k ≡ 13 → ⊥) → w ≡ weigh S (membersOf (indexed T y)) → w ≡ weigh S (membersOf (tyOf T (y - 1)))
+weight-row S T y k w ek q e = e ∙ ap (λ (t : Ty). weigh S (membersOf t)) (indexed-row T y (row-there T y k ek q))
+
 module _ (S cells : List ℕ) where
   pub own-begin : length cells ≡ 514 → Firsts S cells 0
   own-begin e = record { size = e; each = λ i l. absurd (omega arith) }
@@ -497,6 +656,9 @@ module _ (S cells : List ℕ) where
   module _ (x : ℕ) (F : Firsts S cells x) where
     pub own-alike : Alike S S cells 0 x x
     own-alike = record { same = λ i j li lj. let e : 0 + j ≡ j = omega arith in rw e (firsts-are S x i _ _ li (F .each i li) (indexed S j) (own-more S j x _ lj (F .each j lj))) }
+
+    pub own-ranked : (n : ℕ) → n ≡ typeRows S → x ≤ n → Ranked S S cells 0 x
+    own-ranked n en h = record { rankOf = λ j l. let e : 0 + j ≡ j = omega arith in rw e (first-rank S (indexed S j) _ (own-more S j (typeRows S + 1) _ (omega arith) (F .each j l))) }
 
     pub own-next : (n : ℕ) → n ≡ typeRows S → x ≤ n → (v : ℕ) → IsFirst S x (indexed S x) v → Firsts S (set cells x v) (x + 1)
     own-next n en h v I = record {
@@ -522,6 +684,9 @@ module _ (S T cells : List ℕ) where
   module _ (y : ℕ) (F : Filled S T cells y) where
     filled-same : Alike S T cells 257 (typeRows S + 1) y
     filled-same = record { same = λ i j li lj. firsts-are S (typeRows S + 1) i _ _ li (F .old .each i li) (indexed T j) (F .new j lj) }
+
+    pub filled-ranked : Ranked S T cells 257 y
+    filled-ranked = record { rankOf = λ j l. first-rank S (indexed T j) _ (F .new j l) }
 
     pub filled-alike : (n : ℕ) → n ≡ typeRows S → Alike S T cells 257 (n + 1) y
     filled-alike n en = rw en filled-same

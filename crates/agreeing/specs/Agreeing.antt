@@ -8,6 +8,10 @@
 --   Firsts S cells x   the array has the cells of the indexes of S below x: each is the first index whose type is the same
 --   Alike S T cells base x y   the cells of the indexes of S below x and of those of T below y, which begin at place `base`: two are equal exactly if the types agree
 --   Agreed S T cells   so are those of all rows of both tables
+--   rank S t           the first index of S whose type is t, or the number of indexes if there is none
+--   Ranked S T cells base y   the cells of the indexes of T below y, which begin at place `base`, are the ranks of their types
+--   weigh S ts         the sum of the ranks of some types: the weight of a struct of these
+--   Weighed S weights x   an array has the weights of the indexes of S below x
 use Prim.Native.Nat.{ℕ, zero, suc, _+_, _≤_, _<_}
 use mathlib.Core.Path.{_≡_}
 use mathlib.Core.Bool.{Bool, true, false, _&&_, not}
@@ -15,9 +19,9 @@ use mathlib.Core.List.{List}
 use lib.ListN.{length, getD}
 use lib.Dec.{eqb, leb, ltb}
 use Rattle.encoding.specs.Result.{pick}
-use Rattle.encoding.specs.Types.{Ty, broken}
+use Rattle.encoding.specs.Types.{Ty, Tys, nil, cons, broken}
 use Rattle.encoding.specs.Table.{withLists, kind, field, greatest, typeRows, tyOf}
-use Rattle.differences.specs.Compare.{sameTy}
+use Rattle.differences.specs.Compare.{membersOf, sameTy}
 
 unfoldable pub indexed : List ℕ → ℕ → Ty
 indexed T zero = broken
@@ -47,3 +51,21 @@ pub record Alike (S T cells : List ℕ) (base x y : ℕ) : Type 0 where
 
 abbrev pub Agreed : (S T cells : List ℕ) → Type 0
 Agreed S T cells = Alike S T cells 257 (typeRows S + 1) (typeRows T + 1)
+
+unfoldable pub rankFrom : List ℕ → ℕ → ℕ → Ty → ℕ
+rankFrom S i zero t = i
+rankFrom S i (suc n) t = pick (sameTy (indexed S i) t) i (rankFrom S (suc i) n t)
+
+unfoldable pub rank : List ℕ → Ty → ℕ
+rank S t = rankFrom S 0 (typeRows S + 1) t
+
+pub record Ranked (S T cells : List ℕ) (base y : ℕ) : Type 0 where
+  pub rankOf : (j : ℕ) → j < y → getD cells (base + j) 0 ≡ rank S (indexed T j)
+
+unfoldable pub weigh : List ℕ → Tys → ℕ
+weigh S nil = 0
+weigh S (cons t ts) = rank S t + weigh S ts
+
+pub record Weighed (S weights : List ℕ) (x : ℕ) : Type 0 where
+  pub size : length weights ≡ 257
+  pub weightOf : (i : ℕ) → i < x → getD weights i 0 ≡ weigh S (membersOf (indexed S i))

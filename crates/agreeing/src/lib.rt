@@ -1,5 +1,6 @@
 // Which rows of two tables agree in type: a lent array with a cell for each row of both, which is the first row of the old table that agrees with it. So two rows agree exactly if their cells are equal.
 // A cell is set from the cells of the rows below, and no type tree is walked. The old table's cells come first, the new one's begin at place 257.
+// The weight of a struct is the sum of its members' cells: most structs that differ have different weights and are not compared further.
 // A row's index is its number + 1; index 0 is a broken type, which is what a row that the table does not have is.
 ghost use mathlib.Core.Path.{_≡_};
 ghost use mathlib.Core.List.{map};
@@ -8,8 +9,8 @@ ghost use lib.ListN.{length, getD};
 ghost use lib.Dec.{eqb};
 ghost use Rattle.encoding.specs.Result.{sameBytes};
 ghost use Rattle.encoding.specs.Table.{typesAt, membersAt, entriesAt, kind, field, listEntry, allowed, entriesOf, range, memberTy, memberTys, ownRows, tys, partTy, typeRows, trees, tyOf};
-ghost use Rattle.differences.specs.Compare.{sameAllowed, sameTy, sameTys};
-ghost use Rattle.agreeing.specs.Agreeing.{indexed, sortAt, below, isListed, Alike, IsFirst, Firsts, Agreed};
+ghost use Rattle.differences.specs.Compare.{sameAllowed, membersOf, sameTy, sameTys};
+ghost use Rattle.agreeing.specs.Agreeing.{indexed, sortAt, below, isListed, Alike, IsFirst, Firsts, Agreed, Ranked, weigh, Weighed};
 
 // What sort of type index x has: its row's kind, or 13 if it is broken. Here and below, `begin` is where the type rows begin.
 fn sort_at(table: &[u8], begin: usize, x: usize) -> usize
@@ -257,7 +258,55 @@ fn enums(old: &[u8], begin: usize, new: &[u8], start: usize, t: usize, u: usize)
         == table::greatest(table::type_row(new, start, u))
 }
 
-// Row t of the old table and row u, whose kind is k, agree.
+// The sum of the cells of the types of the n member rows from row m on, as parts of row u; `from` is where the member rows begin.
+fn sum(
+    old: &[u8],
+    table: &[u8],
+    from: usize,
+    cells: &[usize; 514],
+    base: usize,
+    u: usize,
+    m: usize,
+    n: usize,
+) -> usize
+    requires { ⌜ (from ≡ membersAt (now table)) × (from < 1048576) × (m < 65536) × (n < 65536) ⌝ }
+    requires { ⌜ (u < typeRows (now table)) × (base ≤ 257) ⌝ }
+    requires { ⌜ Ranked (now old) (now table) (now cells) base (u + 1) ⌝ }
+    ensures { λ r. ⌜ r ≡ weigh (now (old .entry)) (memberTys (now (table .entry)) (tys (now (table .entry)) u) (range m n)) ⌝ }
+{
+    let mut w = 0;
+    let mut i = 0;
+    while i < n {
+        w += cells[base + member_below(table, from, u, m + i)];
+        i += 1;
+    }
+    w
+}
+
+// The weight of index y: 0 if it is no struct.
+fn weight(
+    old: &[u8],
+    table: &[u8],
+    start: usize,
+    cells: &[usize; 514],
+    base: usize,
+    y: usize,
+) -> usize
+    requires { ⌜ (start ≡ typesAt (now table)) × (base ≤ 257) ⌝ }
+    requires { ⌜ Ranked (now old) (now table) (now cells) base y ⌝ }
+    ensures { λ r. ⌜ r ≡ weigh (now (old .entry)) (membersOf (indexed (now (table .entry)) y)) ⌝ }
+{
+    if sort_at(table, start, y) != 9 {
+        return 0;
+    }
+    let u = y - 1;
+    let from = table::members_at(table, start);
+    let m = table::field_a(table, start, u);
+    let n = table::field_b(table, start, u);
+    sum(old, table, from, cells, base, u, m, n)
+}
+
+// Row t of the old table, of weight v, and row u, of kind k and weight w, agree.
 fn rows(
     old: &[u8],
     begin: usize,
@@ -265,16 +314,22 @@ fn rows(
     start: usize,
     cells: &[usize; 514],
     base: usize,
+    v: usize,
+    w: usize,
     k: usize,
     t: usize,
     u: usize,
 ) -> bool
     requires { ⌜ (begin ≡ typesAt (now old)) × (start ≡ typesAt (now table)) ⌝ }
     requires { ⌜ (t < typeRows (now old)) × (u < typeRows (now table)) × (base ≤ 257) ⌝ }
+    requires { ⌜ (v ≡ weigh (now old) (membersOf (tyOf (now old) t))) × (w ≡ weigh (now old) (membersOf (tyOf (now table) u))) ⌝ }
     requires { ⌜ (k ≡ kind (now table) u) × (k ≤ 12) ⌝ }
     requires { ⌜ Alike (now old) (now table) (now cells) base (t + 1) (u + 1) ⌝ }
     ensures { λ r. ⌜ r ≡ sameTy (tyOf (now (old .entry)) t) (tyOf (now (table .entry)) u) ⌝ }
 {
+    if v != w {
+        return false;
+    }
     if table::kind(old, begin, t) != k {
         return false;
     }
@@ -296,7 +351,32 @@ fn rows(
     true
 }
 
-// The first index of the old table below `end` that agrees with index y of a table, or `end` if there is none. The array has the cells of the indexes below `end` and, from place `base` on, below y.
+// Index x of the old table and index y of a table, of sort k and weight w, agree.
+fn agrees(
+    old: &[u8],
+    begin: usize,
+    table: &[u8],
+    start: usize,
+    cells: &[usize; 514],
+    base: usize,
+    weights: &[usize; 257],
+    w: usize,
+    k: usize,
+    x: usize,
+    y: usize,
+) -> bool
+    requires { ⌜ (begin ≡ typesAt (now old)) × (start ≡ typesAt (now table)) ⌝ }
+    requires { ⌜ (0 < x) × (x ≤ typeRows (now old)) × (base ≤ 257) ⌝ }
+    requires { ⌜ Alike (now old) (now table) (now cells) base x y ⌝ }
+    requires { ⌜ Weighed (now old) (now weights) (x + 1) × (w ≡ weigh (now old) (membersOf (indexed (now table) y))) ⌝ }
+    requires { ⌜ (k ≡ sortAt (now table) y) × (k ≡ 13 → ⊥) ⌝ }
+    ensures { λ r. ⌜ r ≡ sameTy (indexed (now (old .entry)) x) (indexed (now (table .entry)) y) ⌝ }
+{
+    let v = weights[x];
+    rows(old, begin, table, start, cells, base, v, w, k, x - 1, y - 1)
+}
+
+// The first index of the old table below `end` that agrees with index y of a table, which has weight w, or `end` if there is none. The arrays have the cells and weights of the indexes below `end` and, from place `base` on, the cells of those below y.
 fn first(
     old: &[u8],
     begin: usize,
@@ -304,12 +384,15 @@ fn first(
     start: usize,
     cells: &[usize; 514],
     base: usize,
+    weights: &[usize; 257],
+    w: usize,
     end: usize,
     y: usize,
 ) -> usize
     requires { ⌜ (begin ≡ typesAt (now old)) × (start ≡ typesAt (now table)) ⌝ }
     requires { ⌜ (end ≤ typeRows (now old) + 1) × (base ≤ 257) ⌝ }
     requires { ⌜ Alike (now old) (now table) (now cells) base end y ⌝ }
+    requires { ⌜ Weighed (now old) (now weights) end × (w ≡ weigh (now old) (membersOf (indexed (now table) y))) ⌝ }
     ensures { λ r. ⌜ IsFirst (now (old .entry)) end (indexed (now (table .entry)) y) r ⌝ }
 {
     let k = sort_at(table, start, y);
@@ -318,7 +401,7 @@ fn first(
     }
     let mut x = 1;
     while x < end {
-        if rows(old, begin, table, start, cells, base, k, x - 1, y - 1) {
+        if agrees(old, begin, table, start, cells, base, weights, w, k, x, y) {
             return x;
         }
         x += 1;
@@ -326,32 +409,44 @@ fn first(
     end
 }
 
-// Sets the cells of the old table.
-fn fill_old(old: &[u8], begin: usize, cells: &mut [usize; 514])
+// Sets the cells and weights of the old table: an index that agrees with none before it is its own cell.
+fn fill_old(old: &[u8], begin: usize, cells: &mut [usize; 514], weights: &mut [usize; 257])
     requires { ⌜ begin ≡ typesAt (now old) ⌝ }
-    requires { ⌜ length (now cells) ≡ 514 ⌝ }
+    requires { ⌜ (length (now cells) ≡ 514) × (length (now weights) ≡ 257) ⌝ }
     ensures { λ _. ⌜ Firsts (now (old .entry)) (now (cells .exit)) (typeRows (now (old .entry)) + 1) ⌝ }
+    ensures { λ _. ⌜ Weighed (now (old .entry)) (now (weights .exit)) (typeRows (now (old .entry)) + 1) ⌝ }
 {
     let n = table::rows(old);
     let mut x = 0;
     while x <= n {
-        let c = first(old, begin, old, begin, cells, 0, x, x);
+        let w = weight(old, old, begin, cells, 0, x);
+        let c = first(old, begin, old, begin, cells, 0, weights, w, x, x);
         cells[x] = c;
+        weights[x] = w;
         x += 1;
     }
 }
 
-// Sets the cells of the new table; the array has those of the old one.
-fn fill_new(old: &[u8], begin: usize, new: &[u8], start: usize, cells: &mut [usize; 514])
+// Sets the cells of the new table; the arrays have the cells and weights of the old one.
+fn fill_new(
+    old: &[u8],
+    begin: usize,
+    new: &[u8],
+    start: usize,
+    cells: &mut [usize; 514],
+    weights: &[usize; 257],
+)
     requires { ⌜ (begin ≡ typesAt (now old)) × (start ≡ typesAt (now new)) ⌝ }
     requires { ⌜ Firsts (now old) (now cells) (typeRows (now old) + 1) ⌝ }
+    requires { ⌜ Weighed (now old) (now weights) (typeRows (now old) + 1) ⌝ }
     ensures { λ _. ⌜ Agreed (now (old .entry)) (now (new .entry)) (now (cells .exit)) ⌝ }
 {
     let end = table::rows(old) + 1;
     let n = table::rows(new);
     let mut y = 0;
     while y <= n {
-        let c = first(old, begin, new, start, cells, 257, end, y);
+        let w = weight(old, new, start, cells, 257, y);
+        let c = first(old, begin, new, start, cells, 257, weights, w, end, y);
         cells[257 + y] = c;
         y += 1;
     }
@@ -363,8 +458,9 @@ pub fn fill(old: &[u8], begin: usize, new: &[u8], start: usize, cells: &mut [usi
     requires { ⌜ length (now cells) ≡ 514 ⌝ }
     ensures { λ _. ⌜ Agreed (now (old .entry)) (now (new .entry)) (now (cells .exit)) ⌝ }
 {
-    fill_old(old, begin, cells);
-    fill_new(old, begin, new, start, cells);
+    let mut weights = [0usize; 257];
+    fill_old(old, begin, cells, &mut weights);
+    fill_new(old, begin, new, start, cells, &weights);
 }
 
 // Member row m of the old table and member row n of the new one agree in type.

@@ -1,16 +1,16 @@
 -- The loop's invariant: no index below x agrees. The measure is the indexes left. Assumes nothing.
 use Prim.Native.Nat.{_-_, _<_}
-use Rattle.agreeing.proofs.Cells.{Passed, first-broken, passed-begin, passed-found, passed-next, passed-end, row-there, row-within, row-kind, row-few, parts-alike}
+use Rattle.agreeing.proofs.Cells.{Passed, first-broken, passed-begin, passed-found, passed-next, passed-end, alike-upto, weighed-upto}
 use borrow.Author.Needs.{needs}
 use native.Mathlib.Omega.{arith}
 use Rattle.agreeing.proofs.first.Statement.{statement}
 use Rattle.agreeing.proofs.first.Tie as tie
 
 abbrev Inv-loop : tie.InvT-loop
-Inv-loop old begin table start cells base end y k x₀ x = (0 < x) × Passed old table y x
+Inv-loop old begin table start cells base weights w end y k x₀ x = (0 < x) × Passed old table y x
 
 abbrev μ-loop : tie.MeasureT-loop
-μ-loop old begin table start cells base end y k x₀ x = end - x
+μ-loop old begin table start cells base weights w end y k x₀ x = end - x
 
 pub first-spec : {M : Type 1} → statement M
 first-spec =
@@ -21,9 +21,7 @@ first-spec =
     (λ c κs. search needs)  -- sort-at-requires
     (λ c. search first-broken)  -- returns
     (λ c. (omega arith, search passed-begin))  -- loop-holds
-    (λ c. omega arith)  -- sub-rows
-    (λ c. search row-there)  -- sub-rows-2
-    (λ c κs. (search needs, ((omega arith, search row-within, search needs), ((search row-kind, search row-few), search parts-alike))))  -- rows-requires
+    (λ c κs. (search needs, ((omega arith, omega arith, search needs), (search alike-upto, ((search weighed-upto, search needs), search needs)))))  -- agrees-requires
     (λ c. search passed-found)  -- returns-2
     (λ c. omega arith)  -- add-x
     (λ c. omega arith)  -- loop-less

@@ -1,5 +1,5 @@
 -- By the kind of the two rows. Assumes nothing.
-use Rattle.agreeing.proofs.Cells.{rows-differ, rows-enum, rows-struct, rows-seq, rows-dict, rows-dict-not, rows-plain}
+use Rattle.agreeing.proofs.Cells.{rows-heavier, rows-differ, rows-enum, rows-struct, rows-seq, rows-dict, rows-dict-not, rows-plain}
 use borrow.Author.Needs.{needs}
 use Rattle.agreeing.proofs.rows.Statement.{statement}
 use Rattle.agreeing.proofs.rows.Tie as tie
@@ -8,8 +8,9 @@ pub rows-spec : {M : Type 1} → statement M
 rows-spec =
     tie.close
     (tie.spec
+    (λ c. search rows-heavier)  -- returns
     (λ c κs. search needs)  -- kind-requires
-    (λ c. search rows-differ)  -- returns
+    (λ c. search rows-differ)  -- returns-1
     (λ c κs. search needs)  -- enums-requires
     (λ c. search rows-enum)  -- returns-2
     (λ c κs. search needs)  -- structs-requires
