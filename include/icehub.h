@@ -607,7 +607,7 @@ uint32_t icehub_guard_fires(const uint8_t *state, size_t state_len, const uint8_
  * required position, 3 an optional tag. They come by record name (bytes compared, for one name in two kinds the old table's
  * first), parameter lists after records by their order; of each first the base, then required positions, then tags.
  *
- * A call needs about 28 KB of stack. Types are compared row by row, never by their trees. */
+ * A call needs about 30 KB of stack. Types are compared row by row, never by their trees. */
 
 /* Compares two tables. Returns ICEHUB_OK: `list` begins with the differences, and the bytes after these are unchanged. Or
  * returns a refusal, and `list` is unchanged: the rule that the old table breaks; the rule that the new one breaks, whose

@@ -11,6 +11,7 @@ use independent::night::night;
 use independent::sheet::{sheet, SHEET};
 use independent::spec::Spec;
 use independent::{bursts, convert, ffi, frost, read, set, write};
+use std::array;
 use std::cell::RefCell;
 use std::env;
 use std::hint::black_box;
@@ -469,15 +470,15 @@ fn run_plan_lengths() -> [Result<(), String>; 2] {
     [planned, checked]
 }
 
-/// A table of 256 rows and 1,024 members: structs of four ints, or of four members of the row before, and classes with
-/// required and optional members, `more` of which have another tag.
-fn wide_table(chained: bool, more: usize) -> Spec {
+/// A table of 256 rows and 1,024 members: structs of four members, first so many ints, then of the row before, and classes
+/// with required and optional members, `more` of which have another tag.
+fn wide_table(ints: usize, more: usize) -> Spec {
     let mut spec = Spec::default();
     let int = spec.basic(3);
     let mut last = int;
     for _ in 0..192 {
-        let part = if chained { last } else { int };
-        last = spec.owner(9, &[(part, None); 4]);
+        let parts: [_; 4] = array::from_fn(|i| (if i < ints { int } else { last }, None));
+        last = spec.owner(9, &parts);
     }
     for class in 0..63 {
         let tag = if class < more { 9 } else { 8 };
@@ -492,8 +493,8 @@ fn wide_table(chained: bool, more: usize) -> Spec {
 }
 
 /// Two of these tables compared; if the bar is missed, by what.
-fn run_compare(name: &str, chained: bool) -> Result<(), String> {
-    let (old, new, top) = (wide_table(chained, 0), wide_table(chained, 20), 193);
+fn run_compare(name: &str, ints: usize) -> Result<(), String> {
+    let (old, new, top) = (wide_table(ints, 0), wide_table(ints, 20), 193);
     let call = CompareCall { old: old.bytes(), old_top: top, new: new.bytes(), new_top: top, room: 65_536 };
     let (mut list, mut other) = (vec![0; call.room], vec![0; call.room]);
     compare(
@@ -810,8 +811,9 @@ fn all_but_logs() -> Vec<String> {
     endpoints();
 
     let compared = [
-        run_compare("compare: 256 rows, 1,024 members", false),
-        run_compare("compare: the same, each struct of the row before", true),
+        run_compare("compare: 256 rows, 1,024 members", 4),
+        run_compare("compare: the same, each struct of the row before", 0),
+        run_compare("compare: three ints and the row before", 3),
     ];
     let _ = run_bursts(1_000, None);
     run_falling(1_000);
