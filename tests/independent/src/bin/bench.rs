@@ -42,6 +42,14 @@ const COMPARED: f64 = 1.5;
 /// A frost guard in the middle of a freeze.
 const FREEZE: frost::Guard = frost::Guard { set: 0, tick: Some(1 << 31), start: Some(1 << 31), delay: Some(30) };
 
+/// Converting a compact record takes at most so many times the time of reading it (M-111), reading an exception of 1.0 at
+/// most the time of the same of 1.1 (M-104). A night takes at most the time of plain Rust, and so much of the time of single
+/// reads (M-107).
+const CONVERTING: f64 = 1.3;
+const OLD: f64 = 1.0;
+const NIGHT: f64 = 1.0;
+const SINGLE: f64 = 0.6;
+
 /// Setting a member takes at most so many times the time of reading the message (M-112).
 const SETTING: f64 = 1.5;
 
@@ -174,16 +182,17 @@ impl Case {
         assert!(out == *message);
     }
 
-    /// The converter against the reader of the same compact record.
-    fn run_conversion_call(&self, compact: &[u8]) {
+    /// The converter against the reader of the same compact record; if its bar is missed, by what.
+    fn run_conversion_call(&self, compact: &[u8]) -> Result<(), String> {
         let Case { name, table, top, message, rows, .. } = self;
         let (mut out, mut lent) = (vec![0; message.len()], vec![0; rows.len()]);
-        report(
+        compare(
             &format!("{name}: icehub_convert"),
             || ffi::convert(black_box(table), *top, black_box(compact), &mut out),
             || ffi::read(black_box(table), *top, black_box(compact), &mut lent),
             0,
-        );
+            Some(CONVERTING),
+        )
     }
 
     /// Setting the last member listed to the bytes that it has.
@@ -252,15 +261,16 @@ impl Case {
         )
     }
 
-    /// The reader of this message, of 1.0, against that of the same in 1.1.
-    fn run_against(&self, new: &Case) {
+    /// The reader of this message, of 1.0, against that of the same in 1.1; if its bar is missed, by what.
+    fn run_against(&self, new: &Case) -> Result<(), String> {
         let (mut lent, mut other) = (vec![0; self.rows.len()], vec![0; new.rows.len()]);
-        report(
+        compare(
             &format!("{}: icehub_read, against 1.1", self.name),
             || ffi::read(black_box(&self.table), self.top, black_box(&self.message), &mut lent),
             || ffi::read(black_box(&new.table), new.top, black_box(&new.message), &mut other),
             0,
-        );
+            Some(OLD),
+        )
     }
 
     /// The reader with its numbers, and the view of the last member listed, against the reader.
@@ -347,16 +357,18 @@ impl<'a> Night<'a> {
         (vec![0; 28 * self.count], vec![0; self.case.rows.len() * self.count])
     }
 
-    fn run(&self) {
+    fn run(&self) -> Result<(), String> {
         let Night { name, case: Case { table, top, .. }, buffer, count } = self;
         let ((mut answers, mut rows), (mut other, mut other_rows)) = (self.lists(), self.lists());
-        report(
+        let met = compare(
             &format!("night of {name}"),
             || ffi::night::night(black_box(table), *top, black_box(buffer), &mut answers, &mut rows) as u32,
             || night(black_box(table), *top, black_box(buffer), &mut other, &mut other_rows).0 as u32,
             *count as u32,
+            Some(NIGHT),
         );
         assert_eq!((answers, rows), (other, other_rows), "{name}");
+        met
     }
 
     /// The first member of all messages summed up.
@@ -395,11 +407,11 @@ impl<'a> Night<'a> {
     }
 
     /// The same messages by as many calls of the reader with its numbers.
-    fn run_single(&self) {
+    fn run_single(&self) -> Result<(), String> {
         let Night { name, case: Case { table, top, message, rows: list, .. }, buffer, count } = self;
         let (mut answers, mut rows) = self.lists();
         let (mut lent, mut numbers) = (vec![0; list.len()], [0; 20]);
-        report(
+        compare(
             &format!("night of {name}"),
             || ffi::night::night(black_box(table), *top, black_box(buffer), &mut answers, &mut rows) as u32,
             || {
@@ -409,7 +421,8 @@ impl<'a> Night<'a> {
                 *count as u32
             },
             *count as u32,
-        );
+            Some(SINGLE),
+        )
     }
 }
 
@@ -826,9 +839,9 @@ fn all_but_logs() -> Vec<String> {
 
     println!();
     heads("call", "icehub_read");
-    record.run_conversion_call(&compact);
+    let converting = record.run_conversion_call(&compact);
     let setting = record.run_setting_call();
-    old.run_against(&new);
+    let old_reading = old.run_against(&new);
     let reporting = p2.run_report_call();
     for case in [p2, record, many] {
         case.run_calls();
@@ -839,18 +852,19 @@ fn all_but_logs() -> Vec<String> {
     heads("library", "independent");
     let nights =
         [Night::new("10,000 of P2", &p2_night, 10_000), Night::new("under 1,024 members", &many_night, 10_000)];
-    nights.iter().for_each(Night::run);
+    let whole: Vec<_> = nights.iter().map(Night::run).collect();
     nights.iter().for_each(Night::run_sheet);
     println!();
     heads("icehub_sheet", "icehub_night");
     let sheets: Vec<_> = nights.iter().map(Night::run_sheet_against_night).collect();
     println!();
     heads("icehub_night", "read_numbers");
-    nights.iter().for_each(Night::run_single);
+    let single: Vec<_> = nights.iter().map(Night::run_single).collect();
 
     println!();
     heads("call", "from_utf8");
     texts.iter().for_each(Case::run_text);
-    let bars = [setting, reporting].into_iter().chain(compared).chain(plans).chain(ten_plans).chain(sheets);
+    let calls = [converting, setting, old_reading, reporting];
+    let bars = calls.into_iter().chain(compared).chain(plans).chain(ten_plans).chain(whole).chain(sheets).chain(single);
     bars.filter_map(Result::err).collect()
 }
