@@ -31,8 +31,8 @@ use Rattle.frost.specs.declared.Delay.the-variants.{Unset, Of}
 use Rattle.frost.specs.declared.Guard as code
 use Rattle.frost.specs.declared.Heard.{Heard}
 use Rattle.frost.specs.declared.Heard.the-variants.{Report, Silent}
-use Rattle.frost.specs.Frost.{raised, atOrBelow, millis, Guard, present, loneStart, badState, refuse, heard, reportOf, reportForm, judgedReport, coldAt, orNow, freeze, firesAt, Told, told, report}
-use Rattle.frost.specs.Code.{tickIn, delayIn, guardIn, toldIn, reportIn, heardIn, lowerThan, fieldsAt}
+use Rattle.frost.specs.Frost.{raised, atOrBelow, millis, Guard, present, loneStart, badState, refuse, heard, reportOf, reportForm, judgedReport, coldAt, orNow, freeze, firesAt, Told, told, report, Heard as HeardBy}
+use Rattle.frost.specs.Code.{tickIn, delayIn, guardIn, toldIn, reportIn, heardIn, lowerThan, numbersAt, fieldsAt}
 
 -- ---- numbers that are there
 
@@ -113,11 +113,15 @@ module _ (last : Option ℕ) (r t d : ℕ) where
     unfolding reportForm firstOf negative
     form-fine h l = rw (lt-leb 9223372036854775808 t n, sym ea, h, lt-leb 2147483648 d l)
 
+-- the numbers at three places
+pub numbers-told : (m : List ℕ) (x y z a b c : ℕ) → a ≡ at m 2 x → b ≡ at m 8 y → c ≡ at m 4 z → heard (reportIn a b c) ≡ numbersAt m x y z
+numbers-told m x y z a b c ea eb ec = rw (ea, eb, ec)
+
 -- three rows of a list, and the numbers at their places
 pub fields-told : (m l : List ℕ) (x y z : RowNumbers) → asRow x ≡ rowAt l 0 → asRow y ≡ rowAt l 1 → asRow z ≡ rowAt l 2
-    → (a b c : ℕ) → a ≡ at m 2 (x .place) → b ≡ at m 8 (y .place) → c ≡ at m 4 (z .place) → heard (reportIn a b c) ≡ fieldsAt m l
+    → (h : HeardBy) → h ≡ numbersAt m (x .place) (y .place) (z .place) → h ≡ fieldsAt m l
 unfolding fieldsAt
-fields-told m l x y z ex ey ez a b c ea eb ec = rw (ea, eb, ec, sym ex, sym ey, sym ez)
+fields-told m l x y z ex ey ez h e = e ∙ rw (sym ex, sym ey, sym ez)
 
 -- ---- the freeze
 

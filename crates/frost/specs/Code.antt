@@ -3,6 +3,7 @@
 --   tickIn, delayIn, guardIn, toldIn    a tick, a delay, a guard, an answer
 --   heardIn                             what a message says
 --   reportIn r t d                      a report of three numbers
+--   numbersAt m r t d                   the report whose numbers are at three places of a message
 --   fieldsAt m rows                     the report in three listed rows of a message
 --   lowerThan t s                       a tick is lower than another
 use mathlib.Core.Bool.{Bool}
@@ -43,8 +44,11 @@ abbrev pub heardIn : Heard.Heard → Frost.Heard
 heardIn (Report r t d) = Frost.heard (reportIn r (t .0) (d .0))
 heardIn (Silent n p) = Frost.refuse n p
 
+abbrev pub numbersAt : List ℕ → ℕ → ℕ → ℕ → Frost.Heard
+numbersAt m r t d = Frost.heard (reportIn (at m 2 r) (at m 8 t) (at m 4 d))
+
 unfoldable pub fieldsAt : List ℕ → List ℕ → Frost.Heard
-fieldsAt m rows = Frost.heard (reportIn (at m 2 (rowAt rows 0 .place)) (at m 8 (rowAt rows 1 .place)) (at m 4 (rowAt rows 2 .place)))
+fieldsAt m rows = numbersAt m (rowAt rows 0 .place) (rowAt rows 1 .place) (rowAt rows 2 .place)
 
 abbrev pub lowerThan : ℕ → ℕ → Bool
 lowerThan t s = ltb t s

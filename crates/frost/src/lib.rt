@@ -7,7 +7,7 @@ ghost use Prim.Native.Nat.{_+_};
 ghost use lib.Dec.{leb};
 ghost use Rattle.encoding.specs.Number.{negative};
 ghost use Rattle.frost.specs.Frost.{raised, atOrBelow, millis, start as startOf, present, loneStart, badState, reportOf, reportForm, orNow, freeze, firesAt, refuse, heard, told, report as reportBy};
-ghost use Rattle.frost.specs.Code.{tickIn, delayIn, guardIn, toldIn, heardIn, fieldsAt, reportIn, lowerThan};
+ghost use Rattle.frost.specs.Code.{tickIn, delayIn, guardIn, toldIn, heardIn, numbersAt, fieldsAt, reportIn, lowerThan};
 use encoding::Reading;
 
 // Milliseconds, as the pattern of a long.
@@ -214,6 +214,17 @@ fn is_bad(guard: Guard) -> bool
 
 // ---- a report
 
+// The report whose numbers are at three places of a message.
+fn numbers_at(message: &[u8], reading: usize, tick: usize, delay: usize) -> Heard
+    ensures { λ r. ⌜ heardIn r ≡ numbersAt (now (message .entry)) reading tick delay ⌝ }
+{
+    Heard::Report(
+        wire::short_at(message, reading) as u16,
+        Millis(wire::long_at(message, tick) as u64),
+        Seconds(wire::int_at(message, delay) as u32),
+    )
+}
+
 // The report in three listed rows of an accepted message.
 fn fields(message: &[u8], rows: &[u8]) -> Heard
     ensures { λ r. ⌜ heardIn r ≡ fieldsAt (now (message .entry)) (now (rows .entry)) ⌝ }
@@ -221,14 +232,11 @@ fn fields(message: &[u8], rows: &[u8]) -> Heard
     let reading = wire::rows::row_at(rows, 0);
     let tick = wire::rows::row_at(rows, 1);
     let delay = wire::rows::row_at(rows, 2);
-    Heard::Report(
-        wire::short_at(message, reading.place) as u16,
-        Millis(wire::long_at(message, tick.place) as u64),
-        Seconds(wire::int_at(message, delay.place) as u32),
-    )
+    numbers_at(message, reading.place, tick.place, delay.place)
 }
 
 // What a message says under the table: the reader's own refusals, then 42. A report has all three rows, or a field is missing.
+// If no optional is skipped, the places are 6, 9 and 18: taking them from the rows would wait for the copy of the rows.
 fn hear(message: &[u8]) -> Heard
     ensures { λ r. ⌜ heardIn r ≡ reportOf (now (message .entry)) ⌝ }
 {
@@ -238,11 +246,13 @@ fn hear(message: &[u8]) -> Heard
     let a = reading::read(&table, 3, message, &mut rows);
     match a {
         Reading::Accepted(first, format, count, optionals, slices) => {
-            if count == 3 {
-                fields(message, &rows)
-            } else {
-                Heard::Silent(42, 0)
+            if count != 3 {
+                return Heard::Silent(42, 0);
             }
+            if optionals == 0 {
+                return numbers_at(message, 6, 9, 18);
+            }
+            fields(message, &rows)
         }
         Reading::Refused(c, p) => Heard::Silent(c, p),
     }

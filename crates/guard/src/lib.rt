@@ -3,8 +3,8 @@
 ghost use mathlib.Core.Path.{_≡_};
 ghost use mathlib.Core.List.{_++_};
 ghost use Prim.Native.Nat.{_≤_, _<_};
-ghost use lib.ListN.{length, drop};
-ghost use Rattle.frost.specs.Frost.{marked, markOf, orNone, stateBytes, stateOf, bounded, started, reported, stored};
+ghost use lib.ListN.{length, drop, getD};
+ghost use Rattle.frost.specs.Frost.{marked, markOf, orNone, stateBytes, stateOf, bounded, started, reported, stored, toldNumbers};
 ghost use Rattle.frost.specs.Code.{tickIn, delayIn, guardIn, toldIn};
 ghost use Rattle.guard.specs.Bytes.{loadedIn, headOf};
 use frost::Delay;
@@ -218,4 +218,36 @@ pub fn report(state: &[u8], message: &[u8], next: &mut [u8]) -> Told
     let t = answer(state, message, next.len());
     store(t, next);
     t
+}
+
+// ---- the numbers of an answer
+
+// Number i of the answer to a report: 0 refusal, 1 place, 2 whether the timer fires; and the state after it at the start of the lent bytes.
+// The calls of C share this function: the report, called at one place, is inlined here, and its answer does not go through memory. `&state[0..]` in place of `state`: where and how long are passed in registers.
+pub fn report_number(state: &[u8], message: &[u8], next: &mut [u8], i: usize) -> u32
+    ensures { λ r. ⌜ r ≡ getD (toldNumbers (reported (now (state .entry)) (now (message .entry)) (length (now (next .entry))))) i 0 ⌝ }
+    ensures { λ _. ⌜ now (next .exit) ≡ stored (reported (now (state .entry)) (now (message .entry)) (length (now (next .entry)))) (now (next .entry)) ⌝ }
+{
+    let t = report(&state[0..], &message[0..], next);
+    if i == 0 {
+        return t.refusal;
+    }
+    if i == 1 {
+        return t.place;
+    }
+    if i != 2 {
+        return 0;
+    }
+    if t.fires { 1 } else { 0 }
+}
+
+// Number i of the answer with `room` bytes for the state after it, which is put into bytes that are not kept: a state needs 32.
+pub fn answer_number(state: &[u8], message: &[u8], room: usize, i: usize) -> u32
+    ensures { λ r. ⌜ r ≡ getD (toldNumbers (reported (now (state .entry)) (now (message .entry)) room)) i 0 ⌝ }
+{
+    let mut next = [0u8; 32];
+    if room < 32 {
+        return report_number(state, message, &mut next[0..room], i);
+    }
+    report_number(state, message, &mut next, i)
 }

@@ -22,8 +22,7 @@ pub extern "C" fn icehub_guard_report(state: &[u8], message: &[u8], next: &mut [
     ensures { λ r. ⌜ r ≡ guardNumber (now (state .entry)) (now (message .entry)) (length (now (next .entry))) 0 ⌝ }
     ensures { λ _. ⌜ now (next .exit) ≡ stored (reported (now (state .entry)) (now (message .entry)) (length (now (next .entry)))) (now (next .entry)) ⌝ }
 {
-    let t = guard::report(state, message, next);
-    t.refusal
+    guard::report_number(state, message, next, 0)
 }
 
 // The refusal's place; 0 if accepted.
@@ -32,8 +31,7 @@ pub extern "C" fn icehub_guard_report(state: &[u8], message: &[u8], next: &mut [
 pub extern "C" fn icehub_guard_place(state: &[u8], message: &[u8], room: usize) -> u32
     ensures { λ r. ⌜ r ≡ guardNumber (now (state .entry)) (now (message .entry)) room 1 ⌝ }
 {
-    let t = guard::answer(state, message, room);
-    t.place
+    guard::answer_number(state, message, room, 1)
 }
 
 // 1 if the timer fires with the report.
@@ -42,6 +40,5 @@ pub extern "C" fn icehub_guard_place(state: &[u8], message: &[u8], room: usize) 
 pub extern "C" fn icehub_guard_fires(state: &[u8], message: &[u8], room: usize) -> u32
     ensures { λ r. ⌜ r ≡ guardNumber (now (state .entry)) (now (message .entry)) room 2 ⌝ }
 {
-    let t = guard::answer(state, message, room);
-    if t.fires { 1 } else { 0 }
+    guard::answer_number(state, message, room, 2)
 }

@@ -11,9 +11,5 @@ fields-spec =
     (λ c κs. search needs)  -- row-at-requires
     (λ c κs. search needs)  -- row-at-requires-2
     (λ c κs. search needs)  -- row-at-requires-3
-    (λ c κs. search needs)  -- short-at-requires
-    (λ c. search needs)  -- cast-t7
-    (λ c κs. search needs)  -- long-at-requires
-    (λ c κs. search needs)  -- int-at-requires
-    (λ c. search needs)  -- cast-t12
+    (λ c κs. search needs)  -- numbers-at-requires
     (λ c. search fields-told))  -- returns

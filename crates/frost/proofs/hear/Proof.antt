@@ -1,7 +1,7 @@
--- By the reader's answer, and by the number of its rows.
+-- By the reader's answer, by the number of its rows, and by whether an optional is skipped.
 use borrow.Author.Needs.{needs}
 use Rattle.frost.specs.Frost.{guardTable}
-use Rattle.frost.specs.FrostRows.{report-full, report-partial, report-refused}
+use Rattle.frost.specs.FrostRows.{report-partial, report-plain, report-full, report-refused}
 use Rattle.frost.proofs.hear.Statement.{statement}
 use Rattle.frost.proofs.hear.Tie as tie
 
@@ -15,9 +15,11 @@ hear-spec =
     (λ c. search needs)  -- slice-aggregate-read-2
     (λ c κs. search needs)  -- read-requires
     (λ c. search needs)  -- enum-known-a
+    (λ c. search report-partial)  -- returns
+    (λ c κs. search needs)  -- numbers-at-requires
+    (λ c. search report-plain)  -- returns-2
     (λ c. search needs)  -- slice-aggregate-fields
     (λ c κs. search needs)  -- fields-requires
     (λ c. search needs)  -- enum-known-a-2
-    (λ c. search report-full)  -- returns
-    (λ c. search report-partial)  -- returns-2
-    (λ c. search report-refused))  -- returns-3
+    (λ c. search report-full)  -- returns-3
+    (λ c. search report-refused))  -- returns-4
