@@ -46,12 +46,16 @@ pub opened-refused : map numbersOf
     ∷ (1 ∷ 0 ∷ 11 ∷ 0 ∷ 0 ∷ 0 ∷ 1 ∷ 1 ∷ 0 ∷ 0 ∷ 0 ∷ 0 ∷ 0 ∷ 7 ∷ [])
     ∷ (1 ∷ 0 ∷ 11 ∷ 0 ∷ 0 ∷ 0 ∷ 1 ∷ 1 ∷ 0 ∷ 0 ∷ 0 ∷ 1 ∷ 0 ∷ 7 ∷ [])
     ∷ (1 ∷ 0 ∷ 11 ∷ 0 ∷ 0 ∷ 0 ∷ 1 ∷ 1 ∷ 0 ∷ 1 ∷ 0 ∷ 0 ∷ 0 ∷ 7 ∷ [])
+    ∷ (1 ∷ 0 ∷ 15 ∷ 0 ∷ 0 ∷ 0 ∷ 1 ∷ 1 ∷ 0 ∷ 1 ∷ 0 ∷ 0 ∷ 0 ∷ 9 ∷ 9 ∷ 9 ∷ 9 ∷ 7 ∷ [])
+    ∷ (3 ∷ 0 ∷ 11 ∷ 0 ∷ 0 ∷ 0 ∷ 1 ∷ 1 ∷ 0 ∷ 1 ∷ 0 ∷ 0 ∷ 0 ∷ 7 ∷ [])
+    ∷ (1 ∷ 0 ∷ 16 ∷ 0 ∷ 0 ∷ 0 ∷ 1 ∷ 1 ∷ 0 ∷ 1 ∷ 0 ∷ 0 ∷ 0 ∷ 9 ∷ 9 ∷ 9 ∷ 9 ∷ 2 ∷ 7 ∷ [])
     ∷ (3 ∷ 0 ∷ 12 ∷ 0 ∷ 0 ∷ 0 ∷ 1 ∷ 1 ∷ 0 ∷ 1 ∷ 0 ∷ 0 ∷ 0 ∷ 2 ∷ 7 ∷ [])
     ∷ (3 ∷ 0 ∷ 13 ∷ 0 ∷ 0 ∷ 0 ∷ 1 ∷ 1 ∷ 0 ∷ 1 ∷ 0 ∷ 0 ∷ 0 ∷ 1 ∷ 0 ∷ 7 ∷ [])
     ∷ (tcp ++ (7 ∷ []))
     ∷ (4 ∷ 0 ∷ 6 ∷ 0 ∷ 0 ∷ 0 ∷ 9 ∷ 9 ∷ 7 ∷ [])
     ∷ [])
-    ≡ refused 4 0 ∷ refused 4 2 ∷ refused 11 2 ∷ refused 6 6 ∷ refused 4 8 ∷ refused 7 8 ∷ refused 24 8 ∷ refused 27 9 ∷ refused 27 9 ∷ refused 4 13 ∷ refused 8 13
+    ≡ refused 4 0 ∷ refused 4 2 ∷ refused 11 2 ∷ refused 6 6 ∷ refused 4 8 ∷ refused 7 8 ∷ refused 24 8 ∷ refused 27 9 ∷ refused 27 9 ∷ refused 4 13
+    ∷ refused 4 17 ∷ refused 4 13 ∷ refused 8 17 ∷ refused 8 13
     ∷ refused 11 2 ∷ refused 18 21 ∷ refused 18 8 ∷ []
 unfolding all-open
 opened-refused = refl

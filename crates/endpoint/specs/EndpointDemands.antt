@@ -9,7 +9,7 @@
 --   EndpointAgain    what is opened and written again is the same bytes
 --   WriteRefused     when 2, 3, 24, 27 and 22 come, and when it is written
 --   OpenWithin       opening refuses by 3, 4, 6, 7, 8, 11, 18, 24 and 27 alone, and the place is within the bytes
---   OpenRefused      when each comes, and where, by what the bytes begin with; not of a compress byte that is missing (4) or no bool (8)
+--   OpenRefused      when each comes, and where, by what the bytes begin with
 use mathlib.Core.Path.{_≡_}
 use mathlib.Core.List.{List, [], _∷_, _++_}
 use Prim.Native.Nat.{ℕ, _+_, _^_, _≤_, _<_}
@@ -123,6 +123,15 @@ Framed k d w = leBytes 2 k ++ (leBytes 4 (4 + length d) ++ d ++ w)
 abbrev pub portPlace : List ℕ → ℕ
 portPlace h = 8 + length (stringBytes h)
 
+-- the bytes t of a timeout in an endpoint of type k: four, none in UDP
+pub data Timeout : ℕ → List ℕ → Type 0 where
+  four : {k : ℕ} {t : List ℕ} → (k ≡ 3 → ⊥) → length t ≡ 4 → Timeout k t
+  none : Timeout 3 []
+
+-- where compress is, after the host h and the timeout's bytes t
+abbrev pub compressPlace : List ℕ → List ℕ → ℕ
+compressPlace h t = portPlace h + 4 + length t
+
 -- What an endpoint holds is judged before `w`, the bytes after it. Each list of bytes is within the limit.
 pub record OpenRefusals : Type 0 where
   pub too-long : (b : List ℕ) → limit < length b → openEndpoint b ≡ bad 3 0
@@ -141,6 +150,10 @@ pub record OpenRefusals : Type 0 where
       → openEndpoint (Framed k (1 ∷ 1 ∷ (stringBytes h ++ (leBytes 4 p ++ u))) w) ≡ bad 27 (portPlace h)
   pub no-timeout : (k : ℕ) (h : List ℕ) (p : ℕ) (u w : List ℕ) → Dials k → (k ≡ 3 → ⊥) → Utf8 h → Port p → length u < 4 → length (Framed k (1 ∷ 1 ∷ (stringBytes h ++ (leBytes 4 p ++ u))) w) ≤ limit
       → openEndpoint (Framed k (1 ∷ 1 ∷ (stringBytes h ++ (leBytes 4 p ++ u))) w) ≡ bad 4 (portPlace h + 4)
+  pub no-compress : (k : ℕ) (h : List ℕ) (p : ℕ) (t w : List ℕ) → Dials k → Utf8 h → Port p → Timeout k t → length (Framed k (1 ∷ 1 ∷ (stringBytes h ++ (leBytes 4 p ++ t))) w) ≤ limit
+      → openEndpoint (Framed k (1 ∷ 1 ∷ (stringBytes h ++ (leBytes 4 p ++ t))) w) ≡ bad 4 (compressPlace h t)
+  pub bad-compress : (k : ℕ) (h : List ℕ) (p : ℕ) (t : List ℕ) (x : ℕ) (u w : List ℕ) → Dials k → Utf8 h → Port p → Timeout k t → 2 ≤ x → length (Framed k (1 ∷ 1 ∷ (stringBytes h ++ (leBytes 4 p ++ (t ++ (x ∷ u))))) w) ≤ limit
+      → openEndpoint (Framed k (1 ∷ 1 ∷ (stringBytes h ++ (leBytes 4 p ++ (t ++ (x ∷ u))))) w) ≡ bad 8 (compressPlace h t)
   pub left-over : (e : Address) (x : ℕ) (r w : List ℕ) → Proper e → length (Framed (e .kind) (1 ∷ 1 ∷ (addressBytes e ++ (x ∷ r))) w) ≤ limit
       → openEndpoint (Framed (e .kind) (1 ∷ 1 ∷ (addressBytes e ++ (x ∷ r))) w) ≡ bad 11 2
   pub behind : (e : Address) (x : ℕ) (r : List ℕ) → Proper e → length (endpointBytes e ++ (x ∷ r)) ≤ limit

@@ -2,23 +2,23 @@
 --
 --   in-endpoint, over-endpoint   an endpoint that is opened, by what its declared bytes give
 --   open-refused                 all of them
-use mathlib.Core.Path.{_≡_, refl, sym, ap, _∙_}
+use mathlib.Core.Path.{_≡_, refl, sym, ap, _∙_, subst}
 use mathlib.Core.Bool.{Bool, true, false}
-use mathlib.Core.List.{List, [], _∷_, _++_, append-assoc}
+use mathlib.Core.List.{List, [], _∷_, _++_, append-nil}
 use Prim.Native.Nat.{ℕ, zero, suc, _+_, _-_, _*_, _^_, _≤_, _<_}
 use native.Mathlib.Omega.{arith}
 use lib.ListN.{length, take, drop, length-append, length-drop}
 use lib.Seq.{drop-at}
 use lib.Dec.{eqb, leb, ltb}
 use borrow.Author.Tests.{le-leb, lt-leb, lt-ltb, le-ltb, ne-eqb}
-use Rattle.encoding.specs.Result.{Res, ok, bad, Parser, pick, shift, after, _>>=_, chunk, atFirst, item, judged, must, made, mapc, leave, enter, inside, firstOf}
-use Rattle.encoding.specs.ResultLaws.{bind-bad, bind-next, chunk-step, must-step}
+use Rattle.encoding.specs.Result.{Res, ok, bad, Parser, pick, shift, after, _>>=_, pure, chunk, atFirst, item, judged, must, made, mapc, leave, enter, inside, firstOf}
+use Rattle.encoding.specs.ResultLaws.{bind-bad, bind-next, chunk-step, chunk-written, must-step}
 use Rattle.encoding.specs.Utf8.{Utf8}
-use Rattle.encoding.specs.Number.{val, negative, number, leBytes, lengthForm, sizeBytes, string, stringBytes, declared}
-use Rattle.encoding.specs.NumberLaws.{length-leBytes, number-written, content-step, string-written, declared-written}
+use Rattle.encoding.specs.Number.{val, negative, number, byte, boolForm, leBytes, lengthForm, sizeBytes, string, stringBytes, declared}
+use Rattle.encoding.specs.NumberLaws.{length-leBytes, number-written, byte-written, content-step, string-written, declared-written}
 use Rattle.encoding.specs.Message.{ended, limit, refusedFirst}
-use Rattle.endpoint.specs.Endpoint.{endpointVersion, Address, Endpoint, opened, unopened, opens, timed, portForm, addressBytes, endpointBytes, port, timeout, address, versioned, encapsulated, typed, openEndpoint}
-use Rattle.endpoint.specs.EndpointDemands.{Dials, Proper, Port, Framed, portPlace, OpenRefusals, OpenRefused}
+use Rattle.endpoint.specs.Endpoint.{endpointVersion, Address, Endpoint, opened, unopened, opens, timed, portForm, addressBytes, endpointBytes, port, timeout, flag, address, versioned, encapsulated, typed, openEndpoint}
+use Rattle.endpoint.specs.EndpointDemands.{Dials, Proper, Port, Framed, portPlace, Timeout, four, none, compressPlace, OpenRefusals, OpenRefused}
 use Rattle.endpoint.specs.EndpointLaws.{opens-step, opens-not, dials-few, is-timed, wrong-port, four-written, port-written, address-written, version-written, host-within, lastly, afterPort, afterHost, typed-written, other-written}
 use Rattle.endpoint.specs.RefusalLaws.{ended-more}
 
@@ -132,6 +132,27 @@ timeout-cut : (k : ℕ) (u : List ℕ) → (k ≡ 3 → ⊥) → length u < 4 �
 unfolding timeout number chunk
 timeout-cut k u z l = rw (is-timed k z, lt-leb 4 (length u) l)
 
+timeout-read : (k : ℕ) (t u : List ℕ) → Timeout k t → timeout k (t ++ u) ≡ ok (val t) (length t)
+unfolding timeout timed pure number val
+timeout-read k t u (four z l) = rw (is-timed k z) (chunk-written 4 val t u l ∙ ap (ok (val t)) (sym l))
+timeout-read k t u none = refl
+
+flag-cut : flag [] ≡ bad 4 0
+unfolding flag must judged byte number chunk
+flag-cut = refl
+
+flag-wrong : (x : ℕ) (u : List ℕ) → 2 ≤ x → flag (x ∷ u) ≡ bad 8 0
+unfolding flag must judged boolForm
+flag-wrong x u l = rw (byte-written x u, le-ltb x 2 l)
+
+last-refused : (k : ℕ) (h : List ℕ) (p t : ℕ) (u : List ℕ) (c : ℕ) → flag u ≡ bad c 0 → lastly k h p t u ≡ bad c 0
+unfolding mapc made
+last-refused k h p t u c e = rw e
+
+-- compress after the timeout's bytes t
+flag-refused : (k : ℕ) (h : List ℕ) (p : ℕ) (t u : List ℕ) (c : ℕ) → Timeout k t → flag u ≡ bad c 0 → afterPort k h p (t ++ u) ≡ bad c (length t + 0)
+flag-refused k h p t u c T e = bind-refused (timeout k) (λ t. lastly k h p t) t u (timeout-read k t u T) (last-refused k h p (val t) u c e)
+
 -- a host in an endpoint within the limit is short
 host-short : (k : ℕ) (h u w : List ℕ) → length (Framed k (1 ∷ 1 ∷ (stringBytes h ++ u)) w) ≤ limit → length h < 2 ^ 31
 unfolding stringBytes
@@ -185,6 +206,19 @@ after-host k K h u w c q t l e =
     in-endpoint k K (1 ∷ 1 ∷ (stringBytes h ++ u)) w (omega arith) l c (2 + (length (stringBytes h) + q))
     (fields-refused k (stringBytes h ++ u) c (length (stringBytes h) + q) (after-string k h u c q t (host-short k h u w l) e)) ∙ ap (bad c) (omega arith)
 
+-- a refusal of the fields after the port p
+after-port : (k : ℕ) (K : Dials k) (h : List ℕ) (p : ℕ) (u w : List ℕ) (c q : ℕ) → Utf8 h → Port p → length (Framed k (1 ∷ 1 ∷ (stringBytes h ++ (leBytes 4 p ++ u))) w) ≤ limit → afterPort k h p u ≡ bad c q
+    → openEndpoint (Framed k (1 ∷ 1 ∷ (stringBytes h ++ (leBytes 4 p ++ u))) w) ≡ bad c (portPlace h + 4 + q)
+after-port k K h p u w c q t r l e =
+    after-host k K h (leBytes 4 p ++ u) w c (length (leBytes 4 p) + q) t l (bind-refused port (λ p. afterPort k h p) (leBytes 4 p) u (port-written p u (r .0) (r .1)) e)
+    ∙ ap (bad c) (omega (arith, length-leBytes 4 p))
+
+-- a refusal of compress
+compress-refused : (k : ℕ) (K : Dials k) (h : List ℕ) (p : ℕ) (t u w : List ℕ) (c : ℕ) → Utf8 h → Port p → Timeout k t → flag u ≡ bad c 0
+    → length (Framed k (1 ∷ 1 ∷ (stringBytes h ++ (leBytes 4 p ++ (t ++ u)))) w) ≤ limit
+    → openEndpoint (Framed k (1 ∷ 1 ∷ (stringBytes h ++ (leBytes 4 p ++ (t ++ u)))) w) ≡ bad c (compressPlace h t)
+compress-refused k K h p t u w c i r T e l = after-port k K h p (t ++ u) w c (length t + 0) i r l (flag-refused k h p t u c T e) ∙ ap (bad c) (omega arith)
+
 over : (e : Address) (x : ℕ) (r w : List ℕ) → Proper e → length (Framed (e .kind) (1 ∷ 1 ∷ (addressBytes e ++ (x ∷ r))) w) ≤ limit
     → openEndpoint (Framed (e .kind) (1 ∷ 1 ∷ (addressBytes e ++ (x ∷ r))) w) ≡ bad 11 2
 over e x r w P l =
@@ -206,10 +240,12 @@ open-refused = record {
   bad-host = λ k r w c q K h l. in-endpoint k K (1 ∷ 1 ∷ r) w (omega arith) l c (2 + q) (fields-refused k r c q (string-bad k r c q h)) ∙ ap (bad c) (omega arith);
   no-port = λ k h u w K t n l. after-host k K h u w 4 0 t l (bind-bad port (λ p. afterPort k h p) u (port-cut u n)) ∙ ap (bad 4) (omega arith);
   bad-port = λ k h p u w K t f n l. after-host k K h (leBytes 4 p ++ u) w 27 0 t l (bind-bad port (λ p. afterPort k h p) (leBytes 4 p ++ u) (port-wrong p u f n)) ∙ ap (bad 27) (omega arith);
-  no-timeout = λ k h p u w K z t q n l.
-      after-host k K h (leBytes 4 p ++ u) w 4 (length (leBytes 4 p) + 0) t l
-      (bind-refused port (λ p. afterPort k h p) (leBytes 4 p) u (port-written p u (q .0) (q .1)) (bind-bad (timeout k) (λ t. lastly k h p t) u (timeout-cut k u z n)))
-      ∙ ap (λ (n : ℕ). bad 4 (portPlace h + (n + 0))) (length-leBytes 4 p) ∙ ap (bad 4) (omega arith);
+  no-timeout = λ k h p u w K z t q n l. after-port k K h p u w 4 0 t q l (bind-bad (timeout k) (λ t. lastly k h p t) u (timeout-cut k u z n)) ∙ ap (bad 4) (omega arith);
+  no-compress = λ k h p t w K i r T l.
+      subst
+      (λ (z : List ℕ). length (Framed k (1 ∷ 1 ∷ (stringBytes h ++ (leBytes 4 p ++ z))) w) ≤ limit → openEndpoint (Framed k (1 ∷ 1 ∷ (stringBytes h ++ (leBytes 4 p ++ z))) w) ≡ bad 4 (compressPlace h t))
+      (append-nil t) (compress-refused k K h p t [] w 4 i r T flag-cut) l;
+  bad-compress = λ k h p t x u w K i r T n l. compress-refused k K h p t (x ∷ u) w 8 i r T (flag-wrong x u n) l;
   left-over = over;
   behind = λ e x r P l. behind-typed (endpointBytes e ++ (x ∷ r)) (opened e) (length (endpointBytes e)) l (typed-written e P (shorter e x r l) (x ∷ r)) (longer e x r);
   behind-other = λ k d x r j o n l. behind-typed (Framed k d (x ∷ r)) (unopened k) (2 + (4 + length d)) l (other-written k d (x ∷ r) j o n (small k d x r l)) (more k d x r) ∙ ap (bad 18) (omega arith);
