@@ -4,11 +4,9 @@ use Rattle.icehub.proofs.Seasonal.{sheet-place-same}
 use Rattle.icehub.proofs.sheets.icehub_sheet_place.Statement.{statement}
 use Rattle.icehub.proofs.sheets.icehub_sheet_place.Tie as tie
 
--- src/sheets.rt:33:5
 place-requires : tie.Need-place-requires
 place-requires c κs = search needs
 
--- src/sheets.rt:23:1
 returns : tie.Need-returns
 returns c = search sheet-place-same
 
