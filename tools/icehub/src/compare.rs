@@ -15,8 +15,9 @@ pub struct Request {
     pub new_top: String,
 }
 
-/// No two tables have more differences.
-const MOST: usize = 8_192;
+/// No two tables have more differences: each type row gives at most one (its owner is in one table only, or has another
+/// base), each member row at most one, and a table has at most 256 type rows and 1,024 member rows.
+const MOST: usize = 2 * (256 + 1_024);
 
 pub fn run(request: &Request, out: &mut impl Write, status: &mut Status) -> io::Result<()> {
     let tables = request.old.bytes(MOST_BYTES).and_then(|old| Ok((old, request.new.bytes(MOST_BYTES)?)));
