@@ -224,6 +224,7 @@ pub fn report(state: &[u8], message: &[u8], next: &mut [u8]) -> Told
 
 // Number i of the answer to a report: 0 refusal, 1 place, 2 whether the timer fires; and the state after it at the start of the lent bytes.
 // The calls of C share this function: the report, called at one place, is inlined here, and its answer does not go through memory. `&state[0..]` in place of `state`: where and how long are passed in registers.
+// Wrong and ruled out: the place where the refusal is asked for; a number of the answer for another room.
 pub fn report_number(state: &[u8], message: &[u8], next: &mut [u8], i: usize) -> u32
     ensures { λ r. ⌜ r ≡ getD (toldNumbers (reported (now (state .entry)) (now (message .entry)) (length (now (next .entry))))) i 0 ⌝ }
     ensures { λ _. ⌜ now (next .exit) ≡ stored (reported (now (state .entry)) (now (message .entry)) (length (now (next .entry)))) (now (next .entry)) ⌝ }
@@ -242,6 +243,7 @@ pub fn report_number(state: &[u8], message: &[u8], next: &mut [u8], i: usize) ->
 }
 
 // Number i of the answer with `room` bytes for the state after it, which is put into bytes that are not kept: a state needs 32.
+// Wrong and ruled out: 22 for every room; the answer for 32 bytes whatever the room.
 pub fn answer_number(state: &[u8], message: &[u8], room: usize, i: usize) -> u32
     ensures { λ r. ⌜ r ≡ getD (toldNumbers (reported (now (state .entry)) (now (message .entry)) room)) i 0 ⌝ }
 {
