@@ -9,7 +9,8 @@
 --   stop-walked, body-walked           a check refuses, or the walk over the body says all
 --   told-walked, told-listed           the answer of a walk
 --   rows-put                           a list that holds the rows, after they are put
---   list-short, list-few, -some, -more, -all   the lent list if it has no room, or if the rows come from a list of 5 rows, of 21, of 128 or of 1,024
+--   list-short, list-few, -some, -more the lent list if it has no room, or if the rows come from a list of 5 rows, of 21 or of 128
+--   lent-again, list-again             where there are more rows nothing was refused; the lent list after a second walk
 use mathlib.Core.Path.{_≡_, refl, sym, ap, ap₂, _∙_}
 use mathlib.Core.Bool.{Bool, true, false}
 use mathlib.Core.List.{List, [], _∷_, _++_}
@@ -227,7 +228,7 @@ rows-put rs out h =
     let z : 12 * (0 + length rs) ≡ 12 * length rs = omega arith in
     fill-listed rs 0 out (omega arith) ∙ ap (λ (i : ℕ). concat rowBytes rs ++ drop i out) z
 
--- an accepted message has at most as many rows as the table has members, and at most 1,024; a refused one none
+-- an accepted message has at most as many rows as the table has members; a refused one none
 module _ (T : List ℕ) (top : ℕ) (m : List ℕ) (y : Bytes m) where
   owned-most : length (answer T top (rules T top m) .rows) ≤ members T
   unfolding answer accepted refused
@@ -235,14 +236,6 @@ module _ (T : List ℕ) (top : ℕ) (m : List ℕ) (y : Bytes m) where
     where
       go : (r : Res Read) → rules T top m ≡ r → length (answer T top r .rows) ≤ members T
       go (ok rd n) e = accepted-small T top m (rd .format) (rd .pieces) n y e .owned
-      go (bad c p) e = omega arith
-
-  owned-count : length (answer T top (rules T top m) .rows) ≤ 1024
-  unfolding answer accepted refused
-  owned-count = go (rules T top m) refl
-    where
-      go : (r : Res Read) → rules T top m ≡ r → length (answer T top r .rows) ≤ 1024
-      go (ok rd n) e = accepted-small T top m (rd .format) (rd .pieces) n y e .count
       go (bad c p) e = omega arith
 
 put-answer : (T : List ℕ) (top : ℕ) (m out last : List ℕ) (w : Walk) → Walked T top m w out last → 0 < length (answer T top (rules T top m) .rows)
@@ -293,8 +286,23 @@ module _ (T : List ℕ) (top : ℕ) (m own last R : List ℕ) (w : Walk) (W : Wa
     pub list-some : min (length R / 12) (members T) ≤ 21 → length own ≡ 252 → (x : List ℕ) → x ≡ put 0 (take (12 * n) (drop 0 last)) R → Listed T top m w R x
     list-some f l = list-own (omega (arith, own-most))
 
-    pub list-more : min (length R / 12) (members T) ≤ 128 → length own ≡ 1536 → (x : List ℕ) → x ≡ put 0 (take (12 * n) (drop 0 last)) R → Listed T top m w R x
-    list-more f l = list-own (omega (arith, own-most))
+    pub list-more : n ≤ 128 → length own ≡ 1536 → (x : List ℕ) → x ≡ put 0 (take (12 * n) (drop 0 last)) R → Listed T top m w R x
+    list-more f l = list-own (omega arith)
 
-    pub list-all : length own ≡ 12288 → (x : List ℕ) → x ≡ put 0 (take (12 * n) (drop 0 last)) R → Listed T top m w R x
-    list-all l = list-own (let z = owned-count T top m (W .bytes) in omega (arith, count, z))
+    module _ (many : 128 < n) where
+      walk-ready : checks T top 1 (length m) ≡ Ready
+      unfolding rowCount bodyWalk
+      walk-ready = go (checks T top 1 (length m)) refl
+        where
+          go : (p : Prepared) → p ≡ checks T top 1 (length m) → checks T top 1 (length m) ≡ Ready
+          go Ready e = sym e
+          go (Stopped c q) e =
+              let none : n ≡ 0 = en ∙ ap rowCount (W .says ∙ ap (bodyWalk T top) (reading-refused T top m (length m) refl (Stopped c q) e c q refl)) in
+              absurd (omega arith)
+
+      pub lent-again : (s : List ℕ) → (checks T top 1 (length m) ≡ Ready → s ≡ shapesOf T) → Lent T top (length m) true s
+      lent-again s h = lent-ready T top m walk-ready s (h walk-ready)
+
+      pub list-again : (x : List ℕ) (u : Walk) → Walked T top m u R x → Listed T top m w R x
+      list-again x u U =
+          list-is x (put-answer T top m R x u U (omega (arith, count)) ∙ rows-put (answer T top (rules T top m) .rows) R (omega (arith, count)) ∙ sym fits)

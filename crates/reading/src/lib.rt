@@ -99,7 +99,7 @@ fn checked(
 }
 
 // The checks, then the walk over the message. It puts the rows of an accepted message into the list, those that fit. The caller lends an array for the shapes; where the checks refuse nothing it holds them afterwards.
-// `ready` says that it holds them already, and that the checks are known to refuse nothing: both are left out. `old_use` says what is known of encoding 1.0, as `judge_old` of `reader` gives it, or 0: 26 is then judged only for a message of 1.0. So whoever walks many messages calls this function too, and the walk itself, called at one place, is inlined here.
+// `ready` says that it holds them already, and that the checks are known to refuse nothing: both are left out. `old_use` says what is known of encoding 1.0, as `judge_old` of `reader` gives it, or 0: 26 is then judged only for a message of 1.0. So whoever walks more than once calls this function too, and the walk itself, called at one place, is inlined here.
 // The slices are passed as new parts: passing them unchanged causes a store-forwarding stall.
 pub fn walk(
     table: &[u8],
@@ -148,9 +148,8 @@ fn walk_some(table: &[u8], top: usize, message: &[u8], rows: &mut [u8]) -> Walk
     w
 }
 
-// The same for at most 128 rows.
+// The same for any number of rows, by a list of 128 rows, which takes longer to clear. More rows are put into the lent list by a second walk, once it is known that they fit: a list of 1,024 rows would take 12 KB of stack in every read.
 fn walk_more(table: &[u8], top: usize, message: &[u8], rows: &mut [u8]) -> Walk
-    requires { ⌜ min (length (now rows) / 12) (members (now table)) ≤ 128 ⌝ }
     ensures { λ r. ⌜ Listed (now (table .entry)) top (now (message .entry)) r (now (rows .entry)) (now (rows .exit)) ⌝ }
 {
     let mut shapes = [10u8; 256];
@@ -158,21 +157,11 @@ fn walk_more(table: &[u8], top: usize, message: &[u8], rows: &mut [u8]) -> Walk
     let w = walk(table, top, message, false, 0, &mut shapes, &mut more);
     let n = row_count(w);
     if n <= rows.len() / 12 {
-        wire::put_part(rows, 0, &more, 0, 12 * n);
-    }
-    w
-}
-
-// The same for as many rows as a table can have members.
-fn walk_all(table: &[u8], top: usize, message: &[u8], rows: &mut [u8]) -> Walk
-    ensures { λ r. ⌜ Listed (now (table .entry)) top (now (message .entry)) r (now (rows .entry)) (now (rows .exit)) ⌝ }
-{
-    let mut shapes = [10u8; 256];
-    let mut all = [0u8; 12288];
-    let w = walk(table, top, message, false, 0, &mut shapes, &mut all);
-    let k = row_count(w);
-    if k <= rows.len() / 12 {
-        wire::put_part(rows, 0, &all, 0, 12 * k);
+        if n <= 128 {
+            wire::put_part(rows, 0, &more, 0, 12 * n);
+        } else {
+            walk(table, top, message, true, 0, &mut shapes, rows);
+        }
     }
     w
 }
@@ -191,10 +180,7 @@ pub fn read(table: &[u8], top: u32, message: &[u8], rows: &mut [u8]) -> Reading
     if most <= 21 {
         return told(walk_some(table, top as usize, message, rows), k);
     }
-    if most <= 128 {
-        return told(walk_more(table, top as usize, message, rows), k);
-    }
-    told(walk_all(table, top as usize, message, rows), k)
+    told(walk_more(table, top as usize, message, rows), k)
 }
 
 // The reader's answer with a lent list of `room` bytes; no list is touched.
@@ -300,8 +286,5 @@ pub fn read_numbers(
     if most <= 21 {
         return numbered(walk_some(table, top as usize, message, rows), room, numbers);
     }
-    if most <= 128 {
-        return numbered(walk_more(table, top as usize, message, rows), room, numbers);
-    }
-    numbered(walk_all(table, top as usize, message, rows), room, numbers)
+    numbered(walk_more(table, top as usize, message, rows), room, numbers)
 }
