@@ -118,6 +118,17 @@ pub fn walk(
     checked(&table[0..], top, &message[0..], ready, old_use, shapes, out)
 }
 
+// At least as many rows as a message can have and a list with room for k rows can hold: a message has no more rows than its table has members.
+// A short list is not compared with the table: so the compiler sees at a caller's list of known length which way is taken.
+fn most_rows(table: &[u8], k: usize) -> usize
+    ensures { λ r. ⌜ min k (members (now (table .entry))) ≤ r ⌝ }
+{
+    if k <= 5 {
+        return k;
+    }
+    wire::least(k, table::members(table))
+}
+
 // Walks into a list of the call's own and copies the rows, since the lent list must stay on a refusal. At most 5 rows can be copied: so short a list is cleared by four stores.
 fn walk_few(table: &[u8], top: usize, message: &[u8], rows: &mut [u8]) -> Walk
     requires { ⌜ min (length (now rows) / 12) (members (now table)) ≤ 5 ⌝ }
@@ -173,7 +184,7 @@ pub fn read(table: &[u8], top: u32, message: &[u8], rows: &mut [u8]) -> Reading
     ensures { λ _. ⌜ now (rows .exit) ≡ listed (reading (now (table .entry)) top (now (message .entry)) (length (now (rows .entry)))) (now (rows .entry)) ⌝ }
 {
     let k = rows.len() / 12;
-    let most = wire::least(k, table::members(table));
+    let most = most_rows(table, k);
     if most <= 5 {
         return told(walk_few(table, top as usize, message, rows), k);
     }
@@ -279,7 +290,7 @@ pub fn read_numbers(
         return short(answer(table, top, message, rows.len()));
     }
     let room = rows.len() / 12;
-    let most = wire::least(room, table::members(table));
+    let most = most_rows(table, room);
     if most <= 5 {
         return numbered(walk_few(table, top as usize, message, rows), room, numbers);
     }

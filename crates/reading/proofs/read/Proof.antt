@@ -8,8 +8,7 @@ pub read-spec : {M : Type 1} → statement M
 read-spec =
     tie.close
     (tie.spec
-    (λ c κs. search needs)  -- members-requires
-    (λ c κs. search needs)  -- least-requires
+    (λ c κs. search needs)  -- most-rows-requires
     (λ c κs. search needs)  -- walk-few-requires
     (λ c κs. search needs)  -- told-requires
     (λ c. search needs)  -- same-length

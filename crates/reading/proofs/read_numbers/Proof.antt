@@ -24,8 +24,7 @@ read-numbers-spec =
     (λ c κs. search needs)  -- answer-requires
     (λ c κs. search needs)  -- short-requires
     returns
-    (λ c κs. search needs)  -- members-requires
-    (λ c κs. search needs)  -- least-requires
+    (λ c κs. search needs)  -- most-rows-requires
     (λ c κs. search needs)  -- walk-few-requires
     (λ c κs. search needs)  -- numbered-requires
     (λ c. search needs)  -- same-length

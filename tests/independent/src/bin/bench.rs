@@ -549,7 +549,8 @@ fn compare(
         other_least = other_least.min(round(&mut other, other_calls));
         rounds += 1;
     }
-    let ratio = least / other_least;
+    // Bars are held with two decimals, as ratios are printed.
+    let ratio = (100.0 * least / other_least).round() / 100.0;
     let told = bar.map_or(String::new(), |bar| format!("  at most {bar}"));
     println!("{name:<46} {least:>12.1} {other_least:>12.1} {ratio:>8.2}{told}");
     if ratio > most {
