@@ -67,9 +67,9 @@ callers: example bindings
 ## library: prove and build the static library, target/staticlib/libicehub.a; with TARGET target/TARGET/libicehub.a
 library: $(if $(TARGET),target/$(TARGET)/libicehub.a,$(LIBRARY))
 
-# The check proves crates side by side; staticlib, which would prove them one by one, finds them proved.
+# The check proves the crates below icehub side by side; staticlib, which would prove them one by one, finds them proved.
 $(LIBRARY): $(LIBRARY_SOURCES)
-	$(RT) check icehub
+	$(RT) check $(filter-out icehub,$(LIBRARY_CRATES))
 	$(RT) staticlib icehub
 
 target/%/libicehub.a: $(LIBRARY_SOURCES) tools/cross/library
