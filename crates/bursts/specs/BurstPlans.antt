@@ -1,5 +1,5 @@
 -- What the planner makes is a plan and passes the check, and where it refuses: `plan-passes`, `plan-refused`, `plan-lent`, `plan-thrifty` of BurstDemands.
--- The idea: while it fills, the entries so far are begun, message k stands in entry k, and the last burst has the bytes that it counts.
+-- The idea: while it fills, the entries so far are begun, message k is in entry k, and the last burst has the bytes that it counts.
 -- Assumes nothing.
 use mathlib.Core.Path.{_≡_, refl, sym, ap, _∙_, subst}
 use mathlib.Core.Bool.{Bool, true, false, true≢false, false≢true}

@@ -6,7 +6,7 @@
 --   lengthOf, cabinOf       of a message's number; 0 past the end
 --   bytesIn ws b es         the bytes of burst b among entries
 --   brokenBy ws before e    entry e breaks a rule with the entries before it
---   missing ws es           some message stands in no entry
+--   missing ws es           some message is in no entry
 --   judge, checking         the check: sound, or the place of 46; of messages and entries, of two lent lists
 --   tooLong                 the first message over 340 bytes
 --   fill, plan              the planner
@@ -71,7 +71,7 @@ unfoldable pub anyEntry : (Entry → Bool) → List Entry → Bool
 anyEntry f [] = false
 anyEntry f (e ∷ es) = f e || anyEntry f es
 
--- message m stands in an entry
+-- message m is in an entry
 unfoldable pub standsIn : ℕ → List Entry → Bool
 standsIn m es = anyEntry (λ e. eqb (e .message) m) es
 
@@ -106,12 +106,12 @@ firstBroken ws i before (e ∷ es) =
     let later = firstBroken ws (suc i) (before ++ (e ∷ [])) es in
     pick (brokenBy ws before e) (some i) later
 
--- some number of a list stands in no entry
+-- some number of a list is in no entry
 unfoldable pub anyMissing : List Entry → List ℕ → Bool
 anyMissing es [] = false
 anyMissing es (m ∷ ms) = not (standsIn m es) || anyMissing es ms
 
--- some message stands in no entry
+-- some message is in no entry
 unfoldable pub missing : List Waiting → List Entry → Bool
 missing ws es = anyMissing es (range 0 (length ws))
 

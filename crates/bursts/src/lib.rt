@@ -152,7 +152,7 @@ fn enter(messages: &[u64], last: u64, left: u64, m: u64, burst: u64) -> Packed
     pack(last, left, burst, messages[2 * m as usize])
 }
 
-// The check of a plan: accepted exactly if it has the form of a plan, each message stands in it once, each burst has at most 340 bytes, and the messages of one cabin keep their order.
+// The check of a plan: accepted exactly if it has the form of a plan, each message is in it once, each burst has at most 340 bytes, and the messages of one cabin keep their order.
 // Wrong and ruled out: a burst of 341 bytes accepted; a message twice; a cabin's order broken across bursts; a sum that wraps.
 pub fn check_plan(messages: &[u64], entries: &[u64]) -> Checked
     ensures { λ r. ⌜ r ≡ checking (now (messages .entry)) (now (entries .entry)) ⌝ }
