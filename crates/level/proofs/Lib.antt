@@ -2,3 +2,4 @@
 pub mod Parts
 pub mod Nexts
 pub mod Requireds
+pub mod Simples

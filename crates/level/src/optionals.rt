@@ -1,15 +1,16 @@
 // The next optional of an owner.
 ghost use mathlib.Core.Path.{_≡_};
-ghost use Prim.Native.Nat.{_≤_, _<_};
+ghost use Prim.Native.Nat.{_/_, _≤_, _<_};
 ghost use Rattle.encoding.specs.Result.{bytes, inside};
 ghost use Rattle.encoding.specs.Value.{value};
-ghost use Rattle.encoding.specs.Table.{typesAt, membersAt, tyOf};
+ghost use Rattle.encoding.specs.Table.{at as number-at, typesAt, members, membersAt, tyOf};
 ghost use Rattle.encoding.specs.Optional.{part, nextOptional};
 ghost use Rattle.shapes.specs.Shapes.{shapesOf};
 ghost use Rattle.table.specs.Tags.{optionalFrom};
 ghost use Rattle.optional.specs.Forms.{formNamed};
 ghost use Rattle.wire.specs.Steps.{bytesOf};
-ghost use Rattle.level.specs.Answers.{optionalAnswer};
+ghost use Rattle.level.specs.declared.Optional.the-variants.{Known};
+ghost use Rattle.level.specs.Answers.{Tagged, Bare, optionalAnswer};
 use crate::Optional;
 use optional::Head;
 use wire::Sized;
@@ -88,4 +89,81 @@ pub fn optional(
         }
         Head::Wrong(c, p) => Optional::Wrong(c, p),
     }
+}
+
+// The row of the type of member row `row`, before `end`, if it is optional and has this tag; else 65,536. Here and below, the table has `all` member rows, from `first` on.
+fn tagged(table: &[u8], first: usize, all: usize, end: usize, row: usize, tag: usize) -> usize
+    requires { ⌜ (first ≡ membersAt (now table)) × (first < 1048576) ⌝ }
+    requires { ⌜ all ≡ members (now table) ⌝ }
+    requires { ⌜ end ≤ 131072 ⌝ }
+    ensures { λ r. ⌜ (r < 65536 → Tagged (now (table .entry)) end row tag r) ⌝ }
+{
+    if end <= row {
+        return 65536;
+    }
+    if table.len() < table::member_at(table, first, row + 1) {
+        return 65536;
+    }
+    let member = table::member_row_in(table, first, row);
+    if member.mark == 0 {
+        return 65536;
+    }
+    if tag != member.tag {
+        return 65536;
+    }
+    optional::type_of(all, row, member.of)
+}
+
+// How many bytes a value of row t has whose optional has type bits k, F1 to F8, if any bytes are one; else 0.
+fn width_of(shapes: &[u8; 256], t: usize, k: usize) -> usize
+    ensures { λ r. ⌜ (0 < r → Bare (now (shapes .entry)) t k r) ⌝ }
+{
+    if 4 <= k {
+        return 0;
+    }
+    if shapes::form(shapes, t) != k {
+        return 0;
+    }
+    shapes::width(shapes, t)
+}
+
+// How many bytes a simple optional takes, with its header; 0 if the next one is not simple. It is simple if its tag is below 30 and that of member row `row`, and its value any bytes of F1, F2, F4 or F8.
+// It is short enough to be inlined, so that most optionals of a parameter list take no call.
+pub fn simple(
+    table: &[u8],
+    first: usize,
+    all: usize,
+    shapes: &[u8; 256],
+    end: usize,
+    row: usize,
+    least: usize,
+    s: &[u8],
+) -> usize
+    requires { ⌜ (first ≡ membersAt (now table)) × (first < 1048576) ⌝ }
+    requires { ⌜ all ≡ members (now table) ⌝ }
+    requires { ⌜ now shapes ≡ shapesOf (now table) ⌝ }
+    requires { ⌜ end ≤ 131072 ⌝ }
+    ensures { λ r. ⌜ (0 < r → Known row (number-at (now (s .entry)) 1 0 / 8) 1 r ≡ optionalAnswer (optionalFrom (now (table .entry)) end row) (nextOptional (optionalFrom (now (table .entry)) end row) least (now (s .entry)))) ⌝ }
+{
+    let h = wire::byte_at(s, 0);
+    let tag = wire::tag_bits(h);
+    let k = wire::type_bits(h);
+    if 30 <= tag {
+        return 0;
+    }
+    if tag < least {
+        return 0;
+    }
+    let t = tagged(table, first, all, end, row, tag);
+    if 65536 <= t {
+        return 0;
+    }
+    let w = width_of(shapes, t, k);
+    if w == 0 {
+        return 0;
+    }
+    if s.len() <= w {
+        return 0;
+    }
+    1 + w
 }

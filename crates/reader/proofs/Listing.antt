@@ -1,6 +1,7 @@
 -- The walk over a parameter list: what holds at the head of its loop, and what each step makes of it. Assumes nothing.
 --
 --   list-asks, list-at, list-place    places that fit
+--   next-simple                a simple optional, with its tag as it was read
 --   told-both                  two results of one answer are the same
 --   Listing, list-begin        what holds at the loop's head, and that it does at first
 --   listing-..                 what each step makes of it
@@ -9,7 +10,7 @@ use mathlib.Core.Path.{_≡_, refl, sym, ap, ap₂, _∙_}
 use mathlib.Core.Bool.{false}
 use mathlib.Core.Option.{none, some}
 use mathlib.Core.List.{List, [], _∷_}
-use Prim.Native.Nat.{ℕ, suc, _+_, _-_, _*_, _^_, _≤_, _<_}
+use Prim.Native.Nat.{ℕ, suc, _+_, _-_, _*_, _/_, _^_, _≤_, _<_}
 use native.Mathlib.Nat.{add-zero, zero-add}
 use native.Mathlib.Numerals.{add-one}
 use native.Mathlib.Omega.{arith}
@@ -86,6 +87,10 @@ pub record Listing (T : List ℕ) (top : ℕ) (m : List ℕ) (whole : WalkEnd) (
   pub fewer : o ≤ at
   pub passed : Passed T top stop row least
   pub rest : whole ≡ listing T top m at least k o out
+
+-- an optional that was read without a call
+pub next-simple : (x : Optional) (row n b tag a : ℕ) → (0 < n → Known row (a / 8) 1 n ≡ x) → (n ≡ 0 → ⊥) → b ≡ a → tag ≡ b / 8 → Known row tag 1 n ≡ x
+next-simple x row n b tag a known z eb et = rw (et, eb) (known (omega (arith, z)))
 
 -- what is left fits
 pub list-asks : (m : List ℕ) (start : ℕ) → start ≤ length m → length m < 2 ^ 63 → start + length (take (length m - start) (drop start m)) < 2 ^ 63

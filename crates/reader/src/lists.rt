@@ -2,19 +2,47 @@
 ghost use mathlib.Core.Path.{_≡_};
 ghost use mathlib.Core.Bool.{true};
 ghost use mathlib.Core.List.{List};
-ghost use Prim.Native.Nat.{ℕ, _≤_};
+ghost use Prim.Native.Nat.{ℕ, _≤_, _<_};
 ghost use lib.ListN.{length, drop};
 ghost use Rattle.encoding.specs.Result.{ok};
-ghost use Rattle.encoding.specs.Table.{typesAt, requiredMembers};
-ghost use Rattle.encoding.specs.Optional.{Piece, requireds};
+ghost use Rattle.encoding.specs.Table.{members, typesAt, membersAt, requiredMembers};
+ghost use Rattle.encoding.specs.Optional.{Piece, requireds, nextOptional};
 ghost use Rattle.encoding.specs.Old.{membersAs};
 ghost use Rattle.encoding.specs.Message.{parameters, pieceRows};
 ghost use Rattle.shapes.specs.Shapes.{shapesOf};
+ghost use Rattle.table.specs.Tags.{optionalFrom};
 ghost use Rattle.level.specs.Fill.{fill};
+ghost use Rattle.level.specs.Answers.{optionalAnswer};
 ghost use Rattle.slices.specs.Walks.{listWalk, oldWalk};
 use level::Members;
 use level::Optional;
 use slices::Walk;
+
+// The next optional of the list; a simple one is read without a call. `begin` is where the type rows begin, `first` where the `all` member rows do.
+fn next(
+    table: &[u8],
+    begin: usize,
+    first: usize,
+    all: usize,
+    shapes: &[u8; 256],
+    stop: usize,
+    row: usize,
+    least: usize,
+    s: &[u8],
+) -> Optional
+    requires { ⌜ begin ≡ typesAt (now table) ⌝ }
+    requires { ⌜ (first ≡ membersAt (now table)) × (first < 1048576) ⌝ }
+    requires { ⌜ all ≡ members (now table) ⌝ }
+    requires { ⌜ now shapes ≡ shapesOf (now table) ⌝ }
+    requires { ⌜ stop ≤ 131072 ⌝ }
+    ensures { λ r. ⌜ r ≡ optionalAnswer (optionalFrom (now (table .entry)) stop row) (nextOptional (optionalFrom (now (table .entry)) stop row) least (now (s .entry))) ⌝ }
+{
+    let n = level::optionals::simple(table, first, all, shapes, stop, row, least, s);
+    if n != 0 {
+        return Optional::Known(row, wire::tag_bits(wire::byte_at(s, 0)), 1, n);
+    }
+    level::optionals::optional(table, begin, first, shapes, stop, row, least, s)
+}
 
 // A parameter list from a place on: required members as declared, then optionals to the end, with a row for each known member. `begin` is where the table's type rows begin.
 pub fn list(
@@ -33,27 +61,19 @@ pub fn list(
     ensures { λ _. ⌜ length (now (out .exit)) ≡ length (now (out .entry)) ⌝ }
     ensures { λ _. ⌜ ((ps : List Piece) (n : ℕ) → parameters (now (table .entry)) top (drop start (now (m .entry))) ≡ ok ps n → now (out .exit) ≡ fill 0 (pieceRows (now (table .entry)) top start ps) (now (out .entry))) ⌝ }
 {
-    let members = level::required(table, begin, shapes, top, &m[start..], start, 0, out, false);
+    let all = table::members(table);
+    let stop = table::chain::member_end(table, begin, top);
+    let first = table::members_at(table, begin);
+    let members = level::required_simple(table, begin, shapes, top, &m[start..], start, 0, out);
     match members {
         Members::Read(n, k, opt) => {
-            let stop = table::chain::member_end(table, begin, top);
-            let first = table::members_at(table, begin);
             let mut at = start + n;
             let mut count = k;
             let mut optionals = 0;
             let mut least = 0;
             let mut row = opt;
             while at < m.len() {
-                let o = level::optionals::optional(
-                    table,
-                    begin,
-                    first,
-                    shapes,
-                    stop,
-                    row,
-                    least,
-                    &m[at..],
-                );
+                let o = next(table, begin, first, all, shapes, stop, row, least, &m[at..]);
                 match o {
                     Optional::Known(member, tag, b, l) => {
                         wire::rows::put_row(out, count, member, at + b, l - b);

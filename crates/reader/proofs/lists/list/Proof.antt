@@ -11,11 +11,11 @@ use Rattle.reader.proofs.lists.list.Statement.{statement}
 use Rattle.reader.proofs.lists.list.Tie as tie
 
 abbrev Inv-loop : tie.InvT-loop
-Inv-loop table begin shapes top m start out₀ n k opt stop first at₀ count₀ optionals₀ least₀ row₀ out at count optionals least row =
+Inv-loop table begin shapes top m start out₀ all stop first n k opt at₀ count₀ optionals₀ least₀ row₀ out at count optionals least row =
     (length out ≡ length out₀) × Listing table top m (listing table top m at₀ least₀ count₀ optionals₀ out₀) stop at least row count optionals out
 
 abbrev μ-loop : tie.MeasureT-loop
-μ-loop table begin shapes top m start out₀ n k opt stop first at₀ count₀ optionals₀ least₀ row₀ out at count optionals least row = length m - at
+μ-loop table begin shapes top m start out₀ all stop first n k opt at₀ count₀ optionals₀ least₀ row₀ out at count optionals least row = length m - at
 
 pub list-spec : {M : Type 1} → statement M
 list-spec =
@@ -23,19 +23,20 @@ list-spec =
     (tie.spec
     Inv-loop
     μ-loop
-    (λ c. search needs)  -- sub-required
-    (λ c. search needs)  -- part-required-start
-    (λ c. search needs)  -- part-required-end
-    (λ c κs. (search needs, (search needs, (search (needs, list-asks), omega arith))))  -- required-requires
-    (λ c. search needs)  -- enum-known-members
+    (λ c κs. search needs)  -- members-requires
     (λ c κs. search needs)  -- member-end-requires
     (λ c κs. search needs)  -- members-at-requires
+    (λ c. search needs)  -- sub-required-simple
+    (λ c. search needs)  -- part-required-simple-start
+    (λ c. search needs)  -- part-required-simple-end
+    (λ c κs. (search needs, (search needs, (search (needs, list-asks), omega arith))))  -- required-simple-requires
+    (λ c. search needs)  -- enum-known-members
     (λ c. search (needs, list-at))  -- add-at
     (λ c. (refl, list-begin _ _ _ _ _ _ _ _ (search told-both) _ (search) (search needs) (search) (omega arith)))  -- loop-holds
-    (λ c. omega arith)  -- sub-optional
-    (λ c. search needs)  -- part-optional-start
-    (λ c. search needs)  -- part-optional-end
-    (λ c κs. (search needs, (search needs, (search needs, search listing-bound))))  -- optional-requires
+    (λ c. omega arith)  -- sub-next
+    (λ c. search needs)  -- part-next-start
+    (λ c. search needs)  -- part-next-end
+    (λ c κs. (search needs, (search needs, (search needs, (search needs, search listing-bound)))))  -- next-requires
     (λ c. search needs)  -- enum-known-o
     (λ c. search listing-place)  -- add-put-row
     (λ c. search listing-start)  -- sub-put-row
@@ -55,10 +56,10 @@ list-spec =
     (λ c. search needs)  -- enum-known-o-3
     (λ c. search listing-stop)  -- add-t44
     (λ c. search needs)  -- same-length
-    (λ c. (search (stopped-says, c .before .before .before .before .before .before .before .before .before .before .before .before .before .before .before .before .before .before .before .before .pre .1 .0), (search needs, search (stopped-gives, c .before .before .before .before .before .before .before .before .before .before .before .before .before .before .before .before .before .before .before .before .pre .1 .0))))  -- returns
+    (λ c. (search (stopped-says, c .before .before .before .before .before .before .before .before .before .before .before .before .before .before .before .before .before .before .before .before .before .pre .1 .0), (search needs, search (stopped-gives, c .before .before .before .before .before .before .before .before .before .before .before .before .before .before .before .before .before .before .before .before .before .pre .1 .0))))  -- returns
     (λ c. search needs)  -- enum-known-members-2
     (λ c. search (needs, list-place))  -- add-t45
     (λ c. search needs)  -- same-length-2
-    (λ c. (done-says _ _ _ _ _ _ _ _ _ _ _ _ _ _ _ (c .before .loop .inv .1) (c .before .before .before .before .before .before .before .before .before .before .before .before .before .before .before .pre .1 .0) _ (c .before .before .before .before .before .before .before .before .before .required .ensures .0) (c .before .before .before .before .before .members .given .1) (omega arith), (search needs, done-gives _ _ _ _ _ _ _ _ _ _ _ _ _ _ _ (c .before .loop .inv .1) (c .before .before .before .before .before .before .before .before .before .before .before .before .before .before .before .pre .1 .0) _ (c .before .before .before .before .before .before .before .before .before .required .ensures .0) (c .before .before .before .before .before .members .given .1) (omega arith) _ (c .before .before .before .before .before .before .before .before .before .required .ensures .1 .1))))  -- returns-2
+    (λ c. (done-says _ _ _ _ _ _ _ _ _ _ _ _ _ _ _ (c .before .loop .inv .1) (c .before .before .before .before .before .before .before .before .before .before .before .before .before .before .before .before .pre .1 .0) _ (c .before .before .before .before .before .before .before .required-simple .ensures .0) (c .before .before .before .members2 .given .1) (omega arith), (search needs, done-gives _ _ _ _ _ _ _ _ _ _ _ _ _ _ _ (c .before .loop .inv .1) (c .before .before .before .before .before .before .before .before .before .before .before .before .before .before .before .before .pre .1 .0) _ (c .before .before .before .before .before .before .before .required-simple .ensures .0) (c .before .before .before .members2 .given .1) (omega arith) _ (c .before .before .before .before .before .before .before .required-simple .ensures .1 .1))))  -- returns-2
     (λ c. search needs)  -- same-length-3
     (λ c. (search refused-says, (search needs, search refused-gives))))  -- returns-3

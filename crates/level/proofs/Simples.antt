@@ -1,0 +1,182 @@
+-- Members and optionals that may be any bytes, read without a call. Assumes nothing.
+--
+--   tagged-is           the member that a tag names, as the code finds it
+--   bare-is             its form and width, in the same way
+--   simple-answer       a simple optional is what the reader of optionals gives
+--   simple-is                    a required member of any bytes, as the code finds it
+--   simple-room, simple-next     it lies within the bytes at hand, and the loop over rows goes on after it
+--   last-says, last-gives        from a row on all are optional: the required members are read
+--   anew-gives          rows that were put before `required` begins anew are put over
+use mathlib.Core.Path.{_≡_, refl, sym, ap, ap₂, _∙_, subst}
+use mathlib.Core.Bool.{Bool, true, false}
+use mathlib.Core.List.{List}
+use Prim.Native.Nat.{ℕ, suc, _+_, _-_, _*_, _/_, _%_, _^_, _≤_, _<_}
+use native.Mathlib.Numerals.{add-one}
+use native.Mathlib.Omega.{arith}
+use mir.Syntax.{w64}
+use mir.Val.{Fits}
+use lib.ListN.{length, take, drop, length-drop}
+use lib.Seq.{length-take-le}
+use lib.Dec.{eqb, leb}
+use borrow.Author.Tests.{lt-ltb, leb-true, leb-false, eqb-false}
+use Rattle.encoding.specs.Result.{Res, ok, bad, pick, shift, bytes, inside}
+use Rattle.encoding.specs.Value.{value}
+use Rattle.encoding.specs.Old.{membersAs}
+use Rattle.encoding.specs.Table.{at, members, memberType, mark, range, tyOf, trees, requiredsIn}
+use Rattle.encoding.specs.Table
+use Rattle.encoding.specs.Optional.{Piece, requireds, part, header, nextOptional}
+use Rattle.encoding.specs.Message.{rowBytes, pieceRows}
+use Rattle.wire.specs.declared.Step.the-variants.{Took}
+use Rattle.wire.specs.declared.Sized.the-variants.{Is}
+use Rattle.wire.specs.Steps.{bytesOf}
+use Rattle.wire.specs.Put.{put, formBits}
+use Rattle.table.specs.declared.FoundMember.the-variants.{At}
+use Rattle.table.specs.declared.MemberRow.{MemberRow}
+use Rattle.table.specs.Rows.{IsMemberRow}
+use Rattle.table.specs.Tags.{optionalFrom, optionalStart, firstRequired}
+use Rattle.table.proofs.Chains.{optionals-begin, optionals-here}
+use Rattle.shapes.specs.Shapes.{shapesOf, formIn, widthIn}
+use Rattle.shapes.specs.ShapesLaws.{form-row, width-row}
+use Rattle.value.proofs.CycleLaws.{row-wide}
+use Rattle.optional.specs.Forms.{formNamed, runWidth}
+use Rattle.optional.specs.FormsLaws.{bare-width}
+use Rattle.optional.specs.declared.Head.the-variants.{Known as Knows}
+use Rattle.optional.specs.Answers.{typeOf, typeRow, headOf}
+use Rattle.optional.proofs.Lookups.{typed}
+use Rattle.optional.proofs.Declared.{run-whole, part-run}
+use Rattle.optional.proofs.Heads.{front-short, early-fine, head-known}
+use Rattle.level.specs.declared.Members.the-variants.{Read, Refused}
+use Rattle.level.specs.declared.Optional.the-variants.{Known}
+use Rattle.level.specs.Fill.{fill}
+use Rattle.level.specs.FillLaws.{Covered}
+use Rattle.level.specs.Answers.{membersOf, Simple, Tagged, Bare, optionalAnswer}
+use Rattle.level.specs.RequiredLaws.{required-count}
+use Rattle.level.proofs.Parts.{used-wide}
+use Rattle.level.proofs.Nexts.{next-known}
+use Rattle.level.proofs.Requireds.{Due, due-next, due-run, due-says, due-gives}
+
+-- ---- an optional
+
+pub tagged-is : (T : List ℕ) (end row tag : ℕ) → row < end → (r : MemberRow) → IsMemberRow T row r → (r .mark ≡ 0 → ⊥) → tag ≡ r .tag
+    → (all : ℕ) → all ≡ members T → (t : ℕ) → t ≡ typeOf all row (r .of) → Tagged T end row tag t
+tagged-is T end row tag h r is o e all ea t et = record {
+  found = ap (At row) (sym (is .of-is)) ∙ optionals-here T end row tag row (optionals-begin T end row tag) h r is o e;
+  type-is = typed T row all (r .of) t ea (is .of-is) et;
+}
+
+pub bare-is : (shapes : List ℕ) (t k g w : ℕ) → k < 4 → g ≡ formIn shapes t → g ≡ k → w ≡ widthIn shapes t → Bare shapes t k w
+bare-is shapes t k g w h eg e ew = record { few = h; form-is = sym e ∙ eg; width-is = ew }
+
+module _ (T shapes : List ℕ) (ef : shapes ≡ shapesOf T) (end row least : ℕ) (s : List ℕ) (b : ℕ) (eb : b ≡ at s 1 0) (tag : ℕ) (et : tag ≡ b / 8) (k : ℕ) (ek : k ≡ b % 8)
+    (low : tag < 30) (rises : least ≤ tag) (t : ℕ) (G : Tagged T end row tag t) (w : ℕ) (B : Bare shapes t k w) (some : 0 < w) (there : w < length s) where
+  rest : List ℕ
+  rest = take (length s - 1) (drop 1 s)
+
+  -- the header, and the declared bytes after it
+  simple-head : Knows row t tag 1 k ≡ headOf T (optionalFrom T end row) (header (optionalFrom T end row) least s)
+  unfolding formBits typeRow
+  simple-head =
+      head-known T end row least s _ (front-short s (omega arith) b eb tag et (omega arith) k ek (λ q. omega arith)) false tag k 1 refl
+      0 (early-fine least false tag k false refl refl rises (λ q. omega (arith, B .few))) refl
+      _ (G .found) row (memberType T row) refl (members T) refl t (G .type-is) shapes ef k (B .form-is) k (rw (lt-ltb k 8 (omega (arith, B .few)))) refl
+
+  simple-run : w ≡ runWidth k
+  simple-run =
+      let f = B .form-is ∙ form-row T t shapes ef in
+      let v = B .width-is ∙ width-row T t shapes ef in
+      v ∙ bare-width (tyOf T t) (rw (← f) (B .few)) (rw (← v) some) ∙ ap runWidth (sym f)
+
+  simple-part : Is w w ≡ bytesOf (inside (part (formNamed k)) (bytes (value (tyOf T t))) rest)
+  unfolding rest
+  simple-part =
+      let l : w ≤ length rest = omega (arith, length-take-le (length s - 1) (drop 1 s) (omega (arith, length-drop 1 s))) in
+      used-wide (formNamed k) rest (Is w w) (part-run rest k (Is w w) (B .few) w simple-run (run-whole rest w l)) w w refl T shapes ef t w (B .width-is) some refl
+
+  pub simple-known : Known row (at s 1 0 / 8) 1 (1 + w) ≡ optionalAnswer (optionalFrom T end row) (nextOptional (optionalFrom T end row) least s)
+  unfolding rest
+  simple-known =
+      let z : 1 + (w - w) ≡ 1 = omega arith in
+      let e : at s 1 0 / 8 ≡ tag = ap (λ (x : ℕ). x / 8) (sym eb) ∙ sym et in
+      ap (λ (x : ℕ). Known row x 1 (1 + w)) e ∙ ap (λ (x : ℕ). Known row tag x (1 + w)) (sym z)
+      ∙ next-known T end row least s _ simple-head row t tag 1 k refl (Is w w) simple-part w w refl
+
+pub simple-answer : (T shapes : List ℕ) → shapes ≡ shapesOf T → (end row least : ℕ) (s : List ℕ) (b : ℕ) → b ≡ at s 1 0 → (tag : ℕ) → tag ≡ b / 8 → (k : ℕ) → k ≡ b % 8
+    → tag < 30 → least ≤ tag → (t : ℕ) → (t < 65536 → Tagged T end row tag t) → t < 65536 → (w : ℕ) → (0 < w → Bare shapes t k w) → (w ≡ 0 → ⊥) → w < length s
+    → Known row (at s 1 0 / 8) 1 (1 + w) ≡ optionalAnswer (optionalFrom T end row) (nextOptional (optionalFrom T end row) least s)
+simple-answer T shapes ef end row least s b eb tag et k ek low rises t G small w B wz there =
+    simple-known T shapes ef end row least s b eb tag et k ek low rises t (G small) w (B (omega (arith, wz))) (omega (arith, wz)) there
+
+-- ---- a required member
+
+pub simple-is : (T : List ℕ) (m : ℕ) (r : MemberRow) → IsMemberRow T m r → r .mark ≡ 0 → (all : ℕ) → all ≡ members T → (ty : ℕ) → ty ≡ typeOf all m (r .of)
+    → (shapes : List ℕ) → shapes ≡ shapesOf T → (w : ℕ) → w ≡ widthIn shapes ty → (left : ℕ) → w ≤ left → Simple T m left w
+simple-is T m r is z all ea ty ety shapes ef w ew left l = record {
+  mark-is = sym (is .mark-is) ∙ z;
+  width-is = ew ∙ ap₂ widthIn ef (typed T m all (r .of) ty ea (is .of-is) ety);
+  there = l;
+}
+
+module _ (T : List ℕ) (t at count : ℕ) (s out₀ : List ℕ) (m end pos k : ℕ) (out : List ℕ) (D : Due false T t at count s out₀ m end pos k end out) where
+  pub simple-next : m < end → (w : ℕ) → (w ≡ 0 → ⊥) → (0 < w → Simple T m (length s - pos) w)
+      → (o : List ℕ) → o ≡ put (12 * k) (rowBytes (record { member = m; place = at + pos; len = w })) out → Due false T t at count s out₀ (m + 1) end (pos + w) (k + 1) end o
+  simple-next h w wz simple o eo = go (simple (omega (arith, wz)))
+    where
+      took : (a b : ℕ) → Took a ≡ Took b → a ≡ b
+      took a b q = cc
+
+      go : Simple T m (length s - pos) w → Due false T t at count s out₀ (m + 1) end (pos + w) (k + 1) end o
+      go S =
+          let rest : w ≤ length (take (length s - pos) (drop pos s)) = omega (arith, S .there, length-take-le (length s - pos) (drop pos s) (omega (arith, length-drop pos s))) in
+          due-next false T t at count s out₀ m end pos k end out D h (mark T m) refl (S .mark-is) (typeRow T m) refl (Took w)
+          (row-wide false T (shapesOf T) refl (typeRow T m) (take (length s - pos) (drop pos s)) w (S .width-is) (omega (arith, wz)) rest) w refl o (λ n q. rw (took w n q) at eo)
+
+  pub simple-room : (w : ℕ) → (w ≡ 0 → ⊥) → (0 < w → Simple T m (length s - pos) w) → at + length s < 2 ^ 63 → Fits w64 (pos + w)
+  simple-room w wz simple l = omega (arith, D .inside, simple (omega (arith, wz)) .there)
+
+  -- no row from m on is required
+  module _ (i : ℕ) (ei : i ≡ firstRequired T m (end - m)) (last : i ≡ end) where
+    record Done : Type 0 where
+      row : ℕ
+      due : Due false T t at count s out₀ row end pos k m out
+      past : end ≤ row
+
+    done : Done
+    unfolding firstRequired
+    done = go (leb end m) refl
+      where
+        more : m < end → (b : Bool) → eqb (mark T m) 0 ≡ b → i ≡ pick b m (firstRequired T (m + 1) (end - (m + 1))) → Done
+        more h true q e = absurd (omega arith)
+        more h false q e = record {
+          row = i;
+          due = due-run false T t at count s out₀ m end pos k end out D h (mark T m) refl (eqb-false (mark T m) 0 q) m (omega arith) i e;
+          past = omega arith;
+        }
+
+        go : (b : Bool) → leb end m ≡ b → Done
+        go true q =
+            let h = leb-true end m q in
+            let z : end ≡ m = omega (arith, D .within) in
+            record { row = m; due = subst (λ (j : ℕ). Due false T t at count s out₀ m end pos k j out) z D; past = h }
+        go false q =
+            let h = leb-false end m q in
+            let z : end - m ≡ suc (end - (m + 1)) = omega arith in
+            more h (eqb (mark T m) 0) refl (ei ∙ ap (firstRequired T m) z ∙ rw (add-one m))
+
+    pub last-says : Read pos k m ≡ membersOf count (optionalStart T t) (requireds (membersAs false (Table.requiredMembers T t)) s)
+    last-says = due-says false T t at count s out₀ (done .row) end pos k m out (done .due) (done .past)
+
+    pub last-gives : (ps : List Piece) (n : ℕ) → requireds (membersAs false (Table.requiredMembers T t)) s ≡ ok ps n → out ≡ fill count (pieceRows T t at ps) out₀
+    last-gives = due-gives false T t at count s out₀ (done .row) end pos k m out (done .due) (done .past)
+
+  -- no fewer rows than were put
+  enough : (ps : List Piece) (n : ℕ) → requireds (membersAs false (Table.requiredMembers T t)) s ≡ ok ps n → k ≤ count + length ps
+  unfolding membersOf shift
+  enough ps n q = go (requireds (membersAs false (requiredsIn T (trees T) (D .seen) (range m (end - m)))) (drop pos s)) (sym (ap (membersOf count (optionalStart T t)) q) ∙ D .says)
+    where
+      go : (x : Res (List Piece)) → Read n (count + length ps) (optionalStart T t) ≡ membersOf k (optionalStart T t) (shift pos x) → k ≤ count + length ps
+      go (ok qs j) e = let y : count + length ps ≡ k + length qs = cc in omega arith
+      go (bad c p) e = let y : _≡_ {A = ℕ} 0 1 = cc in absurd (omega arith)
+
+  pub anew-gives : Covered count k out out₀ → (o : List ℕ) → ((ps : List Piece) (n : ℕ) → requireds (membersAs false (Table.requiredMembers T t)) s ≡ ok ps n → o ≡ fill count (pieceRows T t at ps) out)
+      → (ps : List Piece) (n : ℕ) → requireds (membersAs false (Table.requiredMembers T t)) s ≡ ok ps n → o ≡ fill count (pieceRows T t at ps) out₀
+  anew-gives C o gives ps n q = gives ps n q ∙ C .over (pieceRows T t at ps) (omega (arith, enough ps n q, required-count false T t s ps n at q))
