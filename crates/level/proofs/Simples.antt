@@ -1,16 +1,18 @@
 -- Members and optionals that may be any bytes, read without a call. Assumes nothing.
 --
 --   tagged-is           the member that a tag names, as the code finds it
---   bare-is             its form and width, in the same way
+--   shape-at, shape-past, shape-least    the shape by type bits, that there is none for other bits, and that it is above 10
 --   simple-answer       a simple optional is what the reader of optionals gives
 --   simple-is                    a required member of any bytes, as the code finds it
+--   simple-begin                 the loop over rows at its start
 --   simple-room, simple-next     it lies within the bytes at hand, and the loop over rows goes on after it
 --   last-says, last-gives        from a row on all are optional: the required members are read
+--   passed-on           an answer of `required`, passed on
 --   anew-gives          rows that were put before `required` begins anew are put over
 use mathlib.Core.Path.{_≡_, refl, sym, ap, ap₂, _∙_, subst}
 use mathlib.Core.Bool.{Bool, true, false}
 use mathlib.Core.List.{List}
-use Prim.Native.Nat.{ℕ, suc, _+_, _-_, _*_, _/_, _%_, _^_, _≤_, _<_}
+use Prim.Native.Nat.{ℕ, zero, suc, _+_, _-_, _*_, _/_, _%_, _^_, _≤_, _<_}
 use native.Mathlib.Numerals.{add-one}
 use native.Mathlib.Omega.{arith}
 use mir.Syntax.{w64}
@@ -22,7 +24,7 @@ use borrow.Author.Tests.{lt-ltb, leb-true, leb-false, eqb-false}
 use Rattle.encoding.specs.Result.{Res, ok, bad, pick, shift, bytes, inside}
 use Rattle.encoding.specs.Value.{value}
 use Rattle.encoding.specs.Old.{membersAs}
-use Rattle.encoding.specs.Table.{at, members, memberType, mark, range, tyOf, trees, requiredsIn}
+use Rattle.encoding.specs.Table.{at, members, field, memberType, mark, range, tyOf, trees, requiredsIn}
 use Rattle.encoding.specs.Table
 use Rattle.encoding.specs.Optional.{Piece, requireds, part, header, nextOptional}
 use Rattle.encoding.specs.Message.{rowBytes, pieceRows}
@@ -35,25 +37,26 @@ use Rattle.table.specs.declared.MemberRow.{MemberRow}
 use Rattle.table.specs.Rows.{IsMemberRow}
 use Rattle.table.specs.Tags.{optionalFrom, optionalStart, firstRequired}
 use Rattle.table.proofs.Chains.{optionals-begin, optionals-here}
-use Rattle.shapes.specs.Shapes.{shapesOf, formIn, widthIn}
+use Rattle.shapes.specs.Shapes.{shapesOf, formCode, widthCode, shapeIn, formIn, widthIn}
 use Rattle.shapes.specs.ShapesLaws.{form-row, width-row}
 use Rattle.value.proofs.CycleLaws.{row-wide}
 use Rattle.optional.specs.Forms.{formNamed, runWidth}
 use Rattle.optional.specs.FormsLaws.{bare-width}
 use Rattle.optional.specs.declared.Head.the-variants.{Known as Knows}
 use Rattle.optional.specs.Answers.{typeOf, typeRow, headOf}
-use Rattle.optional.proofs.Lookups.{typed}
+use Rattle.optional.proofs.Lookups.{type-here, typed}
 use Rattle.optional.proofs.Declared.{run-whole, part-run}
 use Rattle.optional.proofs.Heads.{front-short, early-fine, head-known}
+use Rattle.level.specs.declared.Members.{Members}
 use Rattle.level.specs.declared.Members.the-variants.{Read, Refused}
 use Rattle.level.specs.declared.Optional.the-variants.{Known}
 use Rattle.level.specs.Fill.{fill}
 use Rattle.level.specs.FillLaws.{Covered}
-use Rattle.level.specs.Answers.{membersOf, Simple, Tagged, Bare, optionalAnswer}
+use Rattle.level.specs.Answers.{membersOf, Simple, Tagged, bareShape, optionalAnswer}
 use Rattle.level.specs.RequiredLaws.{required-count}
 use Rattle.level.proofs.Parts.{used-wide}
 use Rattle.level.proofs.Nexts.{next-known}
-use Rattle.level.proofs.Requireds.{Due, due-next, due-run, due-says, due-gives}
+use Rattle.level.proofs.Requireds.{Due, due-begin, due-next, due-run, due-says, due-gives}
 
 -- ---- an optional
 
@@ -64,11 +67,42 @@ tagged-is T end row tag h r is o e all ea t et = record {
   type-is = typed T row all (r .of) t ea (is .of-is) et;
 }
 
-pub bare-is : (shapes : List ℕ) (t k g w : ℕ) → k < 4 → g ≡ formIn shapes t → g ≡ k → w ≡ widthIn shapes t → Bare shapes t k w
-bare-is shapes t k g w h eg e ew = record { few = h; form-is = sym e ∙ eg; width-is = ew }
+-- optionals of row t have type bits k, one of F1 to F8, and width w
+record Bare (shapes : List ℕ) (t k w : ℕ) : Type 0 where
+  few : k < 4
+  form-is : k ≡ formIn shapes t
+  width-is : w ≡ widthIn shapes t
+  some : 0 < w
+
+bare-is : (shapes : List ℕ) (t k x : ℕ) → x ≡ shapeIn shapes t → x < 256 → x ≡ bareShape k → Bare shapes t k (x - 10)
+unfolding bareShape formCode widthCode
+bare-is shapes t zero x ex l e = record { few = omega arith; form-is = rw (← ex, e); width-is = rw (← ex, e); some = omega arith }
+bare-is shapes t (suc zero) x ex l e = record { few = omega arith; form-is = rw (← ex, e); width-is = rw (← ex, e); some = omega arith }
+bare-is shapes t (suc (suc zero)) x ex l e = record { few = omega arith; form-is = rw (← ex, e); width-is = rw (← ex, e); some = omega arith }
+bare-is shapes t (suc (suc (suc zero))) x ex l e = record { few = omega arith; form-is = rw (← ex, e); width-is = rw (← ex, e); some = omega arith }
+bare-is shapes t (suc (suc (suc (suc k)))) x ex l e = absurd (omega arith)
+
+pub shape-at : (n k : ℕ) → k ≡ n → bareShape n ≡ bareShape k
+shape-at n k e = ap bareShape (sym e)
+
+pub shape-least : (x y k : ℕ) → y ≡ bareShape k → x ≡ y → 10 ≤ x
+unfolding bareShape
+shape-least x y zero ey e = omega arith
+shape-least x y (suc zero) ey e = omega arith
+shape-least x y (suc (suc zero)) ey e = omega arith
+shape-least x y (suc (suc (suc zero))) ey e = omega arith
+shape-least x y (suc (suc (suc (suc k)))) ey e = omega arith
+
+pub shape-past : (k : ℕ) → (k ≡ 0 → ⊥) → (k ≡ 1 → ⊥) → (k ≡ 2 → ⊥) → (k ≡ 3 → ⊥) → 256 ≡ bareShape k
+unfolding bareShape
+shape-past zero a b c d = absurd (a refl)
+shape-past (suc zero) a b c d = absurd (b refl)
+shape-past (suc (suc zero)) a b c d = absurd (c refl)
+shape-past (suc (suc (suc zero))) a b c d = absurd (d refl)
+shape-past (suc (suc (suc (suc k)))) a b c d = refl
 
 module _ (T shapes : List ℕ) (ef : shapes ≡ shapesOf T) (end row least : ℕ) (s : List ℕ) (b : ℕ) (eb : b ≡ at s 1 0) (tag : ℕ) (et : tag ≡ b / 8) (k : ℕ) (ek : k ≡ b % 8)
-    (low : tag < 30) (rises : least ≤ tag) (t : ℕ) (G : Tagged T end row tag t) (w : ℕ) (B : Bare shapes t k w) (some : 0 < w) (there : w < length s) where
+    (low : tag < 30) (rises : least ≤ tag) (t : ℕ) (G : Tagged T end row tag t) (w : ℕ) (B : Bare shapes t k w) (there : w < length s) where
   rest : List ℕ
   rest = take (length s - 1) (drop 1 s)
 
@@ -84,15 +118,15 @@ module _ (T shapes : List ℕ) (ef : shapes ≡ shapesOf T) (end row least : ℕ
   simple-run =
       let f = B .form-is ∙ form-row T t shapes ef in
       let v = B .width-is ∙ width-row T t shapes ef in
-      v ∙ bare-width (tyOf T t) (rw (← f) (B .few)) (rw (← v) some) ∙ ap runWidth (sym f)
+      v ∙ bare-width (tyOf T t) (rw (← f) (B .few)) (rw (← v) (B .some)) ∙ ap runWidth (sym f)
 
   simple-part : Is w w ≡ bytesOf (inside (part (formNamed k)) (bytes (value (tyOf T t))) rest)
   unfolding rest
   simple-part =
       let l : w ≤ length rest = omega (arith, length-take-le (length s - 1) (drop 1 s) (omega (arith, length-drop 1 s))) in
-      used-wide (formNamed k) rest (Is w w) (part-run rest k (Is w w) (B .few) w simple-run (run-whole rest w l)) w w refl T shapes ef t w (B .width-is) some refl
+      used-wide (formNamed k) rest (Is w w) (part-run rest k (Is w w) (B .few) w simple-run (run-whole rest w l)) w w refl T shapes ef t w (B .width-is) (B .some) refl
 
-  pub simple-known : Known row (at s 1 0 / 8) 1 (1 + w) ≡ optionalAnswer (optionalFrom T end row) (nextOptional (optionalFrom T end row) least s)
+  simple-known : Known row (at s 1 0 / 8) 1 (1 + w) ≡ optionalAnswer (optionalFrom T end row) (nextOptional (optionalFrom T end row) least s)
   unfolding rest
   simple-known =
       let z : 1 + (w - w) ≡ 1 = omega arith in
@@ -101,20 +135,28 @@ module _ (T shapes : List ℕ) (ef : shapes ≡ shapesOf T) (end row least : ℕ
       ∙ next-known T end row least s _ simple-head row t tag 1 k refl (Is w w) simple-part w w refl
 
 pub simple-answer : (T shapes : List ℕ) → shapes ≡ shapesOf T → (end row least : ℕ) (s : List ℕ) (b : ℕ) → b ≡ at s 1 0 → (tag : ℕ) → tag ≡ b / 8 → (k : ℕ) → k ≡ b % 8
-    → tag < 30 → least ≤ tag → (t : ℕ) → (t < 65536 → Tagged T end row tag t) → t < 65536 → (w : ℕ) → (0 < w → Bare shapes t k w) → (w ≡ 0 → ⊥) → w < length s
-    → Known row (at s 1 0 / 8) 1 (1 + w) ≡ optionalAnswer (optionalFrom T end row) (nextOptional (optionalFrom T end row) least s)
-simple-answer T shapes ef end row least s b eb tag et k ek low rises t G small w B wz there =
-    simple-known T shapes ef end row least s b eb tag et k ek low rises t (G small) w (B (omega (arith, wz))) (omega (arith, wz)) there
+    → tag < 30 → least ≤ tag → (t : ℕ) → (t < 65536 → Tagged T end row tag t) → t < 65536 → (x : ℕ) → x ≡ shapeIn shapes t → x < 256 → (y : ℕ) → y ≡ bareShape k → x ≡ y → x - 10 < length s
+    → Known row (at s 1 0 / 8) 1 (1 + (x - 10)) ≡ optionalAnswer (optionalFrom T end row) (nextOptional (optionalFrom T end row) least s)
+simple-answer T shapes ef end row least s b eb tag et k ek low rises t G small x ex l y ey e there =
+    simple-known T shapes ef end row least s b eb tag et k ek low rises t (G small) (x - 10) (bare-is shapes t k x ex l (e ∙ ey)) there
 
 -- ---- a required member
 
-pub simple-is : (T : List ℕ) (m : ℕ) (r : MemberRow) → IsMemberRow T m r → r .mark ≡ 0 → (all : ℕ) → all ≡ members T → (ty : ℕ) → ty ≡ typeOf all m (r .of)
-    → (shapes : List ℕ) → shapes ≡ shapesOf T → (w : ℕ) → w ≡ widthIn shapes ty → (left : ℕ) → w ≤ left → Simple T m left w
-simple-is T m r is z all ea ty ety shapes ef w ew left l = record {
+pub simple-is : (T : List ℕ) (m : ℕ) (r : MemberRow) → IsMemberRow T m r → r .mark ≡ 0 → m < members T
+    → (shapes : List ℕ) → shapes ≡ shapesOf T → (w : ℕ) → w ≡ widthIn shapes (r .of) → (left : ℕ) → w ≤ left → Simple T m left w
+simple-is T m r is z h shapes ef w ew left l = record {
   mark-is = sym (is .mark-is) ∙ z;
-  width-is = ew ∙ ap₂ widthIn ef (typed T m all (r .of) ty ea (is .of-is) ety);
+  width-is = ew ∙ ap₂ widthIn ef (typed T m (members T) (r .of) (r .of) refl (is .of-is) (type-here (members T) m (r .of) h));
   there = l;
 }
+
+-- an answer that was passed on
+pub passed-on : (r ms x : Members) → r ≡ ms → ms ≡ x → r ≡ x
+passed-on r ms x e f = e ∙ f
+
+pub simple-begin : (T : List ℕ) (t at count : ℕ) (s out : List ℕ) (from end : ℕ) → from ≡ field T t 0 → end ≡ field T t 0 + field T t 1 → from < 65536 → end < from + 65536
+    → Due false T t at count s out from end 0 count end out
+simple-begin T t at count s out from end ef ee lf le = rw (ef, ee) (due-begin false T t at count s out (field T t 0) (field T t 1) refl refl (omega arith) (omega arith))
 
 module _ (T : List ℕ) (t at count : ℕ) (s out₀ : List ℕ) (m end pos k : ℕ) (out : List ℕ) (D : Due false T t at count s out₀ m end pos k end out) where
   pub simple-next : m < end → (w : ℕ) → (w ≡ 0 → ⊥) → (0 < w → Simple T m (length s - pos) w)

@@ -3,22 +3,22 @@
 --   membersOf k i r   required members that were read: the bytes taken, how many rows there are, k before them, and i, where the optional ones begin
 --   Simple m left w   member row m is required, every string of w bytes is a value of its type, and as many are left
 --   Tagged end row k t    the look-up of tag k before row `end`, from `row` on, finds member `row` at once; its type has row t
---   Bare shapes t k w     optionals of row t have type bits k, one of F1 to F8, and width w
+--   bareShape k       the shape of a type whose values are any bytes of type k, F1 to F8
 --   rowOr             a member's row, if there is one
 --   pieceAnswer       what is answered of a piece that took n bytes
 --   optionalAnswer    the next optional: a known one with its member row, its tag, where its bytes begin and the bytes taken; or a skipped one
 use mathlib.Core.Path.{_≡_}
 use mathlib.Core.Option.{Option, none, some}
-use mathlib.Core.List.{List}
-use Prim.Native.Nat.{ℕ, _+_, _-_, _≤_, _<_}
-use lib.ListN.{length}
+use mathlib.Core.List.{List, [], _∷_}
+use Prim.Native.Nat.{ℕ, _+_, _-_, _≤_}
+use lib.ListN.{length, getD}
 use Rattle.encoding.specs.Result.{Res, ok, bad}
 use Rattle.encoding.specs.Table.{memberType, mark, Member, lookup}
 use Rattle.encoding.specs.Optional.{Piece, required, optional, skipped}
 use Rattle.table.specs.declared.FoundMember.the-variants.{At}
 use Rattle.table.specs.Found.{memberFound}
 use Rattle.table.specs.Tags.{optionalFrom}
-use Rattle.shapes.specs.Shapes.{shapesOf, formIn, widthIn}
+use Rattle.shapes.specs.Shapes.{shapesOf, widthIn}
 use Rattle.optional.specs.Answers.{typeRow}
 use Rattle.level.specs.declared.Members.{Members}
 use Rattle.level.specs.declared.Members.the-variants.{Read, Refused}
@@ -38,10 +38,8 @@ pub record Tagged (T : List ℕ) (end row k t : ℕ) : Type 0 where
   pub found : At row (memberType T row) ≡ memberFound T (lookup k (optionalFrom T end row))
   pub type-is : t ≡ typeRow T row
 
-pub record Bare (shapes : List ℕ) (t k w : ℕ) : Type 0 where
-  pub few : k < 4
-  pub form-is : k ≡ formIn shapes t
-  pub width-is : w ≡ widthIn shapes t
+unfoldable pub bareShape : ℕ → ℕ
+bareShape k = getD (11 ∷ 12 ∷ 14 ∷ 18 ∷ []) k 256
 
 unfoldable pub rowOr : Option Member → ℕ
 rowOr none = 0

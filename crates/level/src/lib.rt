@@ -7,7 +7,7 @@ ghost use mathlib.Core.List.{List};
 ghost use Prim.Native.Nat.{ℕ, _+_, _*_, _^_, _≤_, _<_};
 ghost use lib.ListN.{length};
 ghost use Rattle.encoding.specs.Result.{ok};
-ghost use Rattle.encoding.specs.Table.{members, typesAt, membersAt, memberAt, tyOf, requiredMembers};
+ghost use Rattle.encoding.specs.Table.{members, typesAt, membersAt, memberAt, field, tyOf, requiredMembers};
 ghost use Rattle.encoding.specs.Value.{value};
 ghost use Rattle.encoding.specs.Old.{typeAs, membersAs};
 ghost use Rattle.encoding.specs.Optional.{Piece, requireds};
@@ -123,16 +123,10 @@ pub fn required(
     Members::Read(pos, k, next)
 }
 
-// The bytes of required member m, which may be any bytes, where no more are left; 0 if m is optional, or its type asks more of its bytes, or more are needed. The table has `all` member rows, from `first` on; row m lies inside it.
-fn simple(
-    table: &[u8],
-    first: usize,
-    all: usize,
-    shapes: &[u8; 256],
-    m: usize,
-    left: usize,
-) -> usize
-    requires { ⌜ (first ≡ membersAt (now table)) × (all ≡ members (now table)) ⌝ }
+// The bytes of required member m, which may be any bytes, where no more are left; 0 if m is optional, or its type asks more of its bytes, or more are needed. Row m is one of the table's member rows, which begin at `first`.
+fn simple(table: &[u8], first: usize, shapes: &[u8; 256], m: usize, left: usize) -> usize
+    requires { ⌜ first ≡ membersAt (now table) ⌝ }
+    requires { ⌜ m < members (now table) ⌝ }
     requires { ⌜ memberAt (now table) (m + 1) ≤ length (now table) ⌝ }
     requires { ⌜ now shapes ≡ shapesOf (now table) ⌝ }
     ensures { λ r. ⌜ (0 < r → Simple (now (table .entry)) m left r) ⌝ }
@@ -141,44 +135,61 @@ fn simple(
     if row.mark != 0 {
         return 0;
     }
-    let w = shapes::width(shapes, optional::type_of(all, m, row.of));
+    let w = shapes::width(shapes, row.of);
     if left < w {
         return 0;
     }
     w
 }
 
-// As `required` in encoding 1.1. Members that may be any bytes are read without a call; if another one is required too, `required` begins anew.
+// The same answer, taken apart and put together again, so that its numbers stay in registers.
+fn same(members: Members) -> Members
+    ensures { λ r. ⌜ r ≡ members ⌝ }
+{
+    match members {
+        Members::Read(n, k, i) => Members::Read(n, k, i),
+        Members::Refused(c, p) => Members::Refused(c, p),
+    }
+}
+
+// As `required` in encoding 1.1, for an owner that takes member rows `from` to `end` - 1. The table has `all` member rows, from `first` on. Members that may be any bytes are read without a call; if another one is required too, `required` begins anew.
 // It is called at one place and inlined there: so a parameter list of numbers is read without a call.
 pub fn required_simple(
     table: &[u8],
     begin: usize,
+    first: usize,
+    all: usize,
     shapes: &[u8; 256],
     t: usize,
+    from: usize,
+    end: usize,
     s: &[u8],
     at: usize,
     count: usize,
     out: &mut [u8],
 ) -> Members
     requires { ⌜ begin ≡ typesAt (now table) ⌝ }
+    requires { ⌜ (first ≡ membersAt (now table)) × (first < 1048576) ⌝ }
+    requires { ⌜ all ≡ members (now table) ⌝ }
+    requires { ⌜ (from ≡ field (now table) t 0) × (end ≡ field (now table) t 0 + field (now table) t 1) ⌝ }
+    requires { ⌜ (from < 65536) × (end < from + 65536) ⌝ }
     requires { ⌜ now shapes ≡ shapesOf (now table) ⌝ }
     requires { ⌜ (at + length (now s) < 2 ^ 63) × (count < 2 ^ 63) ⌝ }
     ensures { λ r. ⌜ r ≡ membersOf count (optionalStart (now (table .entry)) t) (requireds (membersAs false (requiredMembers (now (table .entry)) t)) (now (s .entry))) ⌝ }
     ensures { λ _. ⌜ length (now (out .exit)) ≡ length (now (out .entry)) ⌝ }
     ensures { λ _. ⌜ ((ps : List Piece) (n : ℕ) → requireds (membersAs false (requiredMembers (now (table .entry)) t)) (now (s .entry)) ≡ ok ps n → now (out .exit) ≡ fill count (pieceRows (now (table .entry)) t at ps) (now (out .entry))) ⌝ }
 {
-    let all = table::members(table);
-    let first = table::members_at(table, begin);
-    let owner = table::type_row(table, begin, t);
-    let end = owner.a + owner.b;
-    if table.len() < table::member_at(table, first, end) {
-        return required(table, begin, shapes, t, s, at, count, out, false);
+    if all < end {
+        return same(required(table, begin, shapes, t, s, at, count, out, false));
     }
-    let mut m = owner.a;
+    if table.len() < table::member_at(table, first, end) {
+        return same(required(table, begin, shapes, t, s, at, count, out, false));
+    }
+    let mut m = from;
     let mut pos = 0;
     let mut k = count;
     while m < end {
-        let w = simple(table, first, all, shapes, m, s.len() - pos);
+        let w = simple(table, first, shapes, m, s.len() - pos);
         if w == 0 {
             break;
         }
@@ -190,5 +201,5 @@ pub fn required_simple(
     if table::chain::required_from(table, first, m, end) == end {
         return Members::Read(pos, k, m);
     }
-    required(table, begin, shapes, t, s, at, count, out, false)
+    same(required(table, begin, shapes, t, s, at, count, out, false))
 }

@@ -10,7 +10,7 @@ ghost use Rattle.table.specs.Tags.{optionalFrom};
 ghost use Rattle.optional.specs.Forms.{formNamed};
 ghost use Rattle.wire.specs.Steps.{bytesOf};
 ghost use Rattle.level.specs.declared.Optional.the-variants.{Known};
-ghost use Rattle.level.specs.Answers.{Tagged, Bare, optionalAnswer};
+ghost use Rattle.level.specs.Answers.{Tagged, bareShape, optionalAnswer};
 use crate::Optional;
 use optional::Head;
 use wire::Sized;
@@ -114,21 +114,21 @@ fn tagged(table: &[u8], first: usize, all: usize, end: usize, row: usize, tag: u
     optional::type_of(all, row, member.of)
 }
 
-// How many bytes a value of row t has whose optional has type bits k, F1 to F8, if any bytes are one; else 0.
-fn width_of(shapes: &[u8; 256], t: usize, k: usize) -> usize
-    ensures { λ r. ⌜ (0 < r → Bare (now (shapes .entry)) t k r) ⌝ }
+// The shape of the types whose values are any bytes of F1, F2, F4 or F8, by the type bits k; no shape for other bits.
+fn bare_shape(k: usize) -> usize
+    ensures { λ r. ⌜ r ≡ bareShape k ⌝ }
 {
-    if 4 <= k {
-        return 0;
+    match k {
+        0 => 11,
+        1 => 12,
+        2 => 14,
+        3 => 18,
+        _ => 256,
     }
-    if shapes::form(shapes, t) != k {
-        return 0;
-    }
-    shapes::width(shapes, t)
 }
 
 // How many bytes a simple optional takes, with its header; 0 if the next one is not simple. It is simple if its tag is below 30 and that of member row `row`, and its value any bytes of F1, F2, F4 or F8.
-// It is short enough to be inlined, so that most optionals of a parameter list take no call.
+// It is short enough to be inlined, so that most optionals of a parameter list take no call. The width comes from the row's shape, not from the header: so the next header is looked at without waiting for this one.
 pub fn simple(
     table: &[u8],
     first: usize,
@@ -158,10 +158,11 @@ pub fn simple(
     if 65536 <= t {
         return 0;
     }
-    let w = width_of(shapes, t, k);
-    if w == 0 {
+    let x = shapes::shape(shapes, t);
+    if x != bare_shape(k) {
         return 0;
     }
+    let w = x - 10;
     if s.len() <= w {
         return 0;
     }

@@ -5,6 +5,7 @@
 --   marker-.., lead-.., ended-..       those of a class's marker, of the header byte of 1.0, of the end
 --   mark-.., lead-..                   the marker, or no byte, and the header byte lie within the message
 --   new-.., old-..                     what a walk over a list, slices or pairs makes of the contents, in 1.1 and 1.0
+--   body-takes                         the top's member rows, by its row
 --   body-..                            what a walk over the contents makes of the message
 use mathlib.Core.Path.{_≡_, refl, sym, ap, ap₂, _∙_}
 use mathlib.Core.Bool.{Bool, true, false}
@@ -40,6 +41,13 @@ use Rattle.slices.specs.declared.Walk.{Walk}
 use Rattle.slices.specs.declared.Walk.the-variants.{Done, Stop}
 use Rattle.reader.specs.OldUse.{OldUse}
 use Rattle.slices.specs.Walks.{chainRows, sliceWalk, listWalk, oldWalk, pairRows, pairWalk, markerOf, endedWalk, readDone, readWalk, bodyWalk}
+use Rattle.table.specs.declared.TypeRow.{TypeRow}
+use Rattle.table.specs.Rows.{IsTypeRow}
+use Rattle.reader.specs.Takes.{Takes}
+
+-- the member rows of the top, by its row
+pub body-takes : (T : List ℕ) (t : ℕ) (r : TypeRow) → IsTypeRow T t r → Takes T t (r .a) (r .a + r .b)
+body-takes T t r is = record { from-is = is .a-is; stop-is = ap₂ _+_ (is .a-is) (is .b-is); from-small = is .a-small; stop-small = omega (arith, is .b-small) }
 
 -- ---- what is known of encoding 1.0
 

@@ -5,6 +5,8 @@
 --   told-both                  two results of one answer are the same
 --   Listing, list-begin        what holds at the loop's head, and that it does at first
 --   listing-..                 what each step makes of it
+--   simple-..                  what a simple optional makes of it
+--   listing-again, listing-join   the second loop begins where the first one ended, and both are one
 --   done-.., stopped-.., refused-..   the answer and the lent list are those of the walk: at the end, where an optional is refused, where a required member is
 use mathlib.Core.Path.{_≡_, refl, sym, ap, ap₂, _∙_}
 use mathlib.Core.Bool.{false}
@@ -27,6 +29,7 @@ use Rattle.wire.specs.StepLaws.{rest-is}
 use Rattle.table.specs.Tags.{optionalFrom, optionalStart, Passed}
 use Rattle.table.specs.Tags
 use Rattle.table.specs.TagsLaws.{passed-none, passed-still, passed-behind}
+use Rattle.table.proofs.Chains.{passing-begin, passing-end}
 use Rattle.level.specs.Fill.{fill}
 use Rattle.level.specs.TagLaws.{passed-answer, member-tag, member-begun, member-within}
 use Rattle.level.specs.Answers.{membersOf, optionalAnswer}
@@ -261,6 +264,47 @@ module _ {T : List ℕ} {top : ℕ} {m : List ℕ} {whole : WalkEnd} {stop at le
       listing-wrong out′ =
           ends-refused whole c (at + p) (Stop c (at + p)) out′
           (inv .rest ∙ finish-wrong T top (listClose top) refused atEnd false least (drop at m) at k o out (not-end m at on) c p (wrong-read (Table.optionalMembers T top) least (drop at m) r answers c p q)) refl
+
+-- ---- a simple optional
+
+module _ {T : List ℕ} {top : ℕ} {m : List ℕ} {whole : WalkEnd} {stop at least row k o : ℕ} {out : List ℕ} (inv : Listing T top m whole stop at least row k o out) (on : at < length m) (n b tag : ℕ)
+    (simple : 0 < n → Known row (Table.at (take (length m - at) (drop at m)) 1 0 / 8) 1 n ≡ optionalAnswer (optionalFrom T stop row) (nextOptional (optionalFrom T stop row) least (take (length m - at) (drop at m))))
+    (some : n ≡ 0 → ⊥) (eb : b ≡ Table.at (take (length m - at) (drop at m)) 1 0) (et : tag ≡ b / 8) where
+  answer : Known row tag 1 n ≡ optionalAnswer (optionalFrom T stop row) (nextOptional (optionalFrom T stop row) least (take (length m - at) (drop at m)))
+  answer = next-simple _ row n b tag _ simple some eb et
+
+  pub simple-place : Fits w64 (at + 1)
+  simple-place = listing-place inv on answer refl
+
+  pub simple-some : 1 ≤ n
+  simple-some = listing-start inv on answer refl
+
+  pub simple-count : Fits w64 (k + 1)
+  simple-count = listing-count inv on answer refl
+
+  pub simple-fits : Fits w64 (at + n)
+  simple-fits = listing-fits inv on answer refl
+
+  pub simple-tag : Fits w64 (tag + 1)
+  simple-tag = listing-tag inv on answer refl
+
+  pub simple-row : Fits w64 (row + 1)
+  simple-row = omega (arith, listing-few inv on answer refl)
+
+  pub simple-less : length m - (at + n) < length m - at
+  simple-less = listing-less inv on answer refl
+
+  pub simple-known : {out′ : List ℕ} → out′ ≡ put (12 * k) (rowBytes (record { member = row; place = at + 1; len = n - 1 })) out → Listing T top m whole stop (at + n) (tag + 1) (row + 1) (k + 1) o out′
+  simple-known w = listing-known inv on answer refl w (passing-end T row row tag row (passing-begin T row row tag) (omega arith))
+
+-- one loop after another
+pub listing-join : {T : List ℕ} {top : ℕ} {m : List ℕ} {whole : WalkEnd} {stop at least row k o : ℕ} {out : List ℕ} → Listing T top m whole stop at least row k o out
+    → {at′ least′ row′ k′ o′ : ℕ} {out′ : List ℕ} → Listing T top m (listing T top m at least k o out) stop at′ least′ row′ k′ o′ out′ → Listing T top m whole stop at′ least′ row′ k′ o′ out′
+listing-join L M = record { small = M .small; room = M .room; inside = M .inside; few = M .few; fewer = M .fewer; passed = M .passed; rest = L .rest ∙ M .rest }
+
+pub listing-again : {T : List ℕ} {top : ℕ} {m : List ℕ} {whole : WalkEnd} {stop at least row k o : ℕ} {out : List ℕ} → Listing T top m whole stop at least row k o out
+    → Listing T top m (listing T top m at least k o out) stop at least row k o out
+listing-again L = record { small = L .small; room = L .room; inside = L .inside; few = L .few; fewer = L .fewer; passed = L .passed; rest = refl }
 
 -- ---- how the walk ends
 

@@ -1,2 +1,3 @@
--- What a walk over a message is handed in beside the table.
+-- What a walk over a message is given besides the table.
 pub mod OldUse
+pub mod Takes

@@ -15,6 +15,7 @@ ghost use Rattle.shapes.specs.Shapes.{shapesOf};
 ghost use Rattle.level.specs.Fill.{fill};
 ghost use Rattle.slices.specs.Walks.{markerOf, endedWalk, readWalk, bodyWalk};
 ghost use Rattle.reader.specs.OldUse.{OldUse};
+ghost use Rattle.reader.specs.Takes.{Takes};
 use slices::Walk;
 use wire::Sized;
 use wire::Step;
@@ -129,26 +130,29 @@ fn lead(s: &[u8]) -> Step
     Step::Took(1)
 }
 
-// What an encapsulation of 1.1 holds, with a row for each known member.
+// What an encapsulation of 1.1 holds, with a row for each known member. The top takes member rows `from` to `stop` - 1.
 fn contents(
     table: &[u8],
     begin: usize,
     shapes: &[u8; 256],
     top: usize,
     kind: usize,
+    from: usize,
+    stop: usize,
     m: &[u8],
     out: &mut [u8],
 ) -> Walk
     requires { ⌜ begin ≡ typesAt (now table) ⌝ }
     requires { ⌜ now shapes ≡ shapesOf (now table) ⌝ }
     requires { ⌜ kind ≡ kind-of (now table) top ⌝ }
+    requires { ⌜ Takes (now table) top from stop ⌝ }
     requires { ⌜ 6 ≤ length (now m) ⌝ }
     ensures { λ r. ⌜ r ≡ readWalk (now (table .entry)) top 6 (contents (now (table .entry)) top (drop 6 (now (m .entry)))) ⌝ }
     ensures { λ _. ⌜ length (now (out .exit)) ≡ length (now (out .entry)) ⌝ }
     ensures { λ _. ⌜ ((r : Read) (n : ℕ) → contents (now (table .entry)) top (drop 6 (now (m .entry))) ≡ ok r n → now (out .exit) ≡ fill 0 (rows (now (table .entry)) top (r .format) (r .pieces)) (now (out .entry))) ⌝ }
 {
     if kind == 15 {
-        return lists::list(table, begin, shapes, top, m, 6, out);
+        return lists::list(table, begin, shapes, top, from, stop, m, 6, out);
     }
     let mark = marker_of(kind, &m[6..]);
     match mark {
@@ -202,7 +206,10 @@ pub fn body(
     ensures { λ _. ⌜ length (now (out .exit)) ≡ length (now (out .entry)) ⌝ }
     ensures { λ _. ⌜ ((r : Read) (n : ℕ) → body (now (table .entry)) top (now (m .entry)) ≡ ok r n → now (out .exit) ≡ fill 0 (rows (now (table .entry)) top (r .format) (r .pieces)) (now (out .entry))) ⌝ }
 {
-    let kind = table::kind(table, begin, top);
+    let row = table::type_row(table, begin, top);
+    let kind = row.kind;
+    let from = row.a;
+    let stop = row.a + row.b;
     let version = capsule(table, begin, top, old_use, kind, m);
     match version {
         Sized::Is(v, n) => {
@@ -212,7 +219,10 @@ pub fn body(
                     m.len(),
                 );
             }
-            ended(contents(table, begin, shapes, top, kind, m, out), m.len())
+            ended(
+                contents(table, begin, shapes, top, kind, from, stop, m, out),
+                m.len(),
+            )
         }
         Sized::Isnt(c, p) => Walk::Stop(c, p),
     }

@@ -14,6 +14,7 @@ ghost use Rattle.table.specs.Tags.{optionalFrom};
 ghost use Rattle.level.specs.Fill.{fill};
 ghost use Rattle.level.specs.Answers.{optionalAnswer};
 ghost use Rattle.slices.specs.Walks.{listWalk, oldWalk};
+ghost use Rattle.reader.specs.Takes.{Takes};
 use level::Members;
 use level::Optional;
 use slices::Walk;
@@ -44,17 +45,21 @@ fn next(
     level::optionals::optional(table, begin, first, shapes, stop, row, least, s)
 }
 
-// A parameter list from a place on: required members as declared, then optionals to the end, with a row for each known member. `begin` is where the table's type rows begin.
+// A parameter list from a place on: required members as declared, then optionals to the end, with a row for each known member. `begin` is where the table's type rows begin; the list takes member rows `from` to `stop` - 1.
+// The optionals have two loops: the first one ends at the first optional that is not simple. No call is in it, so its numbers stay in registers.
 pub fn list(
     table: &[u8],
     begin: usize,
     shapes: &[u8; 256],
     top: usize,
+    from: usize,
+    stop: usize,
     m: &[u8],
     start: usize,
     out: &mut [u8],
 ) -> Walk
     requires { ⌜ begin ≡ typesAt (now table) ⌝ }
+    requires { ⌜ Takes (now table) top from stop ⌝ }
     requires { ⌜ start ≤ length (now m) ⌝ }
     requires { ⌜ now shapes ≡ shapesOf (now table) ⌝ }
     ensures { λ r. ⌜ r ≡ listWalk (now (table .entry)) top start (parameters (now (table .entry)) top (drop start (now (m .entry)))) ⌝ }
@@ -62,9 +67,21 @@ pub fn list(
     ensures { λ _. ⌜ ((ps : List Piece) (n : ℕ) → parameters (now (table .entry)) top (drop start (now (m .entry))) ≡ ok ps n → now (out .exit) ≡ fill 0 (pieceRows (now (table .entry)) top start ps) (now (out .entry))) ⌝ }
 {
     let all = table::members(table);
-    let stop = table::chain::member_end(table, begin, top);
     let first = table::members_at(table, begin);
-    let members = level::required_simple(table, begin, shapes, top, &m[start..], start, 0, out);
+    let members = level::required_simple(
+        table,
+        begin,
+        first,
+        all,
+        shapes,
+        top,
+        from,
+        stop,
+        &m[start..],
+        start,
+        0,
+        out,
+    );
     match members {
         Members::Read(n, k, opt) => {
             let mut at = start + n;
@@ -72,6 +89,19 @@ pub fn list(
             let mut optionals = 0;
             let mut least = 0;
             let mut row = opt;
+            while at < m.len() {
+                let rest = &m[at..];
+                let n = level::optionals::simple(table, first, all, shapes, stop, row, least, rest);
+                if n == 0 {
+                    break;
+                }
+                let tag = wire::tag_bits(wire::byte_at(rest, 0));
+                wire::rows::put_row(out, count, row, at + 1, n - 1);
+                count += 1;
+                at += n;
+                least = tag + 1;
+                row += 1;
+            }
             while at < m.len() {
                 let o = next(table, begin, first, all, shapes, stop, row, least, &m[at..]);
                 match o {

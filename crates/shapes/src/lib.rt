@@ -32,7 +32,7 @@ fn width_code(x: usize) -> usize
 }
 
 // The shape of row t; a row past the array is broken.
-fn shape(shapes: &[u8; 256], t: usize) -> usize
+pub fn shape(shapes: &[u8; 256], t: usize) -> usize
     ensures { λ r. ⌜ (r ≡ shapeIn (now (shapes .entry)) t) × (r < 256) ⌝ }
 {
     if t < 256 {

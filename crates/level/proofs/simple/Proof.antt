@@ -11,7 +11,6 @@ simple-spec =
     (tie.spec
     (λ c κs. search needs)  -- member-row-in-requires
     (λ c h. absurd (omega arith))  -- returns
-    (λ c κs. search needs)  -- type-of-requires
     (λ c κs. search needs)  -- width-requires
     (λ c h. absurd (omega arith))  -- returns-2
     (λ c h. search simple-is))  -- returns-3

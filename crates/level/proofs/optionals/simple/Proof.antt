@@ -1,7 +1,7 @@
 -- The first row looked at has the tag, and the value is as wide as its form.
 use borrow.Author.Needs.{needs}
 use native.Mathlib.Omega.{arith}
-use Rattle.level.proofs.Simples.{simple-answer}
+use Rattle.level.proofs.Simples.{shape-least, simple-answer}
 use Rattle.level.proofs.optionals.simple.Statement.{statement}
 use Rattle.level.proofs.optionals.simple.Tie as tie
 
@@ -16,8 +16,10 @@ simple-spec =
     (λ c h. absurd (omega arith))  -- returns-2
     (λ c κs. search needs)  -- tagged-requires
     (λ c h. absurd (omega arith))  -- returns-3
-    (λ c κs. search needs)  -- width-of-requires
+    (λ c κs. search needs)  -- shape-requires
+    (λ c κs. search needs)  -- bare-shape-requires
     (λ c h. absurd (omega arith))  -- returns-4
+    (λ c. search shape-least)  -- sub-w
     (λ c h. absurd (omega arith))  -- returns-5
     (λ c. omega arith)  -- add-result
     (λ c h. search simple-answer))  -- returns-6
