@@ -1,4 +1,4 @@
--- By the lists of the two rows. Assumes nothing.
+-- By which of the two rows has a list: both lists, one list, or the greatest numbers alone. Assumes nothing.
 use Rattle.agreeing.proofs.Cells.{enums-listed, enums-one, enums-other, enums-all}
 use borrow.Author.Needs.{needs}
 use Rattle.agreeing.proofs.enums.Statement.{statement}
