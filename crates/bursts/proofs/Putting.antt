@@ -15,13 +15,13 @@ use native.Mathlib.Numerals.{add-one}
 use lib.ListN.{length, take, drop, getD, set, length-set, take-append-drop}
 use lib.Seq.{drop-cons, take-suc-set, drop-set-lt}
 use lib.Dec.{leb}
-use borrow.Author.Tests.{le-leb, lt-leb, leb-true, leb-false}
+use borrow.Author.Tests.{le-leb, lt-leb, leb-true}
 use Rattle.encoding.specs.Result.{pick}
 use Rattle.bursts.specs.declared.Found.{Found}
 use Rattle.bursts.specs.declared.Found.the-variants.{At, Nowhere}
 use Rattle.bursts.specs.declared.Planned.{Planned}
 use Rattle.bursts.specs.declared.Planned.the-variants.{Made, Unplanned}
-use Rattle.bursts.specs.Bursts.{Waiting, Entry, most, waitings, messageAt, lengthOf, tooLong, fill, plan, Plan, plan-of, no-plan, entryRoom, planWithin, planning, entryNumbers, planListed, plannedOf}
+use Rattle.bursts.specs.Bursts.{Waiting, most, waitings, messageAt, lengthOf, tooLong, fill, plan, Plan, plan-of, no-plan, entryRoom, planWithin, planning, entryNumbers, planListed, plannedOf}
 use Rattle.bursts.specs.Running.{foundOf}
 use Rattle.bursts.specs.RunningLaws.{drop-all}
 use Rattle.bursts.specs.PairLaws.{waitings-count, length-at}

@@ -5,12 +5,12 @@ use mathlib.Core.Path.{_≡_, refl, sym, ap, _∙_, subst}
 use mathlib.Core.Bool.{Bool, true, false, _&&_, _||_, not, true≢false, false≢true}
 use mathlib.Core.Option.{Option, none, some}
 use mathlib.Core.List.{List, [], _∷_, _++_, append-assoc, append-nil}
-use Prim.Native.Nat.{ℕ, zero, suc, _+_, _-_, _*_, _≤_, _<_}
+use Prim.Native.Nat.{ℕ, zero, suc, _+_, _≤_, _<_}
 use native.Mathlib.Omega.{arith}
-use lib.ListN.{length, take, drop, getD, length-append, take-append-drop, List·getD-append}
-use lib.Seq.{take-suc, take-append-seam, getD-append-seam, length-take-le}
+use lib.ListN.{length, take, drop, length-append, take-append-drop, List·getD-append}
+use lib.Seq.{take-suc, take-append-seam, getD-append-seam}
 use lib.Dec.{eqb, leb, ltb}
-use borrow.Author.Tests.{eqb-true, eqb-false, leb-true, leb-false, ltb-true, ltb-false, not-true, not-false, lt-ltb, le-ltb, le-leb, lt-leb, eq-eqb, ne-eqb}
+use borrow.Author.Tests.{eqb-true, eqb-false, leb-false, ltb-true, ltb-false, not-false, le-ltb, lt-leb, eq-eqb, ne-eqb}
 use Rattle.encoding.specs.Result.{pick}
 use Rattle.encoding.specs.ResultLaws.{some≢none, both-true, either-false}
 use Rattle.encoding.specs.Table.{range}
@@ -295,14 +295,6 @@ none-begun ws i before (e ∷ es) h b = go (brokenBy ws before e) refl (λ u v. 
     go false w ih =
         subst (λ (l : List Entry). Begun ws l) (append-assoc before (e ∷ []) es)
         (ih (sym (broken-step ws i before e es w) ∙ h) (begun-snoc ws before e b (fits-of ws before e w)))
-
-begun-none : (ws : List Waiting) (i : ℕ) (before es : List Entry) → Begun ws (before ++ es) → firstBroken ws i before es ≡ none
-unfolding firstBroken
-begun-none ws i before [] b = refl
-begun-none ws i before (e ∷ es) b =
-    let b′ : Begun ws (before ++ (e ∷ []) ++ es) = subst (λ (l : List Entry). Begun ws l) (sym (append-assoc before (e ∷ []) es)) b in
-    broken-step ws i before e es (of-fits ws before e (begun-fits ws before e (begun-front ws (before ++ (e ∷ [])) es b′)))
-    ∙ begun-none ws (suc i) (before ++ (e ∷ [])) es b′
 
 -- the first k entries are begun, and with one more they are not
 record Stops (ws : List Waiting) (es : List Entry) (k : ℕ) : Type 0 where

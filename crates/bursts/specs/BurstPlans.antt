@@ -2,20 +2,18 @@
 -- The idea: while the planner fills, the entries so far are begun, message k is in entry k, and the last burst has as many bytes left as it counts.
 -- Assumes nothing.
 use mathlib.Core.Path.{_≡_, refl, sym, ap, _∙_, subst}
-use mathlib.Core.Bool.{Bool, true, false, true≢false, false≢true}
+use mathlib.Core.Bool.{Bool, true, false}
 use mathlib.Core.Option.{Option, none, some}
 use mathlib.Core.List.{List, [], _∷_, _++_, append-assoc, append-nil}
 use Prim.Native.Nat.{ℕ, zero, suc, _+_, _-_, _*_, _/_, _≤_, _<_}
 use native.Mathlib.Omega.{arith}
-use lib.ListN.{length, take, drop, getD, length-append, length-drop, List·getD-append}
+use lib.ListN.{length, take, drop, getD, length-append, length-drop}
 use lib.Seq.{getD-append-seam, drop-at, take-at, take-append-le, take-append-seam}
-use lib.Dec.{eqb, leb, ltb}
-use borrow.Author.Tests.{leb-true, leb-false, ltb-true, ltb-false, lt-ltb, le-ltb, le-leb, lt-leb}
-use Rattle.encoding.specs.Result.{pick}
+use lib.Dec.{leb, ltb}
+use borrow.Author.Tests.{leb-true, leb-false, ltb-false, lt-ltb, le-ltb, le-leb, lt-leb}
 use Rattle.encoding.specs.ResultLaws.{some≢none}
-use Rattle.bursts.specs.declared.Checked.the-variants.{Sound}
-use Rattle.bursts.specs.Bursts.{Waiting, Entry, most, messageAt, lengthOf, cabinOf, bytesIn, waitings, entries, judge, checking, checkedNumbers, tooLong, fill, plan, Plan, plan-of, no-plan, entryRoom, planWithin, planning, plannedOf, plannedNumbers, entryNumbers, planListed}
-use Rattle.bursts.specs.BurstDemands.{noEntry, entryAt, Or, one, other, Begun, Stands, ProperPlan, PlanPasses, FirstLong, NoneLong, PlanRefusals, PlanRefused, PlanLent, PlanListed, Thrifty, PlanThrifty}
+use Rattle.bursts.specs.Bursts.{Waiting, Entry, most, messageAt, lengthOf, bytesIn, waitings, entries, judge, checking, checkedNumbers, tooLong, fill, plan, Plan, plan-of, no-plan, entryRoom, planWithin, planning, plannedOf, plannedNumbers, entryNumbers, planListed}
+use Rattle.bursts.specs.BurstDemands.{entryAt, Or, one, other, Begun, ProperPlan, PlanPasses, FirstLong, NoneLong, PlanRefused, PlanListed, PlanThrifty}
 use Rattle.bursts.specs.PairLaws.{waitings-count}
 use Rattle.bursts.specs.BurstLaws.{Fits, Spot, inner, last, spot, bytes-append, bytes-one, bytes-other, begun-snoc, begun-empty, judge-checked}
 

@@ -25,7 +25,7 @@ use lib.Dec.{eqb, leb, ltb}
 use borrow.Author.Tests.{eqb-true, eqb-false, leb-false, ltb-false, not-true, not-false, le-leb, lt-leb, ne-eqb, eq-eqb}
 use Rattle.encoding.specs.Result.{pick, firstOf}
 use Rattle.encoding.specs.ResultLaws.{either-false}
-use Rattle.encoding.specs.Types.{struct, seq, dict, fixed, fixeds}
+use Rattle.encoding.specs.Types.{seq, dict, fixed, fixeds}
 use Rattle.encoding.specs.Table.{at, withLists, types, members, memberAt, kind, field, isRecord, owns, range, memberType, memberTys, ownRows, tys, partTy, typeRows, used, noPart, headerTests, headerRules, faultAt, fine, faults}
 use Rattle.encoding.specs.TableLaws.{rows-below, member-in, members-more, members-none}
 use Rattle.encoding.specs.RuleLaws.{header-test}
