@@ -1,15 +1,17 @@
--- A row's cell, by the cells of the rows below. Assumes nothing.
+-- A row's cell, by the cells of the rows below. Types are compared by their cells, so no type tree is walked. Assumes nothing.
 --
---   sort-..                       what the sort of an index says of its type
---   below-..                      an index as a part; member-.. that of a member's type
---   alike-..                      two cells that are there say whether two indexes agree
+--   sort-.., row-..               what the sort of an index says of its type and of its row
+--   below-.., index-is            an index as a part, and of a row; member-.. that of a member's type
+--   alike-.., part-..             two cells that are there say whether two indexes agree, and two parts
 --   Structs, structs-..           the loop over the members of two structs
 --   listed-.., Lists, lists-..    the lists of two enums; enums-.. what two enums allow
 --   rows-..                       two rows
---   Passed, passed-.., agrees-..  the search for the first index that agrees
+--   Passed, passed-.., first-broken, agrees-..   the search for the first index that agrees
 --   firsts-..                     two first indexes are equal exactly if the types agree
---   rank-.., ranked-..            ranks; Sums, sums-.. their sum; weight-.., weighed-.. the weights of indexes
---   own-.., Filled, filled-..     the cells of the old table and of both as they fill; all-.. those of all
+--   rank-.., place-..             ranks, and the place of a cell; Sums, sums-.. the sum of ranks
+--   weight-.., weights-.., weighed-..   the weights of indexes
+--   own-..                        the cells of the old table as they fill
+--   Filled, filled-..             those of both tables; all-members: when all are there
 use Prim.Native.Nat.{ℕ, zero, suc, _+_, _-_, _*_, _≤_, _<_}
 use mathlib.Core.Path.{_≡_, refl, sym, ap, ap₂, _∙_}
 use mathlib.Core.Bool.{Bool, true, false, _&&_, not, true≢false}
@@ -445,7 +447,7 @@ module _ (S T : List ℕ) (n y k : ℕ) (ek : k ≡ sortAt T y) where
         go true e = absurd (q (ek ∙ sym (sort-is T y) ∙ sym (ap sortOf (ty-ok broken (indexed T y) e))))
         go false e = refl
 
--- index x and index y, whose sort is not 13
+-- two indexes of rows: x, and y, whose sort is not 13
 module _ (S T : List ℕ) (x y k : ℕ) (lx : 0 < x) (ek : k ≡ sortAt T y) (q : k ≡ 13 → ⊥) where
   pub agrees-is : (b : Bool) → b ≡ sameTy (tyOf S (x - 1)) (tyOf T (y - 1)) → b ≡ sameTy (indexed S x) (indexed T y)
   agrees-is b e = e ∙ sym (ap₂ sameTy (indexed-row S x lx) (indexed-row T y (row-there T y k ek q)))
@@ -468,7 +470,7 @@ module _ (S T : List ℕ) (y x n : ℕ) (P : Passed S T y x) where
 
 -- ---- the array
 
--- an index's own cell, among more indexes
+-- the cell of index i is the first also among the first n indexes
 own-more : (S : List ℕ) (i n c : ℕ) → i < n → IsFirst S i (indexed S i) c → IsFirst S n (indexed S i) c
 own-more S i n c l F = record {
   within = omega (arith, F .within);
@@ -476,7 +478,7 @@ own-more S i n c l F = record {
   found = λ _. ⊎-elim (λ z. rw z (ty-equal (indexed S i) (indexed S i) refl)) (F .found) (eq-or-lt-of-le {n = c} {m = i} (F .within));
 }
 
--- the first index of one type is one, that of two types is not
+-- the first indexes of two types are equal exactly if the types agree
 module _ (S : List ℕ) (n i c d : ℕ) (l : i < n) (C : IsFirst S i (indexed S i) c) (t : Ty) (D : IsFirst S n t d) where
   own : sameTy (indexed S c) (indexed S i) ≡ true
   own = own-more S i n c l C .found (omega (arith, C .within))
@@ -533,7 +535,7 @@ module _ (S T cells : List ℕ) (base y : ℕ) (R : Ranked S T cells base y) whe
   unfolding rank
   ranked-small j l = omega (arith, R .rankOf j l, rank-most S (indexed T j) (typeRows S + 1) 0, rows-below S)
 
--- the place of a part's cell
+-- the place of a part's cell lies inside the array
 module _ (T : List ℕ) (base u r : ℕ) (h : u < typeRows T) (l : r ≤ u) (lb : base ≤ 257) where
   pub place-fits : base + r < 18446744073709551616
   place-fits = omega (arith, rows-below T)
@@ -544,7 +546,7 @@ module _ (T : List ℕ) (base u r : ℕ) (h : u < typeRows T) (l : r ≤ u) (lb 
   pub place-inside : base + r < 514
   place-inside = omega (arith, rows-below T)
 
--- the sum of the cells of the first i of n members
+-- the loop over n members: w is the sum of the cells of the first i
 pub record Sums (S T : List ℕ) (u m n w i : ℕ) : Type 0 where
   pub within : i ≤ n
   pub small : w ≤ 257 * i

@@ -2,13 +2,13 @@
 --
 --   indexed T x        the type of index x: 0 is broken, then the rows
 --   sortAt T x         what sort of type it is: its row's kind, 13 if it is broken
---   below t i          the index of row i as a part of row t
+--   below t i          the index of row i as a part of row t: 0 unless i is below t
 --   isListed T t       enum row t has a list that leaves out a number up to its greatest
---   IsFirst S n t c    c is the first of the n first indexes of table S whose type is t, or n if there is none
+--   IsFirst S n t c    c is the first index of table S whose type is t, among the first n; or n if there is none
 --   Firsts S cells x   the array has the cells of the indexes of S below x: each is the first index whose type is the same
---   Alike S T cells base x y   the cells of the indexes of S below x and of those of T below y, which begin at place `base`: two are equal exactly if the types agree
---   Agreed S T cells   so are those of all rows of both tables
---   rank S t           the first index of S whose type is t, or the number of indexes if there is none
+--   Alike S T cells base x y   the cells of an index of S below x and of one of T below y are equal exactly if their types agree; those of T begin at place `base`
+--   Agreed S T cells   the same for all rows of both tables
+--   rankFrom, rank S t   the first index of S whose type is t, or the number of indexes if there is none
 --   Ranked S T cells base y   the cells of the indexes of T below y, which begin at place `base`, are the ranks of their types
 --   weigh S ts         the sum of the ranks of some types: the weight of a struct of these
 --   Weighed S weights x   an array has the weights of the indexes of S below x

@@ -1,7 +1,7 @@
-// Which rows of two tables agree in type: a lent array with a cell for each row of both, which is the first row of the old table that agrees with it. So two rows agree exactly if their cells are equal.
+// Which rows of two tables agree in type: a lent array with a cell for each row of both, which is the index of the first row of the old table that agrees with it. So a row of the old table and one of the new agree exactly if their cells are equal.
 // A cell is set from the cells of the rows below, and no type tree is walked. The old table's cells come first, the new one's begin at place 257.
 // The weight of a struct is the sum of its members' cells: most structs that differ have different weights and are not compared further.
-// A row's index is its number + 1; index 0 is a broken type, which is what a row that the table does not have is.
+// A row's index is its number + 1; index 0 is a broken type, also for a row that the table does not have.
 ghost use mathlib.Core.Path.{_≡_};
 ghost use mathlib.Core.List.{map};
 ghost use Prim.Native.Nat.{_+_, _≤_, _<_};
@@ -31,7 +31,7 @@ fn sort_at(table: &[u8], begin: usize, x: usize) -> usize
     k
 }
 
-// The index of row i as a part of row t: that of a broken type unless i is below t.
+// The index of row i as a part of row t: 0, a broken type, unless i is below t.
 fn index_below(t: usize, i: usize) -> usize
     ensures { λ r. ⌜ (r ≡ below t i) × (r ≤ t) ⌝ }
 {

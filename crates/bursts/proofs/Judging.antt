@@ -3,8 +3,10 @@
 --   enter-..                         an entry's message and burst by their tests
 --   Passed                           what the loop keeps of the entries so far
 --   judged-begin, judged-astray      before the first entry, by its burst number
---   judged-stuck, judged-late        an entry that breaks a rule; judged-next one that breaks none
---   judged-known, judged-before      its message is a waiting one, and so are those before; judged-few: there are few bursts
+--   judged-stuck, judged-late        an entry that breaks a rule
+--   judged-next                      an entry that breaks none
+--   judged-known, judged-before      its message is a waiting one; so are those before
+--   judged-few                       the last burst number can grow by one in 64 bits
 --   judged-missing, judged-sound     after the last entry
 use mathlib.Core.Path.{_≡_, refl, sym, ap, _∙_}
 use mathlib.Core.Bool.{Bool, true, false, not}
@@ -34,7 +36,7 @@ module _ (ms : List ℕ) (last left m b : ℕ) where
   unfolding entering
   enter-packed h p f = f ∙ rw (waitings-count ms, lt-leb (length ms / 2) m h, length-at ms m h)
 
--- What the loop keeps. It is closed, so that a search does not look into it.
+-- what the loop keeps; a data type, so that a search does not look into it
 pub data Passed (ms ns : List ℕ) (i above last left : ℕ) : Type 0 where
   passed : Running (waitings ms) (entries ns) i above last left → Opens (entries ns) → Passed ms ns i above last left
 

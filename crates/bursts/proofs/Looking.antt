@@ -1,8 +1,8 @@
 -- The loops that look through entries and messages: what is left of them decides the answer. Assumes nothing.
 --
---   Looking, looking-..    the entries before that may clash with a message
+--   Looking, looking-..    whether an entry before clashes with a message
 --   Seeking, seeking-..    the first message that is too long
---   risen-..               entries are looked through only for a message below a number above all of theirs
+--   risen-..               entries are looked through only for a message that is not above all of theirs
 use mathlib.Core.Path.{_≡_, refl, sym, ap, _∙_, subst}
 use mathlib.Core.Bool.{Bool, true, false, _||_}
 use mathlib.Core.Option.{some}

@@ -3,7 +3,7 @@
 --   put-.., pack-..          what a burst has left, or that it is full
 --   opens-..                 the first burst number
 --   in-.., new-.., whole-..  the burst that a message goes to
---   room-..                  the room of a burst
+--   room-..                  the bytes left in a burst
 --   cabin-known              the cabin of a message
 --   clash-..                 whether a message may not be before another
 use mathlib.Core.Path.{_≡_, refl, sym, ap, _∙_}

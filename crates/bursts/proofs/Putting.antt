@@ -1,6 +1,7 @@
--- The planner: its answer, and the loop that writes the entries. Assumes nothing.
+-- The planner: its answer, and the loop that writes the entries, one message a turn. Assumes nothing.
 --
 --   plan-count               a plan has an entry for each message
+--   filled                   the lent list after the loop
 --   Putting, putting-..      the messages left make the rest of the lent list
 --   answer-..                the answer by the first message that is too long and the room
 --   listed-..                the lent list after the call
@@ -14,13 +15,13 @@ use native.Mathlib.Numerals.{add-one}
 use lib.ListN.{length, take, drop, getD, set, length-set, take-append-drop}
 use lib.Seq.{drop-cons, take-suc-set, drop-set-lt}
 use lib.Dec.{leb}
-use borrow.Author.Tests.{le-leb, lt-leb, leb-true, leb-false}
+use borrow.Author.Tests.{le-leb, lt-leb, leb-true}
 use Rattle.encoding.specs.Result.{pick}
 use Rattle.bursts.specs.declared.Found.{Found}
 use Rattle.bursts.specs.declared.Found.the-variants.{At, Nowhere}
 use Rattle.bursts.specs.declared.Planned.{Planned}
 use Rattle.bursts.specs.declared.Planned.the-variants.{Made, Unplanned}
-use Rattle.bursts.specs.Bursts.{Waiting, Entry, most, waitings, messageAt, lengthOf, tooLong, fill, plan, Plan, plan-of, no-plan, entryRoom, planWithin, planning, entryNumbers, planListed, plannedOf}
+use Rattle.bursts.specs.Bursts.{Waiting, most, waitings, messageAt, lengthOf, tooLong, fill, plan, Plan, plan-of, no-plan, entryRoom, planWithin, planning, entryNumbers, planListed, plannedOf}
 use Rattle.bursts.specs.Running.{foundOf}
 use Rattle.bursts.specs.RunningLaws.{drop-all}
 use Rattle.bursts.specs.PairLaws.{waitings-count, length-at}
@@ -60,7 +61,7 @@ fill-step : (i b left b′ left′ : ℕ) (w : Waiting) (ws : List Waiting) → 
 unfolding fill entryNumbers
 fill-step i b left b′ left′ w ws e f = rw (e, f)
 
--- two numbers written
+-- the first numbers of a list after two more are written
 take-two : (l : List ℕ) (k a b : ℕ) → suc k < length l → take (suc (suc k)) (set (set l k a) (suc k) b) ≡ take k l ++ (a ∷ []) ++ (b ∷ [])
 take-two l k a b h =
     take-suc-set (set l k a) (suc k) b (simp length-set h) ∙ ap (λ (x : List ℕ). x ++ (b ∷ [])) (take-suc-set l k a (omega arith))

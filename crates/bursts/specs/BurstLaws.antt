@@ -5,12 +5,12 @@ use mathlib.Core.Path.{_≡_, refl, sym, ap, _∙_, subst}
 use mathlib.Core.Bool.{Bool, true, false, _&&_, _||_, not, true≢false, false≢true}
 use mathlib.Core.Option.{Option, none, some}
 use mathlib.Core.List.{List, [], _∷_, _++_, append-assoc, append-nil}
-use Prim.Native.Nat.{ℕ, zero, suc, _+_, _-_, _*_, _≤_, _<_}
+use Prim.Native.Nat.{ℕ, zero, suc, _+_, _≤_, _<_}
 use native.Mathlib.Omega.{arith}
-use lib.ListN.{length, take, drop, getD, length-append, take-append-drop, List·getD-append}
-use lib.Seq.{take-suc, take-append-seam, getD-append-seam, length-take-le}
+use lib.ListN.{length, take, drop, length-append, take-append-drop, List·getD-append}
+use lib.Seq.{take-suc, take-append-seam, getD-append-seam}
 use lib.Dec.{eqb, leb, ltb}
-use borrow.Author.Tests.{eqb-true, eqb-false, leb-true, leb-false, ltb-true, ltb-false, not-true, not-false, lt-ltb, le-ltb, le-leb, lt-leb, eq-eqb, ne-eqb}
+use borrow.Author.Tests.{eqb-true, eqb-false, leb-false, ltb-true, ltb-false, not-false, le-ltb, lt-leb, eq-eqb, ne-eqb}
 use Rattle.encoding.specs.Result.{pick}
 use Rattle.encoding.specs.ResultLaws.{some≢none, both-true, either-false}
 use Rattle.encoding.specs.Table.{range}
@@ -106,7 +106,7 @@ of-or a b c (other e) = or-right (eqb a b) (eqb a c) (eq-eqb a c e)
 
 -- ---- one more entry
 
--- what `brokenBy` tests
+-- entry e breaks no rule with the entries before it: no test of `brokenBy` applies
 pub record Fits (ws : List Waiting) (before : List Entry) (e : Entry) : Type 0 where
   pub known : e .message < length ws
   pub new : (i : ℕ) → i < length before → entryAt before i .message ≡ e .message → ⊥
@@ -177,7 +177,7 @@ begun-front ws xs ys b = record {
     here : (i : ℕ) → i < length xs → entryAt (xs ++ ys) i ≡ entryAt xs i
     here i k = List·getD-append xs ys noEntry i k
 
--- the place of an entry among those before and one more
+-- place i of xs and one entry more: inside xs, or the last
 pub data Spot (xs : List Entry) (e : Entry) (i : ℕ) : Type 0 where
   inner : i < length xs → entryAt (xs ++ (e ∷ [])) i ≡ entryAt xs i → Spot xs e i
   last : i ≡ length xs → entryAt (xs ++ (e ∷ [])) i ≡ e → Spot xs e i
@@ -284,7 +284,7 @@ pub broken-here : (ws : List Waiting) (i : ℕ) (before : List Entry) (e : Entry
 unfolding firstBroken
 broken-here ws i before e es w = rw w
 
--- none breaks a rule: all are begun
+-- if no entry breaks a rule, all are begun
 none-begun : (ws : List Waiting) (i : ℕ) (before es : List Entry) → firstBroken ws i before es ≡ none → Begun ws before → Begun ws (before ++ es)
 none-begun ws i before [] h b = rw (append-nil before) b
 none-begun ws i before (e ∷ es) h b = go (brokenBy ws before e) refl (λ u v. none-begun ws (suc i) (before ++ (e ∷ [])) es u v)
@@ -296,15 +296,7 @@ none-begun ws i before (e ∷ es) h b = go (brokenBy ws before e) refl (λ u v. 
         subst (λ (l : List Entry). Begun ws l) (append-assoc before (e ∷ []) es)
         (ih (sym (broken-step ws i before e es w) ∙ h) (begun-snoc ws before e b (fits-of ws before e w)))
 
-begun-none : (ws : List Waiting) (i : ℕ) (before es : List Entry) → Begun ws (before ++ es) → firstBroken ws i before es ≡ none
-unfolding firstBroken
-begun-none ws i before [] b = refl
-begun-none ws i before (e ∷ es) b =
-    let b′ : Begun ws (before ++ (e ∷ []) ++ es) = subst (λ (l : List Entry). Begun ws l) (sym (append-assoc before (e ∷ []) es)) b in
-    broken-step ws i before e es (of-fits ws before e (begun-fits ws before e (begun-front ws (before ++ (e ∷ [])) es b′)))
-    ∙ begun-none ws (suc i) (before ++ (e ∷ [])) es b′
-
--- the first k are begun, and with one more they are not
+-- the first k entries are begun, and with one more they are not
 record Stops (ws : List Waiting) (es : List Entry) (k : ℕ) : Type 0 where
   inside : k < length es
   so-far : Begun ws (take k es)
@@ -335,7 +327,7 @@ some-stops ws i k before (e ∷ es) z h b = go (brokenBy ws before e) refl (λ u
         subst (λ (l : List Entry). Stops ws l k) (append-assoc before (e ∷ []) es)
         (ih (omega (arith, length-append before (e ∷ []))) (sym (broken-step ws i before e es w) ∙ h) (begun-snoc ws before e b (fits-of ws before e w)))
 
--- nothing is begun
+-- an empty list is begun
 pub begun-empty : (ws : List Waiting) → Begun ws []
 unfolding bytesIn
 begun-empty ws = record {
@@ -356,7 +348,7 @@ take-take (suc j) zero l h = absurd (omega arith)
 take-take (suc j) (suc k) [] h = refl
 take-take {A} (suc j) (suc k) (x ∷ l) h = ap {B = List A} (λ r. x ∷ r) (take-take j k l (omega arith))
 
--- two places where entries stop are one
+-- entries stop at one place only
 stops-once : (ws : List Waiting) (es : List Entry) (j k : ℕ) → Stops ws es j → Stops ws es k → j < k → ⊥
 stops-once ws es j k s t l = s .no-further (subst (λ (x : List Entry). Begun ws x) (take-take (suc j) k es l) (begun-take ws (suc j) (take k es) (t .so-far)))
 

@@ -1,31 +1,29 @@
 -- What the planner makes is a plan and passes the check, and where it refuses: `plan-passes`, `plan-refused`, `plan-lent`, `plan-thrifty` of BurstDemands.
--- The idea: while it fills, the entries so far are begun, message k is in entry k, and the last burst has the bytes that it counts.
+-- The idea: while the planner fills, the entries so far are begun, message k is in entry k, and the last burst has as many bytes left as it counts.
 -- Assumes nothing.
 use mathlib.Core.Path.{_≡_, refl, sym, ap, _∙_, subst}
-use mathlib.Core.Bool.{Bool, true, false, true≢false, false≢true}
+use mathlib.Core.Bool.{Bool, true, false}
 use mathlib.Core.Option.{Option, none, some}
 use mathlib.Core.List.{List, [], _∷_, _++_, append-assoc, append-nil}
 use Prim.Native.Nat.{ℕ, zero, suc, _+_, _-_, _*_, _/_, _≤_, _<_}
 use native.Mathlib.Omega.{arith}
-use lib.ListN.{length, take, drop, getD, length-append, length-drop, List·getD-append}
+use lib.ListN.{length, take, drop, getD, length-append, length-drop}
 use lib.Seq.{getD-append-seam, drop-at, take-at, take-append-le, take-append-seam}
-use lib.Dec.{eqb, leb, ltb}
-use borrow.Author.Tests.{leb-true, leb-false, ltb-true, ltb-false, lt-ltb, le-ltb, le-leb, lt-leb}
-use Rattle.encoding.specs.Result.{pick}
+use lib.Dec.{leb, ltb}
+use borrow.Author.Tests.{leb-true, leb-false, ltb-false, lt-ltb, le-ltb, le-leb, lt-leb}
 use Rattle.encoding.specs.ResultLaws.{some≢none}
-use Rattle.bursts.specs.declared.Checked.the-variants.{Sound}
-use Rattle.bursts.specs.Bursts.{Waiting, Entry, most, messageAt, lengthOf, cabinOf, bytesIn, waitings, entries, judge, checking, checkedNumbers, tooLong, fill, plan, Plan, plan-of, no-plan, entryRoom, planWithin, planning, plannedOf, plannedNumbers, entryNumbers, planListed}
-use Rattle.bursts.specs.BurstDemands.{noEntry, entryAt, Or, one, other, Begun, Stands, ProperPlan, PlanPasses, FirstLong, NoneLong, PlanRefusals, PlanRefused, PlanLent, PlanListed, Thrifty, PlanThrifty}
+use Rattle.bursts.specs.Bursts.{Waiting, Entry, most, messageAt, lengthOf, bytesIn, waitings, entries, judge, checking, checkedNumbers, tooLong, fill, plan, Plan, plan-of, no-plan, entryRoom, planWithin, planning, plannedOf, plannedNumbers, entryNumbers, planListed}
+use Rattle.bursts.specs.BurstDemands.{entryAt, Or, one, other, Begun, ProperPlan, PlanPasses, FirstLong, NoneLong, PlanRefused, PlanListed, PlanThrifty}
 use Rattle.bursts.specs.PairLaws.{waitings-count}
 use Rattle.bursts.specs.BurstLaws.{Fits, Spot, inner, last, spot, bytes-append, bytes-one, bytes-other, begun-snoc, begun-empty, judge-checked}
 
 -- ---- filling
 
--- a new burst is opened only where the next message doesn't fit
+-- a new burst is opened only if the next message does not fit
 abbrev pub Full : List Waiting → List Entry → Type 0
 Full ws es = (k : ℕ) → suc k < length es → entryAt es (suc k) .burst ≡ suc (entryAt es k .burst) → most < bytesIn ws (entryAt es k .burst) (take (suc k) es) + lengthOf ws (suc k)
 
--- the entries so far, where burst b has so many bytes left and i messages are taken
+-- the entries so far: i messages are taken, and the last burst b has `left` bytes left
 record Filling (ws : List Waiting) (before : List Entry) (i b left : ℕ) : Type 0 where
   count : length before ≡ i
   turn : (k : ℕ) → k < length before → entryAt before k .message ≡ k
@@ -75,7 +73,7 @@ filling-next ws before i b left n left′ f t l o h = record {
     latest-at k (inner q w) z = absurd (omega (arith, q, z, length-append before (put i n ∷ [])))
     latest-at k (last q w) z = rw w
 
--- an entry that may follow
+-- the entry of message i in burst b or the next breaks no rule, if its bytes fit
 filling-fits : (ws : List Waiting) (before : List Entry) (i b left n : ℕ) → Filling ws before i b left → i < length ws → Or (n ≡ b) (n ≡ suc b)
     → (length before ≡ 0 → n ≡ 0) → bytesIn ws n before + lengthOf ws i ≤ most → Fits ws before (put i n)
 filling-fits ws before i b left n f k o z s = record {
@@ -105,7 +103,7 @@ fill-opens : (i b left : ℕ) (w : Waiting) (ws : List Waiting) → leb (w .byte
 unfolding fill
 fill-opens i b left w ws e = rw e
 
--- all messages are taken
+-- the entries when all messages are taken
 pub record Filled (ws : List Waiting) (es : List Entry) : Type 0 where
   pub begun : Begun ws es
   pub turn : (k : ℕ) → k < length es → entryAt es k .message ≡ k

@@ -1,15 +1,15 @@
 -- Every promise of `BurstDemands`, with its proof.
-use mathlib.Core.Path.{_≡_, refl, sym, ap, _∙_}
+use mathlib.Core.Path.{_≡_, refl, ap}
 use mathlib.Core.Bool.{Bool, true, false}
-use mathlib.Core.List.{List, [], _∷_}
-use Prim.Native.Nat.{ℕ, zero, suc, _≤_, _<_}
+use mathlib.Core.List.{[], _∷_}
+use Prim.Native.Nat.{ℕ, zero, suc, _≤_}
 use native.Mathlib.Omega.{arith}
 use lib.Dec.{leb}
 use borrow.Author.Tests.{leb-true, leb-false}
 use Rattle.bursts.specs.declared.Checked.{Checked}
 use Rattle.bursts.specs.declared.Checked.the-variants.{Sound, Breaks}
-use Rattle.bursts.specs.Bursts.{Waiting, Entry, waitings, entries, judge, checking, checkedNumbers}
-use Rattle.bursts.specs.BurstDemands.{entryAt, Or, one, other, PairsRead, Begun, PlanChecked, PlanPlaced, Used, NoEmptyBurst, PlanPasses, PlanRefused, PlanThrifty, PlanListed}
+use Rattle.bursts.specs.Bursts.{waitings, entries, judge, checking, checkedNumbers}
+use Rattle.bursts.specs.BurstDemands.{entryAt, Or, one, other, PairsRead, PlanChecked, PlanPlaced, Used, NoEmptyBurst, PlanPasses, PlanRefused, PlanThrifty, PlanListed}
 use Rattle.bursts.specs.PairLaws.{waitings-count, entries-count, length-at, cabin-at, message-at, burst-at}
 use Rattle.bursts.specs.BurstLaws.{judge-checked, judge-placed}
 use Rattle.bursts.specs.BurstPlans.{plan-passes, plan-refused, plan-thrifty, plan-lent}

@@ -2,21 +2,26 @@
 --
 --   Waiting, Entry          a waiting message: its length and cabin; an entry of a plan: a message's number and a burst's
 --   waitings, entries       what a lent list of numbers holds; half a pair does not count
---   most                    340, the bytes of a burst
---   lengthOf, cabinOf       of a message's number; 0 past the end
+--   most                    340, the most bytes of a burst
+--   messageAt, lengthOf, cabinOf   message m, its length and its cabin; 0 past the end
+--   anyEntry, standsIn m es   some entry passes a test; some entry is of message m
 --   bytesIn ws b es         the bytes of burst b among entries
+--   follows, overtakes      burst b may follow entries; a message of the same cabin and a greater number comes before
 --   brokenBy ws before e    entry e breaks a rule with the entries before it
---   missing ws es           some message is in no entry
---   judge, checking         the check: sound, or the place of 46; of messages and entries, of two lent lists
+--   firstBroken             the number of the first entry that does
+--   anyMissing, missing     some number of a list, some message is in no entry
+--   verdict, judge, checking   the check: sound, or the place of 46; of messages and entries, of two lent lists
 --   tooLong                 the first message over 340 bytes
 --   fill, plan              the planner
---   Plan, planning          the planner's answer with a lent list of so many numbers: 45, then 19
+--   entryRoom n             the entries that a lent list of n numbers holds
+--   Plan, planWithin, planning   the planner's answer by the length of the lent list: 45, then 19
 --   entryNumbers, planListed    the lent list after the call
+--   plannedOf               the answer as the code gives it
 --   checkedNumbers, plannedNumbers    the numbers of an answer
-use mathlib.Core.Bool.{Bool, true, false, _&&_, _||_, not}
+use mathlib.Core.Bool.{Bool, false, _&&_, _||_, not}
 use mathlib.Core.Option.{Option, none, some}
 use mathlib.Core.List.{List, [], _∷_, _++_}
-use Prim.Native.Nat.{ℕ, zero, suc, _+_, _-_, _*_, _/_}
+use Prim.Native.Nat.{ℕ, suc, _+_, _-_, _*_, _/_}
 use lib.ListN.{length, drop, getD}
 use lib.Dec.{eqb, leb, ltb}
 use Rattle.encoding.specs.Result.{pick}
@@ -50,11 +55,11 @@ entries [] = []
 entries (a ∷ []) = []
 entries (a ∷ b ∷ l) = record { message = a; burst = b } ∷ entries l
 
--- the bytes of a burst
+-- the most bytes of a burst
 abbrev pub most : ℕ
 most = 340
 
--- the message of a number
+-- message m; length and cabin are 0 past the end
 unfoldable pub messageAt : List Waiting → ℕ → Waiting
 messageAt ws m = getD ws m (record { bytes = 0; cabin = 0 })
 
@@ -80,13 +85,13 @@ unfoldable pub bytesIn : List Waiting → ℕ → List Entry → ℕ
 bytesIn ws b [] = 0
 bytesIn ws b (e ∷ es) = pick (eqb (e .burst) b) (lengthOf ws (e .message)) 0 + bytesIn ws b es
 
--- burst b may follow entries: 0 where there are none, else the last one's burst or one more
+-- burst b may follow entries: 0 if there are none, else the last one's burst or one more
 unfoldable pub follows : List Entry → ℕ → Bool
 follows [] b = eqb b 0
 follows (e ∷ []) b = eqb b (e .burst) || eqb b (suc (e .burst))
 follows (e ∷ d ∷ es) b = follows (d ∷ es) b
 
--- an entry before has m's cabin and a greater number
+-- an entry before is of m's cabin and a greater message number
 unfoldable pub overtakes : List Waiting → List Entry → ℕ → Bool
 overtakes ws before m = anyEntry (λ e. eqb (cabinOf ws (e .message)) (cabinOf ws m) && ltb m (e .message)) before
 
@@ -115,7 +120,7 @@ anyMissing es (m ∷ ms) = not (standsIn m es) || anyMissing es ms
 unfoldable pub missing : List Waiting → List Entry → Bool
 missing ws es = anyMissing es (range 0 (length ws))
 
--- 46 at an entry, or at the number of entries where messages are missing
+-- 46 at an entry, or at the number of entries if only messages are missing
 unfoldable pub verdict : List Waiting → List Entry → Option ℕ → Checked
 verdict ws es (some i) = Breaks i
 verdict ws es none = pick (missing ws es) (Breaks (length es)) Sound
@@ -135,7 +140,7 @@ unfoldable pub tooLong : ℕ → List Waiting → Option ℕ
 tooLong i [] = none
 tooLong i (w ∷ ws) = let later = tooLong (suc i) ws in pick (ltb most (w .bytes)) (some i) later
 
--- messages in turn from number i on, where burst b has so many bytes left: a new burst only where the next does not fit
+-- messages in turn from number i on, with `left` bytes left in burst b: a new burst only if the next does not fit
 unfoldable pub fill : ℕ → ℕ → ℕ → List Waiting → List Entry
 fill i b left [] = []
 fill i b left (w ∷ ws) =
@@ -147,12 +152,12 @@ fill i b left (w ∷ ws) =
 unfoldable pub plan : List Waiting → List Entry
 plan ws = fill 0 0 most ws
 
--- what the planner gives
+-- the planner's answer: a plan, or a refusal
 pub data Plan : Type 0 where
   plan-of : List Entry → Plan
   no-plan : (number place : ℕ) → Plan
 
--- the entries that a lent list of so many numbers holds
+-- the entries that a lent list of `numbers` numbers holds
 unfoldable pub entryRoom : ℕ → ℕ
 entryRoom numbers = numbers / 2
 
@@ -161,16 +166,16 @@ unfoldable pub planWithin : List Waiting → ℕ → Option ℕ → Plan
 planWithin ws k (some i) = no-plan 45 i
 planWithin ws k none = pick (leb (length ws) k) (plan-of (plan ws)) (no-plan 19 (length ws))
 
--- the planner's answer to a list of messages, with a lent list of so many numbers
+-- the planner's answer to a list of messages, with a lent list of `lent` numbers
 unfoldable pub planning : List ℕ → ℕ → Plan
 planning ms lent = planWithin (waitings ms) (entryRoom lent) (tooLong 0 (waitings ms))
 
--- an entry as two numbers
+-- entries as numbers, two each
 unfoldable pub entryNumbers : List Entry → List ℕ
 entryNumbers [] = []
 entryNumbers (e ∷ es) = e .message ∷ e .burst ∷ entryNumbers es
 
--- the lent list after the call: numbers beyond the entries stay, and on a refusal all
+-- the lent list after the call: numbers beyond the entries stay, and on a refusal all stay
 unfoldable pub planListed : Plan → List ℕ → List ℕ
 planListed (plan-of es) lent = entryNumbers es ++ drop (2 * length es) lent
 planListed (no-plan n p) lent = lent

@@ -4,11 +4,11 @@
 --   clashing ws m x          message x may not be before message m: it is m, or a later message of m's cabin
 --   clashes ws m es          some entry's message may not be before message m
 --   rising ws es above m     a number above m and the messages of entries, which are below `above`; or m may not come after one of them
---   opening es               the first burst number is 0
+--   opening es               the first burst number, if there is one, is 0
 --   mayFollow last b         burst b may follow burst `last`
---   packed room n            what is left of so much room after a message of n bytes; or it is full
---   packing last left b n    the same of burst b, where burst `last` has so much left
---   entering ws ..           the same of message m, if it is a waiting one
+--   packed room n            what is left of `room` bytes after a message of n bytes; or `Full`
+--   packing last left b n    the same of burst b after burst `last`, which has `left` bytes left
+--   entering ws last left m b   the same for message m; `Full` if it is not a waiting one
 --   foundOf                  the first message that is too long, as the code answers
 use mathlib.Core.Bool.{Bool, true, _&&_, _||_}
 use mathlib.Core.Option.{Option, none, some}

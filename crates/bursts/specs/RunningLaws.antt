@@ -1,5 +1,5 @@
 -- The check by one pass over the entries is the check: `running-stuck`, `running-late`, `running-next`, `running-missing`, `running-sound`.
--- The idea: what the pass keeps (the last burst, its bytes, a number above all messages so far) is all that `Fits` asks of the entries before.
+-- The idea: what the pass keeps (the last burst, its bytes, a number above all messages so far) is all that `Fits` needs of the entries before.
 -- Assumes nothing.
 use mathlib.Core.Path.{_≡_, refl, sym, ap, _∙_, subst}
 use mathlib.Core.Bool.{Bool, true, false, _&&_, _||_, true≢false}
@@ -31,7 +31,7 @@ drop-all (suc n) (x ∷ l) h = drop-all n l (omega arith)
 
 -- ---- bursts
 
--- the ways in which a burst number may follow at entry i
+-- burst number b may come at entry i, after burst number `last`
 data Follows (i last b : ℕ) : Type 0 where
   first : i ≡ 0 → b ≡ 0 → Follows i last b
   same : (i ≡ 0 → ⊥) → b ≡ last → Follows i last b
@@ -49,7 +49,7 @@ follow-new last b h = rw (eq-eqb b (suc last) h) (go (eqb b last))
     go true = refl
     go false = refl
 
--- the room of a burst: what is left of the last one, or a whole one
+-- the bytes left in burst b: those left in the last one, or a whole burst
 abbrev room : ℕ → ℕ → ℕ → ℕ
 room last left b = pick (eqb b last) left most
 
@@ -75,7 +75,7 @@ module _ (last left b n : ℕ) where
   unfolding packing
   packing-astray m = rw m
 
-  -- what a burst that holds a message says
+  -- what `Holds h` says of a burst
   record Held (h : ℕ) : Type 0 where
     follows : mayFollow last b ≡ true
     fits : n ≤ room last left b
@@ -104,7 +104,7 @@ unfolding opening
 opens-of [] e h = absurd (omega arith)
 opens-of (x ∷ es) e h = eqb-true (x .burst) 0 e
 
--- one that is not 0 breaks a rule at once
+-- else there is an entry, and its burst number is not 0
 pub opens-not : (es : List Entry) → opening es ≡ false → (0 < length es) × (entryAt es 0 .burst ≡ 0 → ⊥)
 unfolding opening
 opens-not [] e = absurd (true≢false e)
@@ -112,7 +112,7 @@ opens-not (x ∷ es) e = (omega arith, eqb-false (x .burst) 0 e)
 
 -- ---- the pass
 
--- what the pass has after i entries
+-- what the pass knows after i entries
 pub record Running (ws : List Waiting) (es : List Entry) (i above last left : ℕ) : Type 0 where
   pub inside : i ≤ length es
   pub begun : Begun ws (take i es)
@@ -139,7 +139,7 @@ running-begin ws es = record {
 }
 
 module _ (ws : List Waiting) (es : List Entry) (i above last left : ℕ) (r : Running ws es i above last left) where
-  -- the bytes of a burst number that may follow
+  -- the bytes of a burst that may come next, and its room, add up to a whole burst
   follows-bytes : (b : ℕ) → Follows i last b → bytesIn ws b (take i es) + room last left b ≡ most
   follows-bytes b f = go f
     where
@@ -154,13 +154,13 @@ module _ (ws : List Waiting) (es : List Entry) (i above last left : ℕ) (r : Ru
       go (same n e) = on e
       go (new n e) = omega (arith, r .later b (omega arith), room-new last left b (away e))
 
-  -- it is no earlier one
+  -- its number is not below the last one
   follows-least : (b : ℕ) → Follows i last b → last ≤ b
   follows-least b (first z h) = let s = r .start z in omega arith
   follows-least b (same n e) = omega arith
   follows-least b (new n e) = omega arith
 
-  -- nor does it exceed the number of entries
+  -- its number is at most one more than the number of entries before
   follows-few : (b : ℕ) → Follows i last b → b ≤ suc i
   follows-few b (first z h) = omega arith
   follows-few b (same n e) = omega (arith, r .few)
@@ -181,7 +181,7 @@ module _ (ws : List Waiting) (es : List Entry) (i above last left : ℕ) (r : Ru
   front-message j h = ap (λ (e : Entry). e .message) (front j h)
 
   module _ (h : i < length es) (e : Entry) (is : entryAt es i ≡ e) where
-    -- an entry that breaks a rule is the place of 46
+    -- 46 is at an entry that breaks a rule
     pub running-broken : (Fits ws (take i es) e → ⊥) → Breaks i ≡ judge ws es
     unfolding verdict
     running-broken n =
@@ -194,7 +194,7 @@ module _ (ws : List Waiting) (es : List Entry) (i above last left : ℕ) (r : Ru
         go true w = w
         go false w = absurd (n (fits-of ws (take i es) e w))
 
-    -- a burst that holds the message no more
+    -- the burst number of an entry that breaks no rule may come next
     fits-follows : Fits ws (take i es) e → Follows i last (e .burst)
     fits-follows f = go i refl
       where
@@ -220,7 +220,7 @@ module _ (ws : List Waiting) (es : List Entry) (i above last left : ℕ) (r : Ru
         let b = follows-bytes (e .burst) m in
         holds≢full (packing-fits last left (e .burst) (lengthOf ws (e .message)) (follows-may m) (omega (arith, b, f .sum))) p
 
-    -- a message that clashes with one before
+    -- a message that clashes with one before breaks a rule
     running-clash : clashes ws (e .message) (take i es) ≡ true → Fits ws (take i es) e → ⊥
     unfolding clashes clashing
     running-clash c f = go (any-found (λ x. clashing ws (e .message) (x .message)) (take i es) c)
@@ -334,7 +334,7 @@ module _ (ws : List Waiting) (es : List Entry) (i above last left : ℕ) (r : Ru
           latest-at : (j : ℕ) → suc j ≡ suc i → entryAt es j .burst ≡ e .burst
           latest-at j k = ap (λ (x : Entry). x .burst) (here j (omega arith))
 
-    -- by the tests in turn
+    -- the cases of `entering`
     data Entered (x : Packed) : Type 0 where
       unknown : length ws ≤ e .message → x ≡ Full → Entered x
       goes-on : e .message < length ws → packing last left (e .burst) (lengthOf ws (e .message)) ≡ x → Entered x
@@ -370,7 +370,7 @@ module _ (ws : List Waiting) (es : List Entry) (i above last left : ℕ) (r : Ru
           go (clash c g) t = running-clash c t
           go (clear k c g) t = to≢late g f
 
-      -- what a message that may come says
+      -- what `To a` says of a message
       record Came (a : ℕ) : Type 0 where
         early : Early
         more : above ≤ a

@@ -1,6 +1,6 @@
 // Satellite bursts of at most 340 bytes: the check of a plan, and a simple planner.
 // Lent lists hold pairs of numbers: length and cabin of a waiting message, message number and burst number of an entry. Half a pair at the end is ignored.
-// The check needs no memory of its own: while message numbers rise it looks at each entry once; at one that does not, it looks through the entries before it.
+// The check needs no memory of its own. While message numbers rise it looks at each entry once; if one does not rise, it looks through the entries before it.
 ghost use mathlib.Core.Path.{_≡_};
 ghost use mathlib.Core.List.{_++_};
 ghost use Prim.Native.Nat.{suc, _-_, _*_, _/_, _≤_, _<_};
@@ -46,7 +46,7 @@ enum Found {
     Nowhere,
 }
 
-// What is left of some room after a message. Lengths are compared with what is left and never added: a sum could wrap.
+// What is left of `room` bytes after a message. Lengths are compared with what is left and never added, since a sum could wrap.
 fn put_in(room: u64, length: u64) -> Packed
     ensures { λ r. ⌜ r ≡ packed room length ⌝ }
 {
@@ -57,14 +57,14 @@ fn put_in(room: u64, length: u64) -> Packed
     }
 }
 
-// The room of a burst, so many bursts after one that has `left` bytes left: these, or a whole burst.
+// The bytes left in a burst, `step` bursts after one that has `left` bytes left: `left`, or a whole burst.
 fn room(step: u64, left: u64) -> u64
     ensures { λ r. ⌜ r ≡ pick (eqb step 0) left most ⌝ }
 {
     if step == 0 { left } else { 340 }
 }
 
-// What is left of a burst after a message, where the burst of the entry before is `last` and has so many bytes left. The step to a lower burst wraps to a great one: one test refuses both.
+// What is left of a burst after a message; the entry before is of burst `last`, which has `left` bytes left. A step to a lower burst wraps to a great number, so one test refuses both.
 fn pack(last: u64, left: u64, burst: u64, length: u64) -> Packed
     requires { ⌜ last < 18446744073709551615 ⌝ }
     ensures { λ r. ⌜ r ≡ packing last left burst length ⌝ }
@@ -106,7 +106,7 @@ fn is_clash(messages: &[u64], m: u64, own: u64, other: u64) -> bool
     cabin(messages, other) == own
 }
 
-// Whether one of the first n entries may not be before one of message m.
+// Whether one of the first n entries may not be before an entry of message m.
 fn is_late(messages: &[u64], entries: &[u64], n: usize, m: u64) -> bool
     requires { ⌜ n ≤ length (now entries) / 2 ⌝ }
     requires { ⌜ m < length (now messages) / 2 ⌝ }
@@ -197,7 +197,7 @@ pub fn check_plan(messages: &[u64], entries: &[u64]) -> Checked
     }
 }
 
-// The first message of more than 340 bytes. It looks at two messages a turn: a loop of one is so short that its speed depends on where the code lies.
+// The first message of more than 340 bytes. It looks at two messages a turn: a loop over one is so short that its speed depends on the alignment of the code.
 fn too_long(messages: &[u64]) -> Found
     ensures { λ r. ⌜ r ≡ foundOf (tooLong 0 (waitings (now (messages .entry)))) ⌝ }
 {
@@ -241,7 +241,7 @@ pub fn answer(messages: &[u64], room: usize) -> Planned
     }
 }
 
-// The burst that a message goes to: the last one, if it has that much left, or a new one. A message over 340 bytes leaves nothing.
+// The burst that a message goes to: the last one if the message fits, else a new one. A message over 340 bytes leaves 0.
 fn take_in(burst: u64, left: u64, length: u64) -> Burst
     requires { ⌜ burst < 18446744073709551615 ⌝ }
     ensures { λ r. ⌜ (r .number ≡ pick (leb length left) burst (suc burst)) × (r .left ≡ pick (leb length left) left most - length) ⌝ }
@@ -265,7 +265,7 @@ fn take_in(burst: u64, left: u64, length: u64) -> Burst
     }
 }
 
-// Writes the plan's entries: the messages in turn, a new burst only where the next does not fit.
+// Writes the plan's entries: the messages in turn, a new burst only if the next does not fit.
 fn fill(messages: &[u64], entries: &mut [u64])
     requires { ⌜ length (now messages) / 2 ≤ length (now entries) / 2 ⌝ }
     ensures { λ _. ⌜ now (entries .exit) ≡ entryNumbers (planOf (waitings (now (messages .entry)))) ++ drop (2 * (length (now (messages .entry)) / 2)) (now (entries .entry)) ⌝ }
@@ -284,8 +284,8 @@ fn fill(messages: &[u64], entries: &mut [u64])
     }
 }
 
-// The planner: takes the messages in turn and opens a new burst only where the next does not fit. On a refusal the lent list stays as it was.
-// Wrong and ruled out: an entry written where the list is too short; a burst of 341 bytes made.
+// The planner: takes the messages in turn and opens a new burst only if the next does not fit. On a refusal the lent list stays as it was.
+// Wrong and ruled out: an entry written into a list that is too short; a burst of 341 bytes made.
 pub fn plan(messages: &[u64], entries: &mut [u64]) -> Planned
     ensures { λ r. ⌜ r ≡ plannedOf (planning (now (messages .entry)) (length (now (entries .entry)))) ⌝ }
     ensures { λ _. ⌜ now (entries .exit) ≡ planListed (planning (now (messages .entry)) (length (now (entries .entry)))) (now (entries .entry)) ⌝ }

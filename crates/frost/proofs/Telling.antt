@@ -1,9 +1,10 @@
--- The guard's answers by the code's tests. Assumes nothing.
+-- The guard's answers by the code's tests: each law is one way out of a function. Assumes nothing.
 --
---   never-passes, long-passes, later-passes, int-..   a number that is there passes a test
+--   never-.., long-.., later-.., unset-.., int-..     a number that is there passes a test
 --   lone-..                                           a start and no tick at or after it
 --   bad-..                                            what 52 judges, test by test
 --   form-..                                           what 40 and 41 judge
+--   numbers-told, fields-told                         the report at three places, in three listed rows
 --   raised-..                                         the order of signed shorts
 --   now-.., cold-.., warm-..                          the start of the freeze
 --   waited-.., fires-..                               whether the timer fires

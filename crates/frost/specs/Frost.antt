@@ -1,19 +1,30 @@
 -- The frost guard: a layer over the reader.
 --
---   guardTable          the table of its reports, P2's of document 01
---   raised, atOrBelow   the order of signed numbers of k bytes, of their patterns
---   millis              a delay of whole seconds in milliseconds: the one conversion
---   Guard, start        what is kept between reports; what it is at the start, with a set point
---   badState            what 52 judges
---   Report, reportOf    reading, tick and delay of a message under the table; or a refusal: the reader's own, then 42
---   reportForm          what 40 and 41 judge, against the last tick; judgedReport a report so judged
---   coldAt              a reading at or below the set point
---   freeze              the start of the freeze after a report
---   firesAt             the timer fires
---   Told, report        the answer to a report
---   stateBytes, stateOf the state as 32 bytes, and back
---   started, reported, stored   the calls on such states, and the lent bytes after them
---   toldNumbers         the numbers of an answer
+--   guardTable            the table of its reports, P2's of document 01
+--   raised, atOrBelow     the order of signed numbers of k bytes, by their patterns
+--   millis                a delay of whole seconds in milliseconds: the one conversion
+--   Guard, start          what is kept between reports; the guard at the start, with a set point
+--   present               a number that is there passes a test
+--   loneStart             a start and no tick at or after it
+--   badState              what 52 judges
+--   Report, Heard         reading, tick and delay of a message; a report or a refusal
+--   memberValue           the value of a member in the rows of a message
+--   complete              a report of three fields, or 42
+--   answered, reportOf    the report in a message under the table; or a refusal: the reader's own, then 42
+--   reportForm            what 40 and 41 judge, against the last tick
+--   judgedReport          a report so judged
+--   coldAt                a reading at or below the set point
+--   orNow, freeze         the start of the freeze after a cold report; after any report
+--   firesAt               the timer fires
+--   Told, told, report    the answer: its type, to a judged report, to a message
+--   markOf, orNone        the mark and the number written for a number that may be absent
+--   marked                the number read back by its mark
+--   stateBytes, stateOf   the state as 32 bytes, and back
+--   noState               bytes that are no state
+--   bounded               22, last
+--   started, reported, reportedFrom   the calls on states as bytes
+--   stored                the lent bytes after them
+--   toldNumbers, firesNumber   the numbers of an answer
 use mathlib.Core.Bool.{Bool, true, false, _&&_, _||_, not}
 use mathlib.Core.Option.{Option, none, some}
 use mathlib.Core.List.{List, [], _∷_, _++_}
@@ -42,11 +53,11 @@ guardTable =
 
 -- ---- numbers
 
--- a pattern of k bytes as a number whose order is that of the signed numbers: the least has 0
+-- a pattern of k bytes moved so that plain order is the order of signed numbers: the least number becomes 0
 unfoldable pub raised : ℕ → ℕ → ℕ
 raised k n = (n + 2 ^ (8 * k - 1)) % 2 ^ (8 * k)
 
--- a signed number of k bytes is at most another
+-- a is at most b, as signed numbers of k bytes
 unfoldable pub atOrBelow : ℕ → ℕ → ℕ → Bool
 atOrBelow k a b = leb (raised k a) (raised k b)
 
@@ -94,7 +105,7 @@ pub record Report : Type 0 where
   pub tick : ℕ
   pub delay : ℕ
 
--- the number of the first row of a member
+-- the value of the first row of member k
 unfoldable pub memberValue : List ℕ → ℕ → List Row → Option ℕ
 memberValue m k [] = none
 memberValue m k (r ∷ rs) = let later = memberValue m k rs in pick (eqb (r .member) k) (some (val (partOf m r))) later
@@ -104,20 +115,21 @@ pub data Heard : Type 0 where
   refuse : (number place : ℕ) → Heard
   heard : Report → Heard
 
--- 42 where a field is missing
+-- 42 if a field is missing
 unfoldable pub complete : Option ℕ → Option ℕ → Option ℕ → Heard
 complete (some r) (some t) (some d) = heard (record { reading = r; tick = t; delay = d })
 complete none t d = refuse 42 0
 complete (some r) none d = refuse 42 0
 complete (some r) (some t) none = refuse 42 0
 
--- the report in a message: member rows 0, 1 and 2 are reading, tick and delay; 36 bytes hold three rows
+-- the report of a reader's answer: members 0, 1 and 2 are reading, tick and delay
 unfoldable pub answered : List ℕ → Answer → Heard
 answered m a =
     pick (eqb (a .refusal) 0)
     (complete (memberValue m 0 (a .rows)) (memberValue m 1 (a .rows)) (memberValue m 2 (a .rows)))
     (refuse (a .refusal) (a .place))
 
+-- 36 bytes hold three rows
 unfoldable pub reportOf : List ℕ → Heard
 reportOf m = answered m (reading guardTable 3 m 36)
 
@@ -141,7 +153,7 @@ unfoldable pub orNow : ℕ → Option ℕ → ℕ
 orNow tick none = tick
 orNow tick (some s) = s
 
--- the start of the freeze after a report: a cold one starts a freeze if none runs, another ends it
+-- the start of the freeze after a report: a cold one starts a freeze if none runs, a warm one ends it
 unfoldable pub freeze : ℕ → Option ℕ → Report → Option ℕ
 freeze set running r = pick (coldAt set r) (some (orNow (r .tick) running)) none
 
@@ -149,7 +161,7 @@ freeze set running r = pick (coldAt set r) (some (orNow (r .tick) running)) none
 unfoldable pub firesAt : Option ℕ → Report → Bool
 firesAt running r = present (λ s. leb (s + millis (r .delay)) (r .tick)) running
 
--- what a report is answered with
+-- the answer to a report
 pub record Told : Type 0 where
   pub refusal : ℕ
   pub place : ℕ
@@ -168,7 +180,7 @@ told g (heard r) =
       guard = record { set = g .set; tick = some (r .tick); start = running; delay = some (r .delay) };
     }
 
--- 52, the reader's own, 42, 40, 41
+-- the refusals in order: 52, the reader's own, 42, 40, 41
 unfoldable pub report : Guard → List ℕ → Told
 report g m = told g (pick (badState g) (refuse 52 0) (judgedReport (g .tick) (reportOf m)))
 
@@ -194,7 +206,7 @@ stateBytes g =
 unfoldable pub marked : ℕ → ℕ → Option ℕ
 marked mark n = pick (eqb mark 0) none (some n)
 
--- a state of another length or with another mark is none; the zero bytes and what is absent are not judged
+-- a length other than 32, or a mark above 1; the zero bytes and the bytes of absent numbers are not judged
 unfoldable pub noState : List ℕ → Bool
 noState b = not (eqb (length b) 32) || (ltb 1 (at b 1 2) || (ltb 1 (at b 1 3) || ltb 1 (at b 1 4)))
 
@@ -203,12 +215,12 @@ stateOf b =
     pick (noState b) none
     (some (record { set = at b 2 0; tick = marked (at b 1 2) (at b 8 8); start = marked (at b 1 3) (at b 8 16); delay = marked (at b 1 4) (at b 4 24) }))
 
--- 22 at 32 where fewer bytes are lent for the state, after every other refusal
+-- 22 at 32 if fewer than 32 bytes are lent for the state, after every other refusal
 unfoldable pub bounded : ℕ → Told → Told
 bounded n t =
     pick (eqb (t .refusal) 0 && ltb n 32) (record { refusal = 22; place = 32; fires = false; guard = t .guard }) t
 
--- the start, with so many bytes lent
+-- the start, with n bytes lent
 unfoldable pub started : ℕ → ℕ → Told
 started set n = bounded n (record { refusal = 0; place = 0; fires = false; guard = start set })
 
@@ -217,11 +229,11 @@ unfoldable pub reportedFrom : Option Guard → List ℕ → ℕ → Told
 reportedFrom none m n = told (start 0) (refuse 52 0)
 reportedFrom (some g) m n = bounded n (report g m)
 
--- a report on a state as bytes, with so many bytes lent for the state after it
+-- a report on a state as bytes, with n bytes lent for the state after it
 unfoldable pub reported : List ℕ → List ℕ → ℕ → Told
 reported state m n = reportedFrom (stateOf state) m n
 
--- the lent bytes after the call: the state where it fits, bytes beyond it stay, and on a refusal all
+-- the lent bytes after the call: the state, then the bytes beyond it as they were; on a refusal all stay
 unfoldable pub stored : Told → List ℕ → List ℕ
 stored t lent = pick (eqb (t .refusal) 0 && leb 32 (length lent)) (stateBytes (t .guard) ++ drop 32 lent) lent
 
@@ -229,6 +241,6 @@ stored t lent = pick (eqb (t .refusal) 0 && leb 32 (length lent)) (stateBytes (t
 unfoldable pub firesNumber : Bool → ℕ
 firesNumber b = pick b 1 0
 
--- refusal, place, 1 where the timer fires
+-- refusal, place, 1 if the timer fires
 unfoldable pub toldNumbers : Told → List ℕ
 toldNumbers t = t .refusal ∷ t .place ∷ firesNumber (t .fires) ∷ []

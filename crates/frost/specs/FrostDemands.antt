@@ -1,22 +1,22 @@
 -- What is promised of the frost guard, each promise in full, to be read without its proof. `FrostPromises` names the proof of each.
--- The rule is told by history: by the reports that were accepted, the latest first, without any state.
+-- The rule is stated by history: by the accepted reports, the latest first, without any state.
 --
 --   FrostTable        the table is P2's of document 01, and breaks no rule
---   FrostJudges       what a message is judged by: the reader's own refusals, 42, 40, 41, or a report
+--   FrostJudges       how a message is judged: the reader's own refusals, 42, 40, 41, or a report
 --   StateJudged       what 52 means
 --   FrostReport       one report, from any state that 52 does not refuse: what is kept after it, and whether the timer fires
 --   FrostRefuses      the refusals of a report: those of the reader but 19, and 40, 41, 42, 52 at 0
---   taken ms          the reports accepted among the messages ms, the latest first
+--   taken h ms        the history h after the messages ms: the accepted reports, the latest first
 --   Began set h s     a freeze runs after the reports h, and began at the tick s: the earliest of the cold reports since the last warm one
---   Fires             the timer fires with the latest report
---   Answers           what the rule says of a report after a history
---   FrostHistory      any sequence of reports from the start answers as this rule
+--   Fires set r h     the timer fires with the report r after the history h
+--   Answers           what the rule says of a message after a history
+--   FrostHistory      any sequence of messages from the start is answered as this rule says
 --   FrostState        what the guard keeps is what the history says; the next report is not refused by 52
 --   FrostRefused      a refused report leaves the state
 --   FrostNumbers      ticks and delays of accepted reports are not negative, and ticks never fall
 --   FoundersStory     day 49, with its numbers: a freeze before 2^32 milliseconds, and the report at 2^32
 --   LargestLong       the timer fires at the largest long, where the delay is the largest int
---   StateKept         the state survives its 32 bytes
+--   StateKept         the state is read back from its 32 bytes
 --   BytesReport       the calls on 32 bytes answer as those on the state
 --   BytesRefused      bytes of another length or with another mark are refused by 52
 --   FrostTold         the numbers of the calls are those of the answer
@@ -37,12 +37,12 @@ use Rattle.frost.specs.Frost.{guardTable, Guard, start, badState, Report
 
 -- ---- the table, and what is judged
 
--- computed once, for every report
+-- the table is fixed, so both are computed once
 pub record FrostTable : Type 0 where
   pub is-p2 : guardTable ≡ table2
   pub sound : faults guardTable ≡ fine
 
--- a number that is there is lower than another
+-- t is lower than the number that is there
 pub record Lower (t : ℕ) (o : Option ℕ) : Type 0 where
   pub than : ℕ
   pub there : o ≡ some than
@@ -55,7 +55,7 @@ pub record Fields (m : List ℕ) (r : Report) : Type 0 where
   pub tick-is : memberValue m 1 (reading guardTable 3 m 36 .rows) ≡ some (r .tick)
   pub delay-is : memberValue m 2 (reading guardTable 3 m 36 .rows) ≡ some (r .delay)
 
--- what a message is judged by, after the last tick, in this order
+-- how a message is judged after the last tick, in this order
 pub data Judged (last : Option ℕ) (m : List ℕ) : Heard → Type 0 where
   by-reader : (reading guardTable 3 m 36 .refusal ≡ 0 → ⊥) → Judged last m (refuse (reading guardTable 3 m 36 .refusal) (reading guardTable 3 m 36 .place))
   incomplete : reading guardTable 3 m 36 .refusal ≡ 0 → ((r : Report) → Fields m r → ⊥) → Judged last m (refuse 42 0)
@@ -76,7 +76,7 @@ pub data StateFault (g : Guard) : Type 0 where
   start-alone : {s : ℕ} → g .start ≡ some s → g .tick ≡ none → StateFault g
   start-later : {t s : ℕ} → g .start ≡ some s → g .tick ≡ some t → t < s → StateFault g
 
--- 52 comes before all else, and exactly for such a state
+-- 52 comes before every other refusal, and exactly for a state with a fault
 pub record Stated (g : Guard) (m : List ℕ) : Type 0 where
   pub bad : StateFault g → (report g m .refusal ≡ 52) × (report g m .place ≡ 0)
   pub good : (StateFault g → ⊥) → badState g ≡ false
@@ -86,7 +86,7 @@ StateJudged = (g : Guard) (m : List ℕ) → Stated g m
 
 -- ---- one report
 
--- a freeze runs, and the report's tick minus its start is at least a thousand times its delay
+-- a freeze runs, and the report's tick minus the start is at least a thousand times the report's delay
 pub record Waited (running : Option ℕ) (r : Report) : Type 0 where
   pub begin : ℕ
   pub runs : running ≡ some begin
@@ -129,7 +129,7 @@ pub data ReportRefusal (m : List ℕ) : ℕ → ℕ → Type 0 where
 abbrev pub FrostRefuses : Type 0
 FrostRefuses = (g : Guard) (m : List ℕ) → Bytes m → (report g m .refusal ≡ 0 → ⊥) → ReportRefusal m (report g m .refusal) (report g m .place)
 
--- ---- the rule, told by history
+-- ---- the rule, by history
 
 -- the tick of the latest report
 unfoldable pub latestTick : List Report → Option ℕ
@@ -164,7 +164,7 @@ pub data Warm (set : ℕ) : List Report → Type 0 where
   nothing-yet : Warm set []
   ended : {r : Report} {h : List Report} → coldAt set r ≡ false → Warm set (r ∷ h)
 
--- a freeze runs after a history and began at s: the history is cold reports down to one whose tick is s, and before that none or a warm one
+-- a freeze runs after a history and began at s: the history is cold reports back to one whose tick is s, and the report before that is warm, if there is one
 pub record Began (set : ℕ) (h : List Report) (s : ℕ) : Type 0 where
   pub since : List Report
   pub first : Report
@@ -194,7 +194,7 @@ unfoldable pub guardAfter : Guard → List (List ℕ) → Guard
 guardAfter g [] = g
 guardAfter g (m ∷ ms) = guardAfter (report g m .guard) ms
 
--- Any sequence of messages, and one more: the guard, which keeps four numbers, answers it as the history does.
+-- After any sequence of messages, the guard, which keeps four numbers, answers one more as the history says.
 -- Rules out a guard that forgets the start of a freeze, that starts it anew with each cold report, or that uses an older delay.
 abbrev pub FrostHistory : Type 0
 FrostHistory = (set : ℕ) (ms : List (List ℕ)) (m : List ℕ) → Answers set (taken [] ms) m (report (guardAfter (start set) ms) m)
@@ -211,11 +211,11 @@ pub record Keeps (set : ℕ) (h : List Report) (g : Guard) : Type 0 where
 abbrev pub FrostState : Type 0
 FrostState = (set : ℕ) (ms : List (List ℕ)) → Keeps set (taken [] ms) (guardAfter (start set) ms)
 
--- from any state, one that 52 refuses too: a refused report leaves the state
+-- a refused report leaves any state, also one that 52 refuses, and the timer does not fire
 abbrev pub FrostRefused : Type 0
 FrostRefused = (g : Guard) (m : List ℕ) → (report g m .refusal ≡ 0 → ⊥) → (report g m .guard ≡ g) × (report g m .fires ≡ false)
 
--- a tick, if there is one, is not after another
+-- the tick that is there, if any, is not after t
 abbrev pub NotAfter : Option ℕ → ℕ → Type 0
 NotAfter none t = Unit {0}
 NotAfter (some s) t = s ≤ t
@@ -244,8 +244,8 @@ late = coldReport (0xFF ∷ 0xFF ∷ 0xFF ∷ 0xFF ∷ 0 ∷ 0 ∷ 0 ∷ 0 ∷ [
 unfoldable pub day49 : List ℕ
 day49 = coldReport (0 ∷ 0 ∷ 0 ∷ 0 ∷ 1 ∷ 0 ∷ 0 ∷ 0 ∷ [])
 
--- A freeze begins half an hour before 2^32 milliseconds. One millisecond before, the timer waits; at 2^32 the delay is still there, and the timer fires.
--- Rules out a tick of four bytes: the delay would be gone, and the pipes would burst.
+-- A freeze begins half an hour before 2^32 milliseconds. One millisecond before 2^32 the timer waits; at 2^32 it fires.
+-- Rules out a tick of four bytes: it would fall back to 0 at 2^32, and the timer would not fire.
 pub record FoundersStory : Type 0 where
   pub begins :
       report (start 0) early
@@ -261,7 +261,7 @@ pub record FoundersStory : Type 0 where
 unfoldable pub last-tick : List ℕ
 last-tick = 0x16 ∷ 0 ∷ 0 ∷ 0 ∷ 1 ∷ 1 ∷ 0 ∷ 0 ∷ 0x3B ∷ 0xFF ∷ 0xFF ∷ 0xFF ∷ 0xFF ∷ 0xFF ∷ 0xFF ∷ 0xFF ∷ 0x7F ∷ 0x42 ∷ 0xFF ∷ 0xFF ∷ 0xFF ∷ 0x7F ∷ []
 
--- A freeze that began so that the largest delay has just passed at the largest long: the timer fires; a millisecond later, it waits.
+-- The largest delay has just passed at the largest long: the timer fires. If the freeze began a millisecond later, the timer waits.
 -- Rules out a sum of start and delay that wraps.
 pub record LargestLong : Type 0 where
   pub fires :
@@ -273,18 +273,18 @@ pub record LargestLong : Type 0 where
 
 -- ---- bytes and order
 
--- a number that is there is below a bound
+-- the number that is there, if any, is below k
 abbrev pub Under : ℕ → Option ℕ → Type 0
 Under k none = Unit {0}
 Under k (some n) = n < k
 
--- a guard whose numbers have their widths survives its 32 bytes
+-- a guard whose numbers fit their widths is read back from its 32 bytes
 abbrev pub StateKept : Type 0
 StateKept =
     (g : Guard) → g .set < 2 ^ 16 → Under (2 ^ 64) (g .tick) → Under (2 ^ 64) (g .start) → Under (2 ^ 32) (g .delay)
     → (length (stateBytes g) ≡ 32) × (stateOf (stateBytes g) ≡ some g)
 
--- a report on the 32 bytes of a guard is the guard's, with the state after it at the start of the lent bytes; fewer lent bytes than 32 are 22 at 32, last
+-- a report on the 32 bytes of a guard is answered as one on the guard, and the state after it is put at the start of the lent bytes; fewer than 32 lent bytes are refused by 22 at 32, last
 pub record Kept (g : Guard) (m lent : List ℕ) : Type 0 where
   pub answers : 32 ≤ length lent → reported (stateBytes g) m (length lent) ≡ report g m
   pub short : length lent < 32 → report g m .refusal ≡ 0 → (reported (stateBytes g) m (length lent) .refusal ≡ 22) × (reported (stateBytes g) m (length lent) .place ≡ 32)
@@ -302,11 +302,11 @@ pub data NoState (b : List ℕ) : Type 0 where
   start-mark : 1 < at b 1 3 → NoState b
   delay-mark : 1 < at b 1 4 → NoState b
 
--- before the message and the room are judged
+-- 52 comes before the message and the room are judged
 abbrev pub BytesRefused : Type 0
 BytesRefused = (b m : List ℕ) (n : ℕ) → NoState b → (reported b m n .refusal ≡ 52) × (reported b m n .place ≡ 0)
 
--- refusal, place, and 1 where the timer fires
+-- refusal, place, and 1 if the timer fires
 pub record ToldAs (t : Told) (r p f : ℕ) : Type 0 where
   pub refusal-is : r ≡ t .refusal
   pub place-is : p ≡ t .place
@@ -316,14 +316,14 @@ pub record ToldAs (t : Told) (r p f : ℕ) : Type 0 where
 abbrev pub FrostTold : Type 0
 FrostTold = (t : Told) → ToldAs t (getD (toldNumbers t) 0 0) (getD (toldNumbers t) 1 0) (getD (toldNumbers t) 2 0)
 
--- bytes that are a state, which 52 does not refuse
+-- bytes that are a state that 52 does not refuse
 pub record Sound (b : List ℕ) : Type 0 where
   pub guard : Guard
   pub is : stateOf b ≡ some guard
   pub sound : badState guard ≡ false
   pub taken-on : (m : List ℕ) → Bytes m → (n : ℕ) → reported b m n .refusal ≡ 52 → ⊥
 
--- the first 32 lent bytes after a start, and after a report on bytes of any make
+-- the first 32 lent bytes after a start, and after an accepted report on any bytes
 pub record StateGiven : Type 0 where
   pub by-start : (set : ℕ) (lent : List ℕ) → set < 2 ^ 16 → 32 ≤ length lent → Sound (take 32 (stored (started set (length lent)) lent))
   pub by-report : (b m lent : List ℕ) → Bytes b → Bytes m → reported b m (length lent) .refusal ≡ 0 → Sound (take 32 (stored (reported b m (length lent)) lent))

@@ -1,11 +1,11 @@
 -- One report from any state, the refusals of a report, and the states that are given: `frost-report`, `frost-refuses`, `frost-state`, `state-given` of FrostDemands.
--- The idea: what a message is judged by (`frost-judges`) bounds its numbers; three rows have room in 36 bytes, so 19 does not come.
+-- The idea: the judgement of a message (`frost-judges`) bounds its numbers; 36 bytes hold three rows, so 19 never comes.
 -- Assumes nothing.
 use mathlib.Core.Path.{_≡_, refl, sym, ap, _∙_, subst}
 use mathlib.Core.Bool.{Bool, true, false, _&&_, true≢false}
 use mathlib.Core.Option.{Option, none, some}
 use mathlib.Core.List.{List, [], _∷_, _++_}
-use Prim.Native.Nat.{ℕ, _+_, _^_, _≤_, _<_}
+use Prim.Native.Nat.{ℕ, _^_, _≤_, _<_}
 use native.Mathlib.Omega.{arith}
 use lib.ListN.{length, take, drop}
 use lib.Seq.{take-at}
@@ -61,7 +61,7 @@ heard-order last m x (delay-negative f h l n) r e = absurd (heard≢refuse e ref
 heard-order last m x (in-order {r = q} f h l n) r e =
     subst (InOrder last) (heard-same e) (record { long = h; later = not-after last (q .tick) l; int = n })
 
--- a refusal is the reader's own, or 42, 40 or 41; so it is neither 0 nor 52
+-- a refusal of a message is the reader's own, 42, 40 or 41; so its number is neither 0 nor 52
 record Refuses (m : List ℕ) (n p : ℕ) : Type 0 where
   is : ReportRefusal m n p
   some-number : n ≡ 0 → ⊥
@@ -148,7 +148,7 @@ module _ (g : Guard) (s : badState g ≡ false) where
     refused = λ n p e. let q = report-told m ∙ ap (told g) e in (ap (λ (t : Told). t .refusal) q, ap (λ (t : Told). t .place) q);
   }
 
-  -- 52 does not come
+  -- a state without a fault is never refused by 52
   not-52 : (m : List ℕ) → Bytes m → report g m .refusal ≡ 52 → ⊥
   unfolding told
   not-52 m y e = go (judgedReport (g .tick) (reportOf m)) refl

@@ -1,11 +1,11 @@
--- What a message and a state are judged by, the founder's story, and the calls on bytes: `frost-judges`, `state-judged`, `founders-story`, `largest-long`, `bytes-report`, `bytes-refused`, `frost-told` of FrostDemands.
--- The idea: each test of a definition, taken apart; the story is computed.
+-- How a message and a state are judged, the founder's story, and the calls on bytes: `frost-judges`, `state-judged`, `founders-story`, `largest-long`, `bytes-report`, `bytes-refused`, `frost-told` of FrostDemands.
+-- The idea: each test of a definition gives one case; the story is computed.
 -- Assumes nothing.
 use mathlib.Core.Path.{_≡_, refl, ap, _∙_}
 use mathlib.Core.Bool.{Bool, true, false, _||_, not, false≢true}
 use mathlib.Core.Option.{Option, none, some}
 use mathlib.Core.List.{List, _++_}
-use Prim.Native.Nat.{ℕ, _+_, _^_, _≤_, _<_}
+use Prim.Native.Nat.{ℕ, _^_, _≤_, _<_}
 use native.Mathlib.Omega.{arith}
 use lib.ListN.{length, drop}
 use lib.Dec.{eqb, leb, ltb}
@@ -23,7 +23,7 @@ use Rattle.frost.specs.FrostLaws.{some-same, state-kept}
 
 -- ---- a message
 
--- a report is lower than the last tick, or not
+-- a tick is lower than the last one, or not
 lower-of : (t : ℕ) (o : Option ℕ) → present (λ s. ltb t s) o ≡ true → Lower t o
 unfolding present
 lower-of t none e = absurd (false≢true e)
@@ -65,7 +65,7 @@ frost-judges last m = go (eqb (reading guardTable 3 m 36 .refusal) 0) refl
 
 -- ---- a state
 
--- a number that is there passes a test, or not
+-- a number that is there passes a test
 present-at : (f : ℕ → Bool) (o : Option ℕ) (n : ℕ) → o ≡ some n → f n ≡ true → present f o ≡ true
 unfolding present
 present-at f o n e h = rw e h

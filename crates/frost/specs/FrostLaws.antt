@@ -1,5 +1,5 @@
--- The frost guard answers as the rule told by history: `frost-history`, `frost-refused`, `frost-numbers`, `signed-order`, `state-kept` of FrostDemands.
--- The idea: after a history the guard is `guardOf` of it, whose start is computed by `frozen`; `frozen` is the start that `Began` speaks of.
+-- The frost guard answers as the rule by history says: `frost-history`, `frost-refused`, `frost-numbers`, `signed-order`, `state-kept` of FrostDemands.
+-- The idea: after the history h the guard is `guardOf set h`, whose start is `frozen set h`; this is the start that `Began` describes.
 -- Assumes nothing.
 use mathlib.Core.Path.{_≡_, refl, sym, ap, _∙_}
 use mathlib.Core.Bool.{Bool, true, false, _||_, true≢false, false≢true}
@@ -101,7 +101,7 @@ began-frozen set h s b = ap (frozen set) (b .whole) ∙ began-parts set s (b .si
 abbrev pub guardOf : ℕ → List Report → Guard
 guardOf set h = record { set = set; tick = latestTick h; start = frozen set h; delay = latestDelay h }
 
--- a start has a tick at or after it
+-- a start, if there is one, has a tick at or after it
 abbrev pub Held : Option ℕ → Option ℕ → Type 0
 Held t none = Unit {0}
 Held none (some s) = ⊥
@@ -156,7 +156,7 @@ int-present (some n) u = lt-leb (2 ^ 31) n u
 pub none-of-four : (a b c d : Bool) → a ≡ false → b ≡ false → c ≡ false → d ≡ false → a || (b || (c || d)) ≡ false
 none-of-four a b c d p q r s = rw (p, q, r, s)
 
--- 52 is not met
+-- 52 does not refuse it
 pub guard-sound : (set : ℕ) (h : List Report) → InTurn h → badState (guardOf set h) ≡ false
 unfolding badState
 guard-sound set h t =

@@ -1,12 +1,12 @@
--- The rows of an accepted report: it is complete exactly if there are three, and then they are reading, tick and delay, as wide as their types.
--- The idea: the promises of the reader. Rows that were read are a right list (`RowsRight`), and each is exactly a value of its member's type (`ExactRows`).
+-- The rows of an accepted message: a report is complete exactly if there are three, and then they are reading, tick and delay, as wide as their types.
+-- The idea: the promises of the reader. Rows that were read are a right list (`RowsRight`), and each is exactly one value of its member's type (`ExactRows`).
 -- Assumes nothing.
 --
---   table-sound        the table breaks no rule, and is P2's
---   rows-shaped        the rows of an accepted report, by their number
---   report-plain       a report with three rows and no optional skipped: its numbers are at 6, 9 and 18
---   report-full        any report with three rows, as the code reads it
---   report-partial     one with fewer is 42
+--   table-sound, table-is   the table breaks no rule, and is P2's
+--   report-plain            a report with three rows and no optional skipped: its numbers are at 6, 9 and 18
+--   report-full             any report with three rows, as the code reads it
+--   report-partial          a report with fewer rows is 42
+--   report-refused          a message that the reader refuses
 use mathlib.Core.Path.{_≡_, refl, sym, ap, _∙_, subst}
 use mathlib.Core.Bool.{Bool, true, false, true≢false}
 use mathlib.Core.Option.{Option, none, some}
@@ -49,7 +49,7 @@ table-is = refl
 
 -- ---- members
 
--- the rows of an accepted report: the reading always, tick and delay or not
+-- the rows of an accepted report: the reading always, tick and delay if they are there
 data Kinds : List Row → Type 0 where
   whole : {a b c : Row} → a .member ≡ 0 → b .member ≡ 1 → c .member ≡ 2 → Kinds (a ∷ b ∷ c ∷ [])
   no-delay : {a b : Row} → a .member ≡ 0 → b .member ≡ 1 → Kinds (a ∷ b ∷ [])
@@ -81,7 +81,7 @@ int-is : memberTy guardTable (trees guardTable) 2 ≡ num int
 unfolding computed guardTable
 int-is = refl
 
--- a number is encoded alike by both versions
+-- both versions encode a number alike
 num-as : (f : Encoding) (n : Num) → typeAs (isOld f) (num n) ≡ num n
 unfolding asOld
 num-as v10 n = refl
@@ -148,7 +148,7 @@ value-none : (m : List ℕ) (k : ℕ) → memberValue m k [] ≡ none
 unfolding memberValue
 value-none m k = refl
 
--- the bytes of a row are the number at its place, as wide as the row
+-- the value of a row is the number at its place, as wide as the row
 part-at : (m : List ℕ) (r : Row) (w : ℕ) → r .len ≡ w → val (partOf m r) ≡ at m w (r .place)
 unfolding partOf at
 part-at m r w e = ap (λ (n : ℕ). val (take n (drop (r .place) m))) e
@@ -166,7 +166,7 @@ complete-no-delay (some r) none d e = refl
 complete-no-delay (some r) (some t) none e = refl
 complete-no-delay (some r) (some t) (some d) e = absurd (some≢none refl e)
 
--- what is heard of rows
+-- the report of rows, or 42
 abbrev heardOf : List ℕ → List Row → Heard
 heardOf m rs = complete (memberValue m 0 rs) (memberValue m 1 rs) (memberValue m 2 rs)
 
@@ -199,7 +199,7 @@ fields-are : (m kept : List ℕ) (a b c : Row) → rowAt kept 0 ≡ a → rowAt 
 unfolding fieldsAt
 fields-are m kept a b c e f g = rw (e, f, g)
 
--- what is heard of three rows is at their places
+-- the report of three rows is the numbers at their places
 whole-heard : (m : List ℕ) (f : Encoding) (a b c : Row) → a .member ≡ 0 → b .member ≡ 1 → c .member ≡ 2 → All (RowExact guardTable m f) (a ∷ b ∷ c ∷ [])
     → heardOf m (a ∷ b ∷ c ∷ []) ≡ numbersAt m (a .place) (b .place) (c .place)
 whole-heard m f a b c p q r (more x (more y (more z w))) =
@@ -208,7 +208,7 @@ whole-heard m f a b c p q r (more x (more y (more z w))) =
     (value-later m 0 1 a (b ∷ c ∷ []) p zero≢one ∙ value-here m 1 b (c ∷ []) q ∙ ap some (part-at m b 8 (row-wide m f b 1 long q long-is y)))
     (value-later m 0 2 a (b ∷ c ∷ []) p zero≢two ∙ value-later m 1 2 b (c ∷ []) q one≢two ∙ value-here m 2 c [] r ∙ ap some (part-at m c 4 (row-wide m f c 2 int r int-is z)))
 
--- three rows are reading, tick and delay
+-- the report at the places of three listed rows is the report of these rows
 full : (m kept v : List ℕ) (rs : List Row) → Accepts m rs → length rs ≡ 3 → kept ≡ concat rowBytes rs ++ v → fieldsAt m kept ≡ heardOf m rs
 unfolding range
 full m kept v rs A n e = go rs (A .kinds) (A .exact) (rows-back (A .small) kept v e) n
@@ -315,7 +315,7 @@ skipped-after : (i : ℕ) (b : List ℕ) (ps : List Piece) → skippedPieces (re
 unfolding skippedPieces isSkipped
 skipped-after i b ps e = omega (arith, e)
 
--- the places of three rows
+-- the places of rows
 abbrev places : List Row → List ℕ
 places rs = map (λ (r : Row). r .place) rs
 
@@ -329,7 +329,7 @@ three-placed (x ∷ y ∷ []) (no-delay p q) a b c l e ea eb ec = absurd (omega 
 three-placed (x ∷ y ∷ []) (no-tick p q) a b c l e ea eb ec = absurd (omega (arith, ap length e))
 three-placed (x ∷ []) (neither p) a b c l e ea eb ec = absurd (omega (arith, ap length e))
 
--- the optionals after the reading: tick and delay
+-- tick and delay are the optionals after the reading
 module _ (rs : List Row) (k : Kinds rs) (n : length rs ≡ 3) where
   placed-rest : (ps : List Piece) → Level [] (optionalMembers guardTable 3) 0 ps → skippedPieces ps ≡ 0 → (a : Row) → a .place ≡ 6 → rs ≡ a ∷ pieceRows guardTable 3 8 ps → places rs ≡ 6 ∷ 9 ∷ 18 ∷ []
   placed-rest [] L z a w e = absurd (omega (arith, n, ap length e, no-row 8))
@@ -365,7 +365,7 @@ kind-is : kind guardTable 3 ≡ 15
 unfolding computed guardTable
 kind-is = refl
 
--- 1.0 has no such table
+-- the table has optionals, which 1.0 does not allow
 no-old : WithoutOptionals guardTable 3 → ⊥
 unfolding computed guardTable
 no-old W =

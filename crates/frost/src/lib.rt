@@ -1,6 +1,6 @@
 // The frost guard: a layer over the reader. It takes reports under a table of its own and says when the timer fires.
 // Ticks are milliseconds and delays are whole seconds: two types, and one conversion between them.
-// Of the library it calls the reader; numbers are taken from bytes by `wire`. The crate guard has the calls on a state of 32 bytes.
+// It calls the reader, and `wire` for numbers in bytes. The crate guard has the calls on a state of 32 bytes.
 ghost use mathlib.Core.Path.{_≡_};
 ghost use mathlib.Core.Option.{some};
 ghost use Prim.Native.Nat.{_+_};
@@ -170,7 +170,7 @@ fn is_negative_delay(d: Delay) -> bool
     }
 }
 
-// Whether a tick is there and later than another.
+// Whether there is a last tick and it is later than `tick`.
 fn is_later(last: Tick, tick: Millis) -> bool
     ensures { λ r. ⌜ r ≡ present (lowerThan (tick .0)) (tickIn last) ⌝ }
 {
@@ -236,7 +236,7 @@ fn fields(message: &[u8], rows: &[u8]) -> Heard
 }
 
 // What a message says under the table: the reader's own refusals, then 42. A report has all three rows, or a field is missing.
-// If no optional is skipped, the places are 6, 9 and 18: taking them from the rows would wait for the copy of the rows.
+// If no optional is skipped, the places are 6, 9 and 18. Reading them from the rows would wait for the copy of the rows.
 fn hear(message: &[u8]) -> Heard
     ensures { λ r. ⌜ heardIn r ≡ reportOf (now (message .entry)) ⌝ }
 {
@@ -287,7 +287,7 @@ fn is_cold(set: u16, reading: u16) -> bool
     raise(reading) <= raise(set)
 }
 
-// The start of a freeze that runs, or that starts at this tick.
+// The start of the freeze that runs, or this tick if none runs.
 fn or_now(running: Tick, tick: Millis) -> Tick
     ensures { λ r. ⌜ tickIn r ≡ some (orNow (tick .0) (tickIn running)) ⌝ }
 {
@@ -297,7 +297,7 @@ fn or_now(running: Tick, tick: Millis) -> Tick
     }
 }
 
-// The start of the freeze after a report: a cold reading starts a freeze if none runs, another ends it.
+// The start of the freeze after a report: a cold reading starts a freeze if none runs, a warm one ends it.
 fn frozen(set: u16, running: Tick, reading: u16, tick: Millis) -> Tick
     ensures { λ r. ⌜ tickIn r ≡ freeze set (tickIn running) (reportIn reading (tick .0) 0) ⌝ }
 {

@@ -1,6 +1,6 @@
--- The numbers of an answer, one by one. Assumes nothing.
+-- The numbers of an answer, one by one. A part taken from its start to its end is the whole list, so the answer is the same. Assumes nothing.
 --
---   number-refusal, -place, -fires, -waits, -none    a number of the answer to parts taken anew
+--   number-refusal, -place, -fires, -waits, -none    a number of the answer
 --   number-stored                                    the lent bytes after it
 --   room-few, room-all                               the numbers by the room for the state: under 32, and from 32 on
 use mathlib.Core.Path.{_≡_, refl, sym, ap, ap₂, _∙_}
@@ -16,7 +16,7 @@ use Rattle.frost.specs.declared.Told as code
 use Rattle.frost.specs.Frost.{Guard, Told, bounded, reportedFrom, reported, stored, stateOf, toldNumbers, firesNumber}
 use Rattle.frost.specs.Code.{toldIn}
 
--- a part taken anew, from its start to its end
+-- the part of s from its start to its end, as the code takes it
 abbrev anew : List ℕ → List ℕ
 anew s = take (length s - 0) (drop 0 s)
 
@@ -54,7 +54,7 @@ module _ (s m : List ℕ) (n : ℕ) where
   pub number-stored : (lent x : List ℕ) → x ≡ stored (reported (anew s) (anew m) n) lent → x ≡ stored (reported s m n) lent
   number-stored lent x h = h ∙ ap (λ (y : Told). stored y lent) (reported-anew s m n)
 
--- the state needs 32 bytes, and no more
+-- room beyond 32 bytes makes no difference
 room-enough : (s m : List ℕ) (n : ℕ) → 32 ≤ n → reported s m 32 ≡ reported s m n
 unfolding reported reportedFrom bounded
 room-enough s m n h = go (stateOf s)

@@ -1,12 +1,12 @@
--- The state as bytes, by the code's tests and puts. Assumes nothing.
+-- The state as bytes, by the code's tests and puts: each law is one way out of a function. Assumes nothing.
 --
 --   marked-..                   a number that a mark says is there
---   load-..                     bytes that are a state, and that are none
---   mark-.., number-..          what is put for a number that is there, or not
+--   load-..                     bytes that are a state, and bytes that are none
+--   mark-.., number-..          what is put for a number that is there, or is not
 --   state-put                   the 32 bytes, put by eights
 --   within-..                   22, last
 --   stored-..                   the lent bytes after a call
---   answer-..                   a report on a state as bytes
+--   answer-.., start-told       a report on a state as bytes; the start
 use mathlib.Core.Path.{_≡_, refl, sym, ap, ap₂, _∙_}
 use mathlib.Core.Bool.{Bool, true, false}
 use mathlib.Core.Option.{Option, none, some}
@@ -114,12 +114,12 @@ module _ (d : Delay) where
     unfolding orNone
     number-delay = rw e
 
--- a first byte
+-- the first byte of a number
 first-byte : (k a n : ℕ) → a < 256 → leBytes (suc k) (a + 256 * n) ≡ a ∷ leBytes k n
 unfolding leBytes
 first-byte k a n h = ap₂ _∷_ (omega arith) (ap (leBytes k) (omega arith))
 
--- two first bytes
+-- its first two bytes
 first-two : (k a n : ℕ) → a < 65536 → leBytes (suc (suc k)) (a + 65536 * n) ≡ leBytes 2 a ++ leBytes k n
 unfolding leBytes
 first-two k a n h = ap₂ _∷_ (omega arith) (ap₂ _∷_ (omega arith) (ap (leBytes k) (omega arith)))
@@ -143,14 +143,14 @@ head-bytes g h =
     (first-byte 4 (markOf (g .start)) _ (omega (arith, mark-small (g .start)))
     ∙ ap (λ (l : List ℕ). markOf (g .start) ∷ l) (last-mark (markOf (g .delay)) (mark-small (g .delay)))))
 
--- a number of four bytes in eight
+-- a number of four bytes, written in eight
 four-bytes : (d : ℕ) → d < 4294967296 → leBytes 8 d ≡ leBytes 4 d ++ (0 ∷ 0 ∷ 0 ∷ 0 ∷ [])
 unfolding leBytes
 four-bytes d h =
     let z : d / 256 / 256 / 256 / 256 ≡ 0 = omega arith in
     ap (λ (n : ℕ). d % 256 ∷ d / 256 % 256 ∷ d / 256 / 256 % 256 ∷ d / 256 / 256 / 256 % 256 ∷ leBytes 4 n) z
 
--- eight bytes put after bytes at the start
+-- eight bytes are put right after the bytes b at the start
 eight-more : (at v : ℕ) (b lent x y : List ℕ) → x ≡ put 0 b lent → y ≡ put at (leBytes 8 v) x → length b ≡ at → at + 8 ≤ length lent
     → (y ≡ put 0 (b ++ leBytes 8 v) lent) × (length (b ++ leBytes 8 v) ≡ at + 8)
 eight-more at v b lent x y ex ey e l =
@@ -222,7 +222,7 @@ pub start-told : (set n : ℕ) (g : Guard) → g ≡ start set → (t : Told) �
 unfolding started
 start-told set n g e t q = q ∙ ap (λ (z : Guard). bounded n (record { refusal = 0; place = 0; fires = false; guard = z })) e
 
--- what is stored goes with the answer
+-- the lent bytes are those of the answer that is returned
 pub stored-start : (set n : ℕ) (g : Guard) → g ≡ start set → (t : Told) → t ≡ bounded n (record { refusal = 0; place = 0; fires = false; guard = g })
     → (lent x : List ℕ) → x ≡ stored t lent → x ≡ stored (started set n) lent
 stored-start set n g e t q lent x h = h ∙ ap (λ (z : Told). stored z lent) (start-told set n g e t q)

@@ -1,6 +1,6 @@
 -- The state of the frost guard as bytes, as the code has it.
 --
---   loadedIn    a state in bytes, if they are one
+--   loadedIn    the state that bytes hold, if they are a state
 --   headOf g    set point and marks as one number of eight bytes
 use mathlib.Core.Option.{Option, none, some}
 use Prim.Native.Nat.{ℕ, _+_, _*_}

@@ -1,5 +1,5 @@
 // The frost guard on a state of 32 bytes, for callers that keep it as bytes.
-// Set point (2 bytes), a mark each for tick, start and delay, three zero bytes, tick (8), start (8), delay (4), four zero bytes.
+// Its bytes: set point (2), a mark each for tick, start and delay, three zero bytes, tick (8), start (8), delay (4), four zero bytes.
 ghost use mathlib.Core.Path.{_≡_};
 ghost use mathlib.Core.List.{_++_};
 ghost use Prim.Native.Nat.{_≤_, _<_};
@@ -14,7 +14,7 @@ use frost::Seconds;
 use frost::Tick;
 use frost::Told;
 
-// A state in bytes, if they are one.
+// The state that bytes hold, if they are a state.
 pub enum Loaded {
     Is(Guard),
     Isnt,
@@ -45,7 +45,7 @@ fn delay_of(mark: usize, n: usize) -> Delay
     }
 }
 
-// The state in bytes. Zero bytes and what is absent are not judged.
+// The state that bytes hold. The zero bytes and the bytes of absent numbers are not judged.
 fn load(state: &[u8]) -> Loaded
     ensures { λ r. ⌜ loadedIn r ≡ stateOf (now (state .entry)) ⌝ }
 {
@@ -139,7 +139,7 @@ fn put_state(out: &mut [u8], guard: Guard)
     wire::put_number(out, 24, 8, delay_number(delay));
 }
 
-// The answer where so many bytes are lent for the state: 22 at 32, after every other refusal.
+// The answer with `room` bytes lent for the state: 22 at 32 if they are fewer than 32, after every other refusal.
 fn within(t: Told, room: usize) -> Told
     ensures { λ r. ⌜ toldIn r ≡ bounded room (toldIn t) ⌝ }
 {
@@ -173,8 +173,8 @@ fn store(t: Told, next: &mut [u8])
 
 // ---- the calls
 
-// The start with a set point, into lent bytes.
-// Wrong and ruled out: a state that is put where fewer than 32 bytes are lent; one with another set point.
+// Puts the guard at the start, with a set point, into lent bytes.
+// Wrong and ruled out: a state put into fewer than 32 bytes; one with another set point.
 pub fn start(set: u16, state: &mut [u8]) -> Told
     ensures { λ r. ⌜ toldIn r ≡ started set (length (now (state .entry))) ⌝ }
     ensures { λ _. ⌜ now (state .exit) ≡ stored (started set (length (now (state .entry)))) (now (state .entry)) ⌝ }
@@ -223,8 +223,8 @@ pub fn report(state: &[u8], message: &[u8], next: &mut [u8]) -> Told
 // ---- the numbers of an answer
 
 // Number i of the answer to a report: 0 refusal, 1 place, 2 whether the timer fires; and the state after it at the start of the lent bytes.
-// The calls of C share this function: the report, called at one place, is inlined here, and its answer does not go through memory. `&state[0..]` in place of `state`: where and how long are passed in registers.
-// Wrong and ruled out: the place where the refusal is asked for; a number of the answer for another room.
+// The calls of C share this function, so `report` is inlined here and its answer does not go through memory. `&state[0..]` passes place and length in registers, which `state` does not.
+// Wrong and ruled out: the place given for the refusal; a number of the answer for another room.
 pub fn report_number(state: &[u8], message: &[u8], next: &mut [u8], i: usize) -> u32
     ensures { λ r. ⌜ r ≡ getD (toldNumbers (reported (now (state .entry)) (now (message .entry)) (length (now (next .entry))))) i 0 ⌝ }
     ensures { λ _. ⌜ now (next .exit) ≡ stored (reported (now (state .entry)) (now (message .entry)) (length (now (next .entry)))) (now (next .entry)) ⌝ }
@@ -242,7 +242,7 @@ pub fn report_number(state: &[u8], message: &[u8], next: &mut [u8], i: usize) ->
     if t.fires { 1 } else { 0 }
 }
 
-// Number i of the answer with `room` bytes for the state after it, which is put into bytes that are not kept: a state needs 32.
+// Number i of the answer with `room` bytes for the state after it. The state is put into 32 bytes of the function's own.
 // Wrong and ruled out: 22 for every room; the answer for 32 bytes whatever the room.
 pub fn answer_number(state: &[u8], message: &[u8], room: usize, i: usize) -> u32
     ensures { λ r. ⌜ r ≡ getD (toldNumbers (reported (now (state .entry)) (now (message .entry)) room)) i 0 ⌝ }

@@ -1,13 +1,14 @@
 -- What follows from the tests of the pass, row by row, and its loops. Each loop's invariant is that of the same loop in `rules` and in `shapes`. Assumes nothing.
 --
---   part-there                       a part lies below
+--   part-there                       a part lies below its row
 --   enum-passed, single-passed, other-passed, key-passed, value-passed, proxy-passed   a row that takes no member rows: it breaks no rule, and its shape
 --   struct-passed                    a struct whose members passed
---   record-rules, list-rules         the rules of the kinds 13 to 15; record-least, record-most a record is one of them
---   Usual, usual-..                  the member rows of these kinds
+--   record-rules, list-rules         the rules of the kinds 13 to 15
+--   record-least, record-most        the kind of a record is 13 to 15
+--   Usual, usual-..                  the loop over the member rows of these kinds
 --   owner-passed, alone-passed, unnamed-passed   a row of each sort
---   StructMembers, structs-..        the members of a struct, and what is known of their widths
---   width-.., shape-..               the width and the shape of a struct by these
+--   StructMembers, structs-..        the loop over the members of a struct, with their widths
+--   width-.., shape-..               the width and the shape of a struct, by those of its members
 --   Rows, rows-..                    the pass over the rows
 --   Blank, blank-..                  the array as it is cleared
 --   no-lists, few-types, pass-fine   the pass after the header
@@ -24,7 +25,7 @@ use lib.Dec.{eqb, leb, ltb}
 use borrow.Author.Tests.{eqb-true, eqb-false, leb-false, ltb-false, not-true, not-false, le-leb, lt-leb, ne-eqb, eq-eqb}
 use Rattle.encoding.specs.Result.{pick, firstOf}
 use Rattle.encoding.specs.ResultLaws.{either-false}
-use Rattle.encoding.specs.Types.{struct, seq, dict, fixed, fixeds}
+use Rattle.encoding.specs.Types.{seq, dict, fixed, fixeds}
 use Rattle.encoding.specs.Table.{at, withLists, types, members, memberAt, kind, field, isRecord, owns, range, memberType, memberTys, ownRows, tys, partTy, typeRows, used, noPart, headerTests, headerRules, faultAt, fine, faults}
 use Rattle.encoding.specs.TableLaws.{rows-below, member-in, members-more, members-none}
 use Rattle.encoding.specs.RuleLaws.{header-test}
@@ -164,7 +165,7 @@ record-least k b eb q = record-within k (sym eb ∙ q) .0
 pub record-most : (k : ℕ) (b : Bool) → b ≡ isRecord k → b ≡ true → k ≤ 15
 record-most k b eb q = record-within k (sym eb ∙ q) .1
 
--- over the member rows of row o, of one of these kinds
+-- the loop over the member rows of row o, of one of these kinds: `left` rows from m on remain, and the tags before are below `above`
 pub record Usual (T : List ℕ) (o left m above : ℕ) : Type 0 where
   pub own : TypeRow
   pub no-struct : 13 ≤ own .kind
@@ -219,7 +220,7 @@ unnamed-passed T t r x n b f l = f l .passed b
 
 -- ---- the members of a struct
 
--- the widths and whether all are fixed-size, so far and of those left
+-- the loop over a struct's members: `sum`, `wide` and `all` of those so far, and what the `left` rows from m on add
 pub record StructMembers (T : List ℕ) (t m left sum : ℕ) (wide all : Bool) : Type 0 where
   pub own : TypeRow
   pub nine : own .kind ≡ 9
@@ -228,7 +229,7 @@ pub record StructMembers (T : List ℕ) (t m left sum : ℕ) (wide all : Bool) :
   pub widths : widthsFrom 0 (memberTys T (tys T t) (ownRows T t)) ≡ pick wide (widthsFrom sum (memberTys T (tys T t) (range m left))) 0
   pub fixed-size : fixeds (memberTys T (tys T t) (ownRows T t)) ≡ all && fixeds (memberTys T (tys T t) (range m left))
 
--- a bound that is higher
+-- the invariant holds with a higher bound on tags too
 raise : (T : List ℕ) (t : ℕ) (own : TypeRow) (left m : ℕ) → Owner T t own left m 0 → Owner T t own left m 1
 raise T t own left m inv = record { bytes = inv .bytes; own-is = inv .own-is; below = λ i l h. omega (arith, inv .below i l h); rest = inv .rest }
 
@@ -302,7 +303,7 @@ module _ (T : List ℕ) (t m left sum : ℕ) (wide all : Bool) (inv : StructMemb
           and-assoc true d y = refl
           and-assoc false d y = refl
 
--- the width and the shape by what was found of the members
+-- the width and the shape of a struct, by what was found of its members
 module _ (wide : Bool) (sum : ℕ) where
   pub width-none : not wide ≡ true → 0 ≡ narrow (pick wide sum 0)
   width-none q = rw (not-true wide q)

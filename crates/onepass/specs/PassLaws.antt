@@ -1,9 +1,9 @@
--- What a call knows after the pass, and after the checks for a format g and a length l. Assumes nothing.
+-- What a caller knows after the pass, and after the checks for a format g and a length l. Assumes nothing.
 --
 --   passed-table, passed-shapes   the pass said yes: the table breaks no rule, and the shapes are there
---   blank-again                   it said no: 10s
+--   blank-again                   it said no: the array holds 10s
 --   stop-found, ready-found       what the checks found
---   no-shapes, shapes-there       the shapes where the checks refuse, and where they do not
+--   no-shapes, shapes-there       the shapes if the checks refuse, and if they do not
 use mathlib.Core.Path.{_≡_, sym, _∙_}
 use mathlib.Core.Bool.{Bool, true, false}
 use mathlib.Core.List.{List}

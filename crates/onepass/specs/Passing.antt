@@ -1,8 +1,8 @@
 -- What the pass knows of a type row that it lets pass.
 --
---   RowPassed T t row n b x   row t breaks no rule, nor does one of its member rows, and x is its shape; the rows before it take n member rows, b: its name is alike
---   AlonePassed T t row x        the same, whatever the rows before it take: a row that takes no member rows and has no name
---   UnnamedPassed T t row n x    the same, whatever names come before it: a row without a name
+--   RowPassed T t row n b x      row t and its member rows break no rule, and x is its shape; the rows before it take n member rows; b: one of them has its name
+--   UnnamedPassed T t row n x    the same for every b: a row without a name
+--   AlonePassed T t row x        the same for every n and b: a row that takes no member rows and has no name
 use mathlib.Core.Path.{_≡_}
 use mathlib.Core.Bool.{Bool}
 use mathlib.Core.List.{List}

@@ -1,5 +1,5 @@
 // One pass over a table of version 1 that judges each row and computes its shape. A yes says that the table breaks no rule and that the array holds its shapes.
-// A no says nothing: `rules` decides then, and `shapes` fills. Usual tables get a yes; one whose tags fall, or that has lists of enumerators, does not.
+// A no says nothing: `rules` then decides, and `shapes` fills the array. Usual tables get a yes; a table whose tags fall, or that has lists of enumerators, does not.
 // The functions for a row return its shape, or 256 if it may break a rule.
 use table::TypeRow;
 ghost use mathlib.Core.Path.{_≡_};
@@ -114,7 +114,7 @@ fn alone_row(table: &[u8], begin: usize, shapes: &[u8; 256], t: usize, row: Type
     10
 }
 
-// The width of a struct, or 0: each member has a width (`wide`), and they add up to `sum`.
+// The width of a struct, or 0 if it has none; `wide`: each member has a width, and `sum` is their sum.
 fn struct_width(wide: bool, sum: usize) -> usize
     ensures { λ r. ⌜ (r ≡ narrow (pick wide sum 0)) × (r ≤ 237) ⌝ }
 {
@@ -127,7 +127,7 @@ fn struct_width(wide: bool, sum: usize) -> usize
     sum
 }
 
-// The shape of a struct of width w, or without one: each member is fixed-size (`fixed`).
+// The shape of a struct of width w, 0 if it has none; `fixed`: each member is fixed-size.
 fn struct_shape(w: usize, fixed: bool) -> usize
     requires { ⌜ w ≤ 237 ⌝ }
     ensures { λ r. ⌜ r ≡ structShape w fixed ⌝ }
@@ -139,7 +139,7 @@ fn struct_shape(w: usize, fixed: bool) -> usize
 }
 
 // The members of struct row t, and its shape. The table has `all` member rows, from `first` on, here and below.
-// A member that is required with tag 0 is, as one number, its type.
+// A required member with tag 0, read as one long, is the number of its type.
 fn struct_members(
     table: &[u8],
     begin: usize,
@@ -217,7 +217,7 @@ fn struct_row(
     struct_members(table, begin, shapes, first, all, t, row)
 }
 
-// The rules of an exception or a class, row t. The names begin at `labels`; no row before `from` is a record, here and below.
+// The rules of an exception or a class, row t: true if it breaks none. The names begin at `labels`; no row before `from` is a record, here and below.
 fn record_rules(
     table: &[u8],
     begin: usize,
@@ -254,7 +254,7 @@ fn record_rules(
     rules::is_name_text(table, labels, t, row)
 }
 
-// The rules of row t, if its kind is 13 to 15.
+// The rules of row t: true if its kind is 13 to 15 and it breaks none.
 fn owner_rules(
     table: &[u8],
     begin: usize,
@@ -284,7 +284,7 @@ fn owner_rules(
     row.a == prior
 }
 
-// The member rows of row o, of kind 13 to 15, are usual, and so are their types.
+// The member rows of row o, of kind 13 to 15, are usual, and their types lie below.
 fn members(table: &[u8], begin: usize, first: usize, all: usize, o: usize, own: TypeRow) -> bool
     requires { ⌜ begin ≡ typesAt (now table) ⌝ }
     requires { ⌜ rowAt (now table) (o + 1) ≤ length (now table) ⌝ }
@@ -408,7 +408,7 @@ fn rows(table: &[u8], begin: usize, n: usize, all: usize, shapes: &mut [u8; 256]
     prior == all
 }
 
-// Makes the array of 10s again.
+// Fills the array with 10s again.
 fn clear(shapes: &mut [u8; 256])
     requires { ⌜ length (now shapes) ≡ 256 ⌝ }
     ensures { λ _. ⌜ now (shapes .exit) ≡ replicate 256 10 ⌝ }

@@ -1,4 +1,4 @@
--- The rows of the two indexes. Assumes nothing.
+-- Both indexes are those of rows, so the answer is that of `rows`. Assumes nothing.
 use Rattle.agreeing.proofs.Cells.{agrees-is, agrees-parts, row-there, row-within, row-kind, row-few, weights-scaled, weights-inside, weighed-row, weight-row}
 use borrow.Author.Needs.{needs}
 use native.Mathlib.Omega.{arith}

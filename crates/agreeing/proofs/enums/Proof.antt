@@ -1,4 +1,4 @@
--- By the lists of the two rows. Assumes nothing.
+-- If both rows have a list, `lists` compares them; if one has, they differ; else the greatest numbers are compared. Assumes nothing.
 use Rattle.agreeing.proofs.Cells.{enums-listed, enums-one, enums-other, enums-all}
 use borrow.Author.Needs.{needs}
 use Rattle.agreeing.proofs.enums.Statement.{statement}

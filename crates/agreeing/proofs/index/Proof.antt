@@ -1,4 +1,4 @@
--- A row as a part of the whole table. Assumes nothing.
+-- The index of a row is that of a part of the whole table. Assumes nothing.
 use Rattle.agreeing.proofs.Cells.{index-is}
 use borrow.Author.Needs.{needs}
 use Rattle.agreeing.proofs.index.Statement.{statement}

@@ -1,4 +1,4 @@
--- A row that is not below is none. Assumes nothing.
+-- Each way out is a case of `below`. Assumes nothing.
 use Rattle.agreeing.proofs.Cells.{below-none-is, below-is}
 use borrow.Author.Needs.{needs}
 use Rattle.agreeing.proofs.index_below.Statement.{statement}

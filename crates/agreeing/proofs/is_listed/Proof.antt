@@ -1,4 +1,4 @@
--- By the version. Assumes nothing.
+-- A table without lists has none; else the length of the list is compared with the greatest number. Assumes nothing.
 use Rattle.agreeing.proofs.Cells.{listed-is, listed-none}
 use borrow.Author.Needs.{needs}
 use Rattle.agreeing.proofs.is_listed.Statement.{statement}

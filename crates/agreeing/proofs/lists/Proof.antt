@@ -1,4 +1,4 @@
--- Lists of other lengths differ. Assumes nothing.
+-- Lists of different lengths differ; else `entries` compares them. Assumes nothing.
 use Rattle.agreeing.proofs.Cells.{lists-differ, lists-are}
 use borrow.Author.Needs.{needs}
 use Rattle.agreeing.proofs.lists.Statement.{statement}

@@ -1,4 +1,4 @@
--- A member that is not there is none. Assumes nothing.
+-- A member row past the end has a broken type; else the index is that of its type as a part. Assumes nothing.
 use Rattle.agreeing.proofs.Cells.{member-none, member-is}
 use borrow.Author.Needs.{needs}
 use Rattle.agreeing.proofs.member_below.Statement.{statement}

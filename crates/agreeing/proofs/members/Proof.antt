@@ -1,4 +1,4 @@
--- The cell of two types. Assumes nothing.
+-- The cells of the two types, as parts of the whole tables, say whether these agree. Assumes nothing.
 use Rattle.agreeing.proofs.Cells.{all-members, row-inside}
 use borrow.Author.Needs.{needs}
 use native.Mathlib.Omega.{arith}

@@ -1,4 +1,4 @@
--- The cell of two parts. Assumes nothing.
+-- The cells of the two parts say whether these agree. Assumes nothing.
 use Rattle.agreeing.proofs.Cells.{part-is, part-inside}
 use borrow.Author.Needs.{needs}
 use Rattle.agreeing.proofs.part.Statement.{statement}

@@ -1,4 +1,4 @@
--- By the kind of the two rows. Assumes nothing.
+-- Rows of different weights or kinds differ; else each kind has its case of `sameTy`. Assumes nothing.
 use Rattle.agreeing.proofs.Cells.{rows-heavier, rows-differ, rows-enum, rows-struct, rows-seq, rows-dict, rows-dict-not, rows-plain}
 use borrow.Author.Needs.{needs}
 use Rattle.agreeing.proofs.rows.Statement.{statement}

@@ -1,4 +1,4 @@
--- Two entries. Assumes nothing.
+-- Both entries are read from their tables. Assumes nothing.
 use borrow.Author.Needs.{needs}
 use Rattle.agreeing.proofs.same_entry.Statement.{statement}
 use Rattle.agreeing.proofs.same_entry.Tie as tie

@@ -1,4 +1,4 @@
--- By what the index is. Assumes nothing.
+-- Each way out is a case of `sortAt`: index 0, a row past the end, a kind above 12, or the kind. Assumes nothing.
 use Rattle.agreeing.proofs.Cells.{sort-none, sort-past, sort-great, sort-kind}
 use borrow.Author.Needs.{needs}
 use Rattle.agreeing.proofs.sort_at.Statement.{statement}

@@ -1,4 +1,4 @@
--- Structs of other counts differ. Assumes nothing.
+-- Structs with different numbers of members differ; else `run` compares the members. Assumes nothing.
 use Rattle.agreeing.proofs.Cells.{structs-differ, structs-are}
 use borrow.Author.Needs.{needs}
 use Rattle.agreeing.proofs.structs.Statement.{statement}

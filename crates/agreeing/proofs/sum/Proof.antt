@@ -1,4 +1,4 @@
--- The loop's invariant: the sum so far and that of the members left are the whole. The measure is their number. Assumes nothing.
+-- The loop's invariant (`Sums`): the sum so far and that of the members left make the whole sum. The measure is the number of members left. Assumes nothing.
 use Prim.Native.Nat.{_-_}
 use Rattle.agreeing.proofs.Cells.{Sums, sums-begin, sums-fit, sums-next, sums-end, place-fits, place-scaled, place-inside}
 use borrow.Author.Needs.{needs}

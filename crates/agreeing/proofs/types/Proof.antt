@@ -1,4 +1,4 @@
--- The cell of two members. Assumes nothing.
+-- The cells of the two member types say whether these agree. Assumes nothing.
 use Rattle.agreeing.proofs.Cells.{types-are, part-inside}
 use borrow.Author.Needs.{needs}
 use Rattle.agreeing.proofs.types.Statement.{statement}

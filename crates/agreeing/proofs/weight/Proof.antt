@@ -1,4 +1,4 @@
--- By the sort of the index. Assumes nothing.
+-- An index that is no struct has no members and weighs 0; else the weight is the sum over its members. Assumes nothing.
 use Rattle.agreeing.proofs.Cells.{weight-none, weight-there, weight-within, weight-ranked, weight-is}
 use borrow.Author.Needs.{needs}
 use Rattle.agreeing.proofs.weight.Statement.{statement}

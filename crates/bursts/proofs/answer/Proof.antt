@@ -1,4 +1,4 @@
--- By the first message that is too long, and the room. Assumes nothing.
+-- Each way out is a case of `planning`: 45, a plan, or 19. Assumes nothing.
 use borrow.Author.Needs.{needs}
 use Rattle.bursts.proofs.Putting.{answer-long, answer-made, answer-short}
 use Rattle.bursts.proofs.answer.Statement.{statement}

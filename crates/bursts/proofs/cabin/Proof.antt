@@ -1,4 +1,4 @@
--- The second number of the message's pair. Assumes nothing.
+-- The cabin is the second number of the message's pair. Assumes nothing.
 use borrow.Author.Needs.{needs}
 use Rattle.bursts.proofs.Packing.{cabin-known}
 use Rattle.bursts.proofs.cabin.Statement.{statement}

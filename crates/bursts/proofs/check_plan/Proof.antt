@@ -1,4 +1,4 @@
--- The loop's invariant: what the pass keeps of the entries so far, and that the entries left decide the answer. The measure is their number. Assumes nothing.
+-- The loop's invariant (`Passed`): what the pass knows of the entries so far; the entries left decide the answer. The measure is their number. Assumes nothing.
 use Prim.Native.Nat.{_-_}
 use borrow.Author.Needs.{needs}
 use native.Mathlib.Omega.{arith}

@@ -1,4 +1,4 @@
--- The message is a waiting one, and its burst holds it. Assumes nothing.
+-- A message that is not waiting has no room; else the answer is that of `packing`. Assumes nothing.
 use borrow.Author.Needs.{needs}
 use Rattle.bursts.proofs.Judging.{enter-unknown, enter-packed}
 use Rattle.bursts.proofs.enter.Statement.{statement}

@@ -1,4 +1,4 @@
--- By the order of the two message numbers; equal ones are of one cabin. Assumes nothing.
+-- A lower message never clashes; any other clashes if its cabin is the same. Assumes nothing.
 use borrow.Author.Needs.{needs}
 use Rattle.bursts.proofs.Packing.{clash-lower, clash-greater}
 use Rattle.bursts.proofs.is_clash.Statement.{statement}

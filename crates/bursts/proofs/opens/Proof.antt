@@ -1,4 +1,4 @@
--- By whether there is an entry. Assumes nothing.
+-- Fewer than two numbers hold no entry; else the second is its burst number. Assumes nothing.
 use borrow.Author.Needs.{needs}
 use Rattle.bursts.proofs.Packing.{opens-none, opens-some}
 use Rattle.bursts.proofs.opens.Statement.{statement}

@@ -1,4 +1,4 @@
--- By the step from the last burst. Assumes nothing.
+-- A step of 0 or 1 leads to a burst that may follow; any other step, also one that wraps, does not. Assumes nothing.
 use borrow.Author.Needs.{needs}
 use Rattle.bursts.proofs.Packing.{pack-astray, pack-held}
 use Rattle.bursts.proofs.pack.Statement.{statement}

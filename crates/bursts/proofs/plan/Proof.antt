@@ -1,4 +1,4 @@
--- The list is filled where the answer is a plan, and stays where it is a refusal. Assumes nothing.
+-- The list is filled if the answer is a plan, and stays if it is a refusal. Assumes nothing.
 use borrow.Author.Needs.{needs}
 use Rattle.bursts.proofs.Putting.{listed-room, listed-answer, listed-plan, listed-refused, listed-kept}
 use Rattle.bursts.proofs.plan.Statement.{statement}

@@ -1,4 +1,4 @@
--- By the comparison. Assumes nothing.
+-- Each way out is a case of `packed`. Assumes nothing.
 use Rattle.bursts.proofs.Packing.{put-in, put-out}
 use Rattle.bursts.proofs.put_in.Statement.{statement}
 use Rattle.bursts.proofs.put_in.Tie as tie

@@ -1,4 +1,4 @@
--- By the step. Assumes nothing.
+-- Each way out is a case of `pick`: the bytes left, or a whole burst. Assumes nothing.
 use Rattle.bursts.proofs.Packing.{room-left, room-whole}
 use Rattle.bursts.proofs.room.Statement.{statement}
 use Rattle.bursts.proofs.room.Tie as tie

@@ -1,4 +1,4 @@
--- The freeze after the report, then whether the timer fires.
+-- The answer is `told` of the report: the freeze after it, and whether the timer fires. Assumes nothing.
 use borrow.Author.Needs.{needs}
 use Rattle.frost.proofs.Telling.{told-accepted}
 use Rattle.frost.proofs.accepted.Statement.{statement}

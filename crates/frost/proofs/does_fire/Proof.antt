@@ -1,4 +1,4 @@
--- By the freeze that runs, if one does.
+-- Without a freeze the timer does not fire; with one it fires if the delay has passed. Assumes nothing.
 use borrow.Author.Needs.{needs}
 use Rattle.frost.proofs.Telling.{fires-never, fires-told}
 use Rattle.frost.proofs.does_fire.Statement.{statement}

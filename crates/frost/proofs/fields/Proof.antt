@@ -1,4 +1,4 @@
--- The three numbers at the places of the rows.
+-- `fieldsAt` is the numbers at the places of the three rows. Assumes nothing.
 use borrow.Author.Needs.{needs}
 use Rattle.frost.proofs.Telling.{fields-told}
 use Rattle.frost.proofs.fields.Statement.{statement}

@@ -1,4 +1,4 @@
--- The first that is wrong.
+-- Each way out is the first of the tests of `reportForm` that applies. Assumes nothing.
 use borrow.Author.Needs.{needs}
 use Rattle.frost.proofs.Telling.{form-negative, form-lower, form-delay, form-fine}
 use Rattle.frost.proofs.form.Statement.{statement}

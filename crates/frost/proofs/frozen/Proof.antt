@@ -1,4 +1,4 @@
--- Cold or not.
+-- A cold reading starts or keeps the freeze, a warm one ends it. Assumes nothing.
 use borrow.Author.Needs.{needs}
 use Rattle.frost.proofs.Telling.{cold-freezes, warm-thaws}
 use Rattle.frost.proofs.frozen.Statement.{statement}

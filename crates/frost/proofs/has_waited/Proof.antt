@@ -1,4 +1,4 @@
--- The difference and the delay.
+-- Comparing the difference with the delay is comparing the sum with the tick. Assumes nothing.
 use borrow.Author.Needs.{needs}
 use Rattle.frost.proofs.Telling.{waited-not, waited-told}
 use Rattle.frost.proofs.has_waited.Statement.{statement}

@@ -1,4 +1,4 @@
--- By the reader's answer, by the number of its rows, and by whether an optional is skipped.
+-- Each way out is a case of `reportOf`: by the reader's answer, the number of rows, and whether an optional is skipped. Assumes nothing.
 use borrow.Author.Needs.{needs}
 use Rattle.frost.specs.Frost.{guardTable}
 use Rattle.frost.specs.FrostRows.{report-partial, report-plain, report-full, report-refused}

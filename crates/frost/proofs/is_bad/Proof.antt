@@ -1,4 +1,4 @@
--- Test by test.
+-- The four tests are those of `badState`, in its order. Assumes nothing.
 use borrow.Author.Needs.{needs}
 use Rattle.frost.proofs.Telling.{bad-tick, bad-start, bad-delay, bad-lone}
 use Rattle.frost.proofs.is_bad.Statement.{statement}

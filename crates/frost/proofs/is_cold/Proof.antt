@@ -1,4 +1,4 @@
--- Both raised.
+-- Raised patterns have the order of signed shorts. Assumes nothing.
 use borrow.Author.Needs.{needs}
 use Rattle.frost.proofs.Telling.{cold-told}
 use Rattle.frost.proofs.is_cold.Statement.{statement}

@@ -1,4 +1,4 @@
--- By the last tick, if there is one.
+-- Without a last tick the answer is false; else the two ticks are compared. Assumes nothing.
 use borrow.Author.Needs.{needs}
 use Rattle.frost.proofs.Telling.{never-passes, later-passes}
 use Rattle.frost.proofs.is_later.Statement.{statement}

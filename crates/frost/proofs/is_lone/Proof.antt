@@ -1,4 +1,4 @@
--- By the start, then by the tick.
+-- Each arm is a case of `loneStart`. Assumes nothing.
 use borrow.Author.Needs.{needs}
 use Rattle.frost.proofs.Telling.{lone-no-start, lone-no-tick, lone-both}
 use Rattle.frost.proofs.is_lone.Statement.{statement}

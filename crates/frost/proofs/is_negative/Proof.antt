@@ -1,4 +1,4 @@
--- By the tick, if there is one.
+-- Without a tick the answer is false; else the tick is compared with 2 ^ 63. Assumes nothing.
 use borrow.Author.Needs.{needs}
 use Rattle.frost.proofs.Telling.{never-passes, long-passes}
 use Rattle.frost.proofs.is_negative.Statement.{statement}

@@ -1,4 +1,4 @@
--- By the delay, if there is one.
+-- Without a delay the answer is false; else the delay is compared with 2 ^ 31. Assumes nothing.
 use borrow.Author.Needs.{needs}
 use Rattle.frost.proofs.Telling.{unset-passes, int-passes}
 use Rattle.frost.proofs.is_negative_delay.Statement.{statement}

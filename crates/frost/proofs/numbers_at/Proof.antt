@@ -1,4 +1,4 @@
--- The three numbers at their places.
+-- The three numbers are those at their places. Assumes nothing.
 use borrow.Author.Needs.{needs}
 use Rattle.frost.proofs.Telling.{numbers-told}
 use Rattle.frost.proofs.numbers_at.Statement.{statement}

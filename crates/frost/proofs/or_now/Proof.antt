@@ -1,4 +1,4 @@
--- By the freeze that runs, if one does.
+-- Each arm is a case of `orNow`. Assumes nothing.
 use borrow.Author.Needs.{needs}
 use Rattle.frost.proofs.Telling.{now-begins, now-goes-on}
 use Rattle.frost.proofs.or_now.Statement.{statement}

@@ -1,4 +1,4 @@
--- Half of the numbers up, the other half down.
+-- Adding half of the range modulo the whole adds it to the lower half and subtracts it from the upper. Assumes nothing.
 use borrow.Author.Needs.{needs}
 use Rattle.frost.proofs.Telling.{raised-low, raised-high}
 use Rattle.frost.proofs.raise.Statement.{statement}

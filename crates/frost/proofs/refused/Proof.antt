@@ -1,4 +1,4 @@
--- As told.
+-- This is what `told` gives of a refusal. Assumes nothing.
 use Rattle.frost.proofs.Telling.{told-refused}
 use Rattle.frost.proofs.refused.Statement.{statement}
 use Rattle.frost.proofs.refused.Tie as tie

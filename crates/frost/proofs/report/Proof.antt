@@ -1,4 +1,4 @@
--- 52, what the message says, then 40 and 41.
+-- Each way out is a case of `report`: 52, a refusal of the message, an accepted report, 40 or 41. Assumes nothing.
 use borrow.Author.Needs.{needs}
 use Rattle.frost.proofs.Telling.{told-bad, told-silent, told-heard, told-wrong}
 use Rattle.frost.proofs.report.Statement.{statement}

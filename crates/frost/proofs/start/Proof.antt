@@ -1,4 +1,4 @@
--- Nothing yet.
+-- This is `start`, field by field. Assumes nothing.
 use mathlib.Core.Path.{refl}
 use Rattle.frost.specs.Frost.{start}
 use Rattle.frost.proofs.start.Statement.{statement}

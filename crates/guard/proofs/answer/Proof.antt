@@ -1,4 +1,4 @@
--- By what the bytes hold.
+-- Bytes that are no state are 52; else the answer is that of the guard, bounded by the room. Assumes nothing.
 use borrow.Author.Needs.{needs}
 use Rattle.guard.proofs.Storing.{answer-none, answer-told}
 use Rattle.guard.proofs.answer.Statement.{statement}

@@ -1,4 +1,4 @@
--- By the room: under 32 it is the length of the part that is lent; from 32 on it makes no difference. Assumes nothing.
+-- A room below 32 is the length of the part that is lent; from 32 on the room makes no difference. Assumes nothing.
 use borrow.Author.Needs.{needs}
 use Rattle.guard.proofs.Numbering.{room-few, room-all}
 use Rattle.guard.proofs.answer_number.Statement.{statement}

@@ -1,4 +1,4 @@
--- By the delay, if there is one.
+-- Each arm is a case of `markOf`. Assumes nothing.
 use borrow.Author.Needs.{needs}
 use Rattle.guard.proofs.Storing.{mark-unset, mark-delay}
 use Rattle.guard.proofs.delay_mark.Statement.{statement}

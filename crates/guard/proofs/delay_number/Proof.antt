@@ -1,4 +1,4 @@
--- By the delay, if there is one.
+-- Each arm is a case of `orNone`. Assumes nothing.
 use borrow.Author.Needs.{needs}
 use Rattle.guard.proofs.Storing.{number-unset, number-delay}
 use Rattle.guard.proofs.delay_number.Statement.{statement}

@@ -1,4 +1,4 @@
--- By the mark.
+-- Each way out is a case of `marked`. Assumes nothing.
 use borrow.Author.Needs.{needs}
 use Rattle.guard.proofs.Storing.{marked-none, marked-some}
 use Rattle.guard.proofs.delay_of.Statement.{statement}

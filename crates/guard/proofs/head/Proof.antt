@@ -1,4 +1,4 @@
--- Set point and marks.
+-- The sum is that of `headOf`, and it fits 64 bits, since marks are below 2. Assumes nothing.
 use borrow.Author.Needs.{needs}
 use Rattle.guard.specs.Bytes.{headOf}
 use Rattle.guard.proofs.head.Statement.{statement}

@@ -1,4 +1,4 @@
--- The length, the marks, then the numbers.
+-- A wrong length or mark is no state; else each field is the number at its place. Assumes nothing.
 use borrow.Author.Needs.{needs}
 use Rattle.guard.proofs.Storing.{load-length, load-tick, load-start, load-delay, load-told}
 use Rattle.guard.proofs.load.Statement.{statement}

@@ -1,4 +1,4 @@
--- Eight bytes four times.
+-- Four numbers of eight bytes, put one after another, are the 32 bytes of the state. Assumes nothing.
 use borrow.Author.Needs.{needs}
 use Rattle.guard.proofs.Storing.{state-put}
 use Rattle.guard.proofs.put_state.Statement.{statement}

@@ -1,4 +1,4 @@
--- The answer, then the state.
+-- The answer is that of `answer`, and `store` leaves the lent bytes as `stored` says. Assumes nothing.
 use borrow.Author.Needs.{needs}
 use Rattle.guard.proofs.Storing.{stored-report}
 use Rattle.guard.proofs.report.Statement.{statement}

@@ -1,4 +1,4 @@
--- The numbers are those of the answer, and the lent bytes are as the report leaves them. Assumes nothing.
+-- Number i is that of the answer, and the lent bytes are as the report leaves them. Assumes nothing.
 use borrow.Author.Needs.{needs}
 use Rattle.guard.proofs.Numbering.{number-refusal, number-place, number-none, number-fires, number-waits, number-stored}
 use Rattle.guard.proofs.report_number.Statement.{statement}

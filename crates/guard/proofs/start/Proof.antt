@@ -1,4 +1,4 @@
--- 22 where the room is short, then the state.
+-- The answer is 22 if the room is short; `store` leaves the lent bytes as `stored` says. Assumes nothing.
 use borrow.Author.Needs.{needs}
 use Rattle.guard.proofs.Storing.{start-told, stored-start}
 use Rattle.guard.proofs.start.Statement.{statement}

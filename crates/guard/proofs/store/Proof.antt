@@ -1,4 +1,4 @@
--- Only the state of an accepted report is put.
+-- Only the state of an accepted report is put, and only into 32 bytes or more. Assumes nothing.
 use borrow.Author.Needs.{needs}
 use Rattle.guard.proofs.Storing.{stored-refused, stored-few, stored-told}
 use Rattle.guard.proofs.store.Statement.{statement}

@@ -1,4 +1,4 @@
--- By the tick, if there is one.
+-- Each arm is a case of `markOf`. Assumes nothing.
 use borrow.Author.Needs.{needs}
 use Rattle.guard.proofs.Storing.{mark-never, mark-tick}
 use Rattle.guard.proofs.tick_mark.Statement.{statement}

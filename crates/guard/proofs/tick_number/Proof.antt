@@ -1,4 +1,4 @@
--- By the tick, if there is one.
+-- Each arm is a case of `orNone`. Assumes nothing.
 use borrow.Author.Needs.{needs}
 use Rattle.guard.proofs.Storing.{number-never, number-tick}
 use Rattle.guard.proofs.tick_number.Statement.{statement}

@@ -1,4 +1,4 @@
--- By the mark.
+-- Each way out is a case of `marked`. Assumes nothing.
 use Rattle.guard.proofs.Storing.{marked-none, marked-some}
 use Rattle.guard.proofs.tick_of.Statement.{statement}
 use Rattle.guard.proofs.tick_of.Tie as tie

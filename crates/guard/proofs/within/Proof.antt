@@ -1,4 +1,4 @@
--- 22 where the room is short.
+-- Each way out is a case of `bounded`. Assumes nothing.
 use Rattle.guard.proofs.Storing.{within-refused, within-fits, within-few}
 use Rattle.guard.proofs.within.Statement.{statement}
 use Rattle.guard.proofs.within.Tie as tie

@@ -1,4 +1,4 @@
--- By the row's kind. Assumes nothing.
+-- Sequences, enums and dictionaries have their functions, a proxy has its test; no other kind passes. Assumes nothing.
 use borrow.Author.Needs.{needs}
 use native.Mathlib.Omega.{arith}
 use Rattle.onepass.proofs.Passing.{proxy-passed}

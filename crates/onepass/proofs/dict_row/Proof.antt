@@ -1,4 +1,4 @@
--- The rules of a dictionary in turn, and its shape by its key and its value. Assumes nothing.
+-- The rules of a dictionary are tested in turn; its shape goes by its key and its value. Assumes nothing.
 use borrow.Author.Needs.{needs}
 use native.Mathlib.Omega.{arith}
 use Rattle.onepass.proofs.Passing.{key-passed, value-passed}

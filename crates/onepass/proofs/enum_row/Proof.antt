@@ -1,4 +1,4 @@
--- The rules of an enum in turn, and its shape. Assumes nothing.
+-- The rules of an enum are tested in turn; its shape is 4. Assumes nothing.
 use borrow.Author.Needs.{needs}
 use native.Mathlib.Omega.{arith}
 use Rattle.onepass.proofs.Passing.{enum-passed}

@@ -1,4 +1,4 @@
--- The header, then the pass. Assumes nothing.
+-- A table with lists or a wrong header gets a no; else the answer is that of the pass, and after a no the array is cleared. Assumes nothing.
 use mathlib.Core.Path.{sym}
 use mathlib.Core.Bool.{false≢true}
 use borrow.Author.Needs.{needs}

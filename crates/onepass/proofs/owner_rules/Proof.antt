@@ -1,4 +1,4 @@
--- By the row's kind. Assumes nothing.
+-- A record has the rules of `record_rules`, a list its own; no other kind passes. Assumes nothing.
 use mathlib.Core.Bool.{false≢true}
 use borrow.Author.Needs.{needs}
 use native.Mathlib.Omega.{arith}

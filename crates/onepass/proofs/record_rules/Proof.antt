@@ -1,4 +1,4 @@
--- Its rules in turn. Assumes nothing.
+-- The rules of a record are tested in turn. Assumes nothing.
 use mathlib.Core.Bool.{false≢true}
 use borrow.Author.Needs.{needs}
 use Rattle.rules.proofs.Judging.{record-fine}

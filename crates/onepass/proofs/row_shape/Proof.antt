@@ -1,4 +1,4 @@
--- By the row's kind. Assumes nothing.
+-- Each kind has its function; a row whose spare byte is not 0 gets 256. Assumes nothing.
 use borrow.Author.Tests.{not-false}
 use borrow.Author.Needs.{needs}
 use native.Mathlib.Omega.{arith}

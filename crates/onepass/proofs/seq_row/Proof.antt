@@ -1,4 +1,4 @@
--- The rules of a sequence in turn, and its shape by its element. Assumes nothing.
+-- The rules of a sequence are tested in turn; its shape goes by its element. Assumes nothing.
 use borrow.Author.Needs.{needs}
 use native.Mathlib.Omega.{arith}
 use Rattle.onepass.proofs.Passing.{part-there, single-passed, other-passed}

@@ -1,4 +1,4 @@
--- The rules of a struct in turn, then its members. Assumes nothing.
+-- The rules of a struct are tested in turn, then its members. Assumes nothing.
 use borrow.Author.Needs.{needs}
 use native.Mathlib.Omega.{arith}
 use Rattle.onepass.proofs.Passing.{struct-passed}

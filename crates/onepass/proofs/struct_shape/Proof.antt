@@ -1,4 +1,4 @@
--- By the width, or by whether the members are fixed-size. Assumes nothing.
+-- Each way out is a case of `structShape`: a width, or whether all members are fixed-size. Assumes nothing.
 use borrow.Author.Needs.{needs}
 use Rattle.onepass.proofs.Passing.{shape-wide, shape-other}
 use Rattle.onepass.proofs.struct_shape.Statement.{statement}

@@ -1,4 +1,4 @@
--- By whether every member has a width, and by their sum. Assumes nothing.
+-- Each way out is a case of `narrow`: a member without a width, a sum above 237, or the sum. Assumes nothing.
 use borrow.Author.Needs.{needs}
 use Rattle.onepass.proofs.Passing.{width-none, width-great, width-fits}
 use Rattle.onepass.proofs.struct_width.Statement.{statement}

@@ -1,4 +1,4 @@
--- A thousand times as many milliseconds.
+-- The product is that of `millis`, and it fits 64 bits. Assumes nothing.
 use borrow.Author.Needs.{needs}
 use mathlib.Core.Path.{refl}
 use Rattle.frost.specs.Frost.{millis}
