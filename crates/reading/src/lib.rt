@@ -72,7 +72,7 @@ fn prepared(table: &[u8], top: usize, len: usize, ready: bool, shapes: &mut [u8;
     }
 }
 
-// What is known of encoding 1.0 before the message is walked: what the caller says; else, for a message of 1.0, 1 if no member of the table is optional. For a message of 1.1 nothing is asked. `begin` is where the type rows begin.
+// What is known of encoding 1.0 before the message is walked: what the caller says; if that is 0 and the message is of 1.0, 1 if no member of the table is optional. A message of 1.1 costs one comparison. `begin` is where the type rows begin.
 // Wrong and ruled out: 1 where a member of the top is optional.
 fn known_old(table: &[u8], begin: usize, top: usize, old_use: usize, message: &[u8]) -> usize
     requires { ⌜ begin ≡ typesAt (now table) ⌝ }
@@ -80,11 +80,11 @@ fn known_old(table: &[u8], begin: usize, top: usize, old_use: usize, message: &[
     requires { ⌜ checks (now table) top 1 (length (now message)) ≡ Ready ⌝ }
     ensures { λ r. ⌜ OldUse (now (table .entry)) top r ⌝ }
 {
-    if old_use != 0 {
+    if wire::byte_at(message, 5) != 0 {
         return old_use;
     }
-    if wire::byte_at(message, 5) != 0 {
-        return 0;
+    if old_use != 0 {
+        return old_use;
     }
     let first = table::members_at(table, begin);
     if table::chain::has_optional(table, first, 0, table::members(table)) {

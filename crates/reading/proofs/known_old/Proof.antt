@@ -9,9 +9,9 @@ pub known-old-spec : {M : Type 1} → statement M
 known-old-spec =
     tie.close
     (tie.spec
-    (λ c. search needs)  -- returns
     (λ c κs. search needs)  -- byte-at-requires
-    (λ c. search old-unasked)  -- returns-2
+    (λ c. search needs)  -- returns
+    (λ c. search needs)  -- returns-2
     (λ c κs. search needs)  -- members-at-requires
     (λ c κs. search needs)  -- members-requires
     (λ c κs. search needs)  -- has-optional-requires
