@@ -1,7 +1,8 @@
 -- Laws of `Preparing`: what a refusal and what no refusal mean for the reader and for the writer. Assumes nothing.
 --
 --   ready-table, ready-early          where ready, the table breaks no rule and none of 2, 23, 26, 3 applies
---   ready-top, ready-short            where ready, the top is a row of the table and the length is at most 65,536
+--   ready-there                       where ready, the top is a row of the table of a kind that a top may have
+--   ready-top, ready-short            where ready, the top is below 65,536 and the length is at most 65,536
 --   reading-ready, reading-refused    the reader's rules where ready, and where refused
 use mathlib.Core.Path.{_≡_, refl, sym, ap, _∙_}
 use mathlib.Core.Bool.{Bool, true, false, _&&_}
@@ -44,9 +45,9 @@ module _ (T : List ℕ) (top format len : ℕ) (r : Prepared) (er : r ≡ checks
         go zero q h = refl
         go (suc n) q h = absurd (ready≢refused h refl)
 
-    has-top : noTop T top ≡ false
+    pub ready-there : noTop T top ≡ false
     unfolding before
-    has-top = firstOf-ok 1 (noTop T top) ((23, noFormat (kind T top) format) ∷ (26, eqb format 2 && noOld T top) ∷ (3, ltb limit len) ∷ []) ready-early .0
+    ready-there = firstOf-ok 1 (noTop T top) ((23, noFormat (kind T top) format) ∷ (26, eqb format 2 && noOld T top) ∷ (3, ltb limit len) ∷ []) ready-early .0
 
     pub ready-short : len ≤ 65536
     unfolding before
@@ -58,12 +59,12 @@ module _ (T : List ℕ) (top format len : ℕ) (r : Prepared) (er : r ≡ checks
         ltb-false limit len (d .0)
 
     pub ready-top : top < 65536
-    ready-top = omega (arith, top-there T top has-top .0, types-most T ready-table)
+    ready-top = omega (arith, top-there T top ready-there .0, types-most T ready-table)
 
 -- format 1 is not refused
 module _ (T : List ℕ) (top : ℕ) (m : List ℕ) (len : ℕ) (el : len ≡ length m) (r : Prepared) (er : r ≡ checks T top 1 len) where
   pub reading-ready : r ≡ Ready → rules T top m ≡ body T top m
-  reading-ready e = rules-body T top m (ready-table T top 1 len r er e) (has-top T top 1 len r er e) (omega (arith, ready-short T top 1 len r er e))
+  reading-ready e = rules-body T top m (ready-table T top 1 len r er e) (ready-there T top 1 len r er e) (omega (arith, ready-short T top 1 len r er e))
 
   pub reading-refused : (c p : ℕ) → r ≡ Refused c p → rules T top m ≡ bad c p
   unfolding checks checked before rules afterRules refusedFirst firstOf noFormat

@@ -6,6 +6,7 @@
 --   unasked                            10s are lent where the checks are made; lent-ready: the shapes, where they are not
 --   anew-old, old-unasked              what is known of encoding 1.0 of slices taken anew; nothing is
 --   ready-known, ready-shapes          what is known where they are left out; blank-lent where they are made
+--   found-ready                        the checks refuse nothing where their answer is ready
 --   stop-walked, body-walked           a check refuses, or the walk over the body says all
 --   told-walked, told-listed           the answer of a walk
 --   rows-put                           a list that holds the rows, after they are put
@@ -182,6 +183,9 @@ module _ (T : List ℕ) (top l : ℕ) (b : Bool) (s : List ℕ) (L : Lent T top 
 
   pub blank-lent : b ≡ false → s ≡ replicate 256 10
   blank-lent e = L .blank e
+
+pub found-ready : (T : List ℕ) (top l : ℕ) (p : Prepared) → p ≡ checks T top 1 l → p ≡ Ready → checks T top 1 l ≡ Ready
+found-ready T top l p ep e = sym ep ∙ e
 
 module _ (T : List ℕ) (top : ℕ) (m : List ℕ) (y : Bytes m) (p : Prepared) (ep : p ≡ checks T top 1 (length m)) where
   pub stop-walked : (c q : ℕ) → p ≡ Stopped c q → (out : List ℕ) → Walked T top m (Stop c q) out out

@@ -3,7 +3,7 @@
 ghost use mathlib.Core.Path.{_≡_};
 ghost use Prim.Native.Nat.{_/_, _≤_, min};
 ghost use lib.ListN.{length};
-ghost use Rattle.encoding.specs.Table.{members};
+ghost use Rattle.encoding.specs.Table.{members, typesAt};
 ghost use Rattle.encoding.specs.Message.{reading, listed, readingOf};
 ghost use Rattle.prepare.specs.Preparing.{checks};
 ghost use Rattle.prepare.specs.declared.Prepared.the-variants.{Ready};
@@ -72,6 +72,27 @@ fn prepared(table: &[u8], top: usize, len: usize, ready: bool, shapes: &mut [u8;
     }
 }
 
+// What is known of encoding 1.0 before the message is walked: what the caller says; if that is 0 and the message is of 1.0, 1 if no member of the table is optional. A message of 1.1 costs one comparison. `begin` is where the type rows begin.
+// Wrong and ruled out: 1 where a member of the top is optional.
+fn known_old(table: &[u8], begin: usize, top: usize, old_use: usize, message: &[u8]) -> usize
+    requires { ⌜ begin ≡ typesAt (now table) ⌝ }
+    requires { ⌜ OldUse (now table) top old_use ⌝ }
+    requires { ⌜ checks (now table) top 1 (length (now message)) ≡ Ready ⌝ }
+    ensures { λ r. ⌜ OldUse (now (table .entry)) top r ⌝ }
+{
+    if wire::byte_at(message, 5) != 0 {
+        return old_use;
+    }
+    if old_use != 0 {
+        return old_use;
+    }
+    let first = table::members_at(table, begin);
+    if table::chain::has_optional(table, first, 0, table::members(table)) {
+        return 0;
+    }
+    1
+}
+
 // Checks and walks.
 fn checked(
     table: &[u8],
@@ -93,7 +114,8 @@ fn checked(
         Prepared::Refused(c, q) => Walk::Stop(c, q),
         Prepared::Ready => {
             let begin = table::types_at(table);
-            reader::body(table, begin, shapes, top, old_use, message, out)
+            let known = known_old(table, begin, top, old_use, message);
+            reader::body(table, begin, shapes, top, known, message, out)
         }
     }
 }
