@@ -29,7 +29,8 @@ fn change(
     let table = Table::check(table, &mut shapes)?;
     let wanted = member as usize;
     let mut is_there = false;
-    let reading = walk(&table, top, message, |member, _, _| is_there |= member == wanted)?;
+    let reading =
+        walk(&table, top, message, || table.has_optionals(top as usize), |member, _, _| is_there |= member == wanted)?;
     // In encoding 1.0 no chain has an optional.
     let owner = table.chain(reading.first as usize).find(|&r| table.row(r).members().contains(&wanted));
     let Some(owner) = owner.filter(|_| !table.member(wanted).required()) else {
@@ -65,14 +66,15 @@ struct Head {
 
 impl Head {
     fn of(table: &Table, member: &MemberRow, length: usize) -> Head {
-        let optional = table.shape(member.of).optional;
+        let shape = table.shape(member.of);
+        let optional = shape.optional();
         let mut head = Head { held: [0; 11], length: 0 };
         head.push(&[(member.tag.min(30) as u8) << 3 | optional]);
         if member.tag >= 30 {
             head.push_size(member.tag);
         }
         match optional {
-            VSIZE if !table.has_own_size(member.of) => head.push_size(length as u32),
+            VSIZE if !shape.has_own_size() => head.push_size(length as u32),
             FSIZE => head.push(&(length as u32).to_le_bytes()),
             _ => (),
         }

@@ -1,12 +1,27 @@
 //! Values: a part of the message, read from front to back.
 
 use crate::table::*;
-use crate::Refusal;
+use crate::Fault;
 
-/// Whether bytes are well-formed UTF-8 as RFC 3629 has it. The standard library judges; most strings are ASCII, which it
-/// finds out faster.
+/// The highest bit of each byte: 0 in ASCII.
+const HIGH: u64 = 0x8080_8080_8080_8080;
+
+/// Whether bytes are well-formed UTF-8 as RFC 3629 has it. The standard library judges what is not ASCII.
+#[inline]
 pub(crate) fn is_text(bytes: &[u8]) -> bool {
-    bytes.is_ascii() || core::str::from_utf8(bytes).is_ok()
+    is_ascii(bytes) || core::str::from_utf8(bytes).is_ok()
+}
+
+/// Short strings are judged eight bytes at a time, the last eight again; the standard library is faster on long ones.
+fn is_ascii(bytes: &[u8]) -> bool {
+    match bytes.last_chunk::<8>() {
+        None => bytes.iter().fold(0, |all, byte| all | byte) < 128,
+        Some(_) if bytes.len() > 128 => bytes.is_ascii(),
+        Some(last) => {
+            let longs = bytes.as_chunks().0.iter().map(|&long| u64::from_le_bytes(long));
+            longs.fold(u64::from_le_bytes(*last), |all, long| all | long) & HIGH == 0
+        }
+    }
 }
 
 /// What is left of something that holds items: the message up to the holder's end, the place reached in it, and whether
@@ -18,22 +33,38 @@ pub(crate) struct Part<'m> {
     pub old: bool,
 }
 
+/// The int after the 255 at a place.
+#[inline(never)]
+fn long_size(bytes: &[u8], at: usize) -> Result<usize, Fault> {
+    match bytes[at + 1..].first_chunk() {
+        None => Err(Fault::new(4, at)),
+        Some(&int) => match i32::from_le_bytes(int) {
+            ..255 => Err(Fault::new(7, at)),
+            int => Ok(int as usize),
+        },
+    }
+}
+
 impl<'m> Part<'m> {
+    #[inline]
     pub fn left(&self) -> usize {
         self.bytes.len() - self.at
     }
 
     /// The same place, held by what ends at `end`.
+    #[inline]
     pub fn upto(&self, end: usize) -> Part<'m> {
         Part { bytes: &self.bytes[..end], ..*self }
     }
 
-    pub fn refuse<T>(&self, number: u32) -> Result<T, Refusal> {
-        Err((number, self.at as u32))
+    #[inline]
+    pub fn refuse<T, E: From<Fault>>(&self, number: u32) -> Result<T, E> {
+        Err(Fault::new(number, self.at).into())
     }
 
     /// An item of so many bytes.
-    pub fn item(&mut self, width: usize) -> Result<(), Refusal> {
+    #[inline]
+    pub fn item(&mut self, width: usize) -> Result<(), Fault> {
         if width > self.left() {
             return self.refuse(4);
         }
@@ -41,7 +72,8 @@ impl<'m> Part<'m> {
         Ok(())
     }
 
-    pub fn byte(&mut self) -> Result<u8, Refusal> {
+    #[inline]
+    pub fn byte(&mut self) -> Result<u8, Fault> {
         match self.bytes.get(self.at) {
             None => self.refuse(4),
             Some(&byte) => {
@@ -51,7 +83,8 @@ impl<'m> Part<'m> {
         }
     }
 
-    fn bool(&mut self) -> Result<(), Refusal> {
+    #[inline]
+    fn bool(&mut self) -> Result<(), Fault> {
         let start = *self;
         if self.byte()? > 1 {
             start.refuse(8)
@@ -60,7 +93,22 @@ impl<'m> Part<'m> {
         }
     }
 
-    fn int(&mut self) -> Result<i32, Refusal> {
+    /// So many bools; the first that is none, or past the end, is refused.
+    fn bools(&mut self, count: usize) -> Result<(), Fault> {
+        let bools = &self.bytes[self.at..][..count.min(self.left())];
+        if bools.iter().fold(0, |all, bool| all | bool) > 1 {
+            self.at += bools.iter().take_while(|&&bool| bool <= 1).count();
+            return self.refuse(8);
+        }
+        self.at += bools.len();
+        if bools.len() < count {
+            return self.refuse(4);
+        }
+        Ok(())
+    }
+
+    #[inline]
+    fn int(&mut self) -> Result<i32, Fault> {
         match self.bytes[self.at..].first_chunk() {
             None => self.refuse(4),
             Some(&int) => {
@@ -71,7 +119,8 @@ impl<'m> Part<'m> {
     }
 
     /// An enumerator: a size; in encoding 1.0 a byte, short or int by the greatest.
-    fn enumerator(&mut self, greatest: usize) -> Result<usize, Refusal> {
+    #[inline]
+    fn enumerator(&mut self, greatest: usize) -> Result<usize, Fault> {
         if !self.old {
             return self.size();
         }
@@ -89,38 +138,38 @@ impl<'m> Part<'m> {
 
     /// A size: below 255 one byte; else 255 and an int.
     #[inline]
-    pub fn size(&mut self) -> Result<usize, Refusal> {
+    pub fn size(&mut self) -> Result<usize, Fault> {
         match self.byte()? {
-            255 => self.long_size(),
+            255 => {
+                let size = long_size(self.bytes, self.at - 1)?;
+                self.at += 4;
+                Ok(size)
+            }
             byte => Ok(byte as usize),
-        }
-    }
-
-    #[cold]
-    fn long_size(&mut self) -> Result<usize, Refusal> {
-        let start = Part { at: self.at - 1, ..*self };
-        match self.int() {
-            Err(_) => start.refuse(4),
-            Ok(int) if int < 255 => start.refuse(7),
-            Ok(int) => Ok(int as usize),
         }
     }
 
     /// A size and that many bytes, which must be text.
     #[inline]
-    pub fn string(&mut self) -> Result<&'m [u8], Refusal> {
+    pub fn string(&mut self) -> Result<&'m [u8], Fault> {
         let start = *self;
         let content = self.sized()?;
+        start.text(content)
+    }
+
+    /// The content of a string that begins here, if it is text.
+    #[inline]
+    pub fn text(&self, content: &'m [u8]) -> Result<&'m [u8], Fault> {
         if is_text(content) {
             Ok(content)
         } else {
-            start.refuse(24)
+            self.refuse(24)
         }
     }
 
     /// A size and that many bytes, whatever they are.
     #[inline]
-    pub fn sized(&mut self) -> Result<&'m [u8], Refusal> {
+    pub fn sized(&mut self) -> Result<&'m [u8], Fault> {
         let start = *self;
         let length = self.size()?;
         if length > self.left() {
@@ -132,7 +181,8 @@ impl<'m> Part<'m> {
     }
 
     /// A declared length as an int, of which `own` bytes are the int itself: where what it measures ends.
-    pub fn declared(&mut self, least: i32, own: usize) -> Result<usize, Refusal> {
+    #[inline]
+    pub fn declared(&mut self, least: i32, own: usize) -> Result<usize, Fault> {
         let start = *self;
         let length = self.int()?;
         if length < least {
@@ -146,12 +196,12 @@ impl<'m> Part<'m> {
         }
     }
 
-    fn proxy(&mut self) -> Result<(), Refusal> {
+    fn proxy(&mut self) -> Result<(), Fault> {
         self.proxy_with(|_, _| ())
     }
 
     /// A proxy; `seen` is given the place and the end of each endpoint.
-    pub fn proxy_with(&mut self, mut seen: impl FnMut(usize, usize)) -> Result<(), Refusal> {
+    pub fn proxy_with(&mut self, mut seen: impl FnMut(usize, usize)) -> Result<(), Fault> {
         let identity = *self;
         let name = self.string()?;
         let category = self.string()?;
@@ -189,67 +239,80 @@ impl<'m> Part<'m> {
 }
 
 impl Table<'_> {
-    /// A value is read by reading its parts; the type number falls at every descent.
-    pub(crate) fn value(&self, r: usize, part: &mut Part) -> Result<(), Refusal> {
-        let shape = self.shape(r);
-        if shape.plain && shape.width() <= part.left() {
-            part.at += shape.width();
-            return Ok(());
-        }
+    /// A value is read by reading its parts; the type number falls at every descent. A plain value is passed by its length.
+    #[inline]
+    pub(crate) fn value(&self, r: usize, part: &mut Part) -> Result<(), Fault> {
+        let width = self.shape(r).width();
+        part.at = if width != 0 && width <= part.left() {
+            part.at + width
+        } else {
+            self.value_at(r, part.bytes, part.at, part.old)?
+        };
+        Ok(())
+    }
+
+    /// A value at a place of what holds it; gives the place after it. Places are passed in registers.
+    pub(crate) fn value_at(&self, r: usize, bytes: &[u8], at: usize, old: bool) -> Result<usize, Fault> {
+        let mut part = Part { bytes, at, old };
+        let part = &mut part;
         let row = self.row(r);
         match row.kind {
-            BOOL => part.bool(),
-            BYTE..=DOUBLE => part.refuse(4), // it would have been plain
-            STRING => part.string().map(drop),
-            ENUM => {
-                let start = *part;
-                if self.allows(&row, part.enumerator(row.greatest())?) {
-                    Ok(())
-                } else {
-                    start.refuse(9)
-                }
-            }
-            STRUCT => row.members().try_for_each(|m| self.value(self.member(m).of, part)),
+            BOOL => part.bool()?,
+            BYTE..=DOUBLE => part.item(self.shape(r).width())?,
+            STRING => drop(part.string()?),
+            ENUM => self.enumerators(&row, 1, part)?,
+            STRUCT => row.members().try_for_each(|m| self.value(self.member(m).of, part))?,
             SEQUENCE => {
                 let count = part.size()?;
-                self.elements(row.a, count, part)
+                self.elements(row.a, count, part)?;
             }
             DICTIONARY => {
                 let count = part.size()?;
-                self.pairs(row.a, row.b, count, part)
+                self.pairs(row.a, row.b, count, part)?;
             }
-            _ => part.proxy(),
+            _ => part.proxy()?,
         }
+        Ok(part.at)
+    }
+
+    /// So many enumerators of one type.
+    #[inline]
+    fn enumerators(&self, row: &TypeRow, count: usize, part: &mut Part) -> Result<(), Fault> {
+        let greatest = row.greatest();
+        for _ in 0..count {
+            let start = *part;
+            let number = part.enumerator(greatest)?;
+            if number > greatest || !self.lists(row, number) {
+                return start.refuse(9);
+            }
+        }
+        Ok(())
     }
 
     /// The elements of a sequence, those that need no judging together.
-    fn elements(&self, r: usize, count: usize, part: &mut Part) -> Result<(), Refusal> {
-        let shape = self.shape(r);
+    fn elements(&self, r: usize, count: usize, part: &mut Part) -> Result<(), Fault> {
+        let width = self.shape(r).width();
         let mut done = 0;
-        if shape.plain {
-            done = count.min(part.left() / shape.width());
-            part.at += done * shape.width();
-        } else if self.kind(r) == BOOL {
-            done = count.min(part.left());
-            let bools = &part.bytes[part.at..part.at + done];
-            if bools.iter().any(|&b| b > 1) {
-                part.at += bools.iter().take_while(|&&b| b <= 1).count();
-                return part.refuse(8);
-            }
-            part.at += done;
-        } else if self.kind(r) == STRING {
-            return (0..count).try_for_each(|_| part.string().map(drop));
+        if width != 0 {
+            done = count.min(part.left() / width);
+            part.at += done * width;
         }
-        (done..count).try_for_each(|_| self.value(r, part))
+        match self.kind(r) {
+            _ if done == count => Ok(()),
+            BOOL => part.bools(count),
+            STRING => (0..count).try_for_each(|_| part.string().map(drop)),
+            ENUM => self.enumerators(&self.row(r), count, part),
+            _ => (done..count).try_for_each(|_| self.value(r, part)),
+        }
     }
 
     /// The pairs of a dictionary, likewise.
-    fn pairs(&self, key: usize, value: usize, count: usize, part: &mut Part) -> Result<(), Refusal> {
+    fn pairs(&self, key: usize, value: usize, count: usize, part: &mut Part) -> Result<(), Fault> {
+        let (width, value_width) = (self.shape(key).width(), self.shape(value).width());
         let mut done = 0;
-        if self.shape(key).plain && self.shape(value).plain {
-            let width = self.shape(key).width() + self.shape(value).width();
-            done = count.min(part.left() / width);
-            part.at += done * width;
+        if width != 0 && value_width != 0 {
+            done = count.min(part.left() / (width + value_width));
+            part.at += done * (width + value_width);
         }
         for _ in done..count {
             self.value(key, part)?;

@@ -137,13 +137,14 @@ impl<'w> Writer<'w> {
 
     /// Header byte, a tag from 30 on, and the length field.
     fn optional_header(&self, member: &MemberRow, length: usize, out: &mut Output) {
-        let optional = self.table.shape(member.of).optional;
+        let shape = self.table.shape(member.of);
+        let optional = shape.optional();
         out.put(&[optional | (member.tag.min(30) as u8) << 3]);
         if member.tag >= 30 {
             out.size(member.tag as usize);
         }
         match optional {
-            VSIZE if !self.table.has_own_size(member.of) => out.size(length),
+            VSIZE if !shape.has_own_size() => out.size(length),
             FSIZE => out.put(&(length as u32).to_le_bytes()),
             _ => (),
         }
@@ -151,8 +152,9 @@ impl<'w> Writer<'w> {
 
     /// The length of an optional's length field.
     fn length_field(&self, of: usize, length: usize) -> usize {
-        match self.table.shape(of).optional {
-            VSIZE if !self.table.has_own_size(of) => size_length(length),
+        let shape = self.table.shape(of);
+        match shape.optional() {
+            VSIZE if !shape.has_own_size() => size_length(length),
             FSIZE => 4,
             _ => 0,
         }
