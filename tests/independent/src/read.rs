@@ -285,19 +285,22 @@ impl<F: FnMut(usize, usize, usize)> Walk<'_, F> {
         }
     }
 
-    #[inline]
+    #[inline(always)]
     /// Required members as declared, from a place on, held by what ends at `end`.
-    fn required(&mut self, owner: usize, at: usize, end: usize) -> Result<usize, Fault> {
-        let mut part = Part { bytes: &self.message[..end], at, old: self.old };
-        for (m, of) in self.table.required(owner) {
-            let start = part.at;
-            self.table.value(of, &mut part)?;
-            (self.give)(m, start, part.at - start);
+    fn required(&mut self, owner: usize, mut at: usize, end: usize) -> Result<usize, Fault> {
+        let (table, bytes) = (self.table, &self.message[..end]);
+        let (first, rows) = table.required(owner);
+        for (i, row) in rows.iter().enumerate() {
+            if let Some((of, shape)) = table.required_type(row) {
+                let start = at;
+                at = table.value_of(shape, of, bytes, at, self.old)?;
+                (self.give)(first + i, start, at - start);
+            }
         }
-        Ok(part.at)
+        Ok(at)
     }
 
-    #[inline]
+    #[inline(always)]
     /// Optionals by rising tag: in a slice, given by the place of its flags, at least one and byte 255; in a parameter list
     /// to the end.
     fn optionals(&mut self, owner: usize, at: usize, end: usize, slice: Option<usize>) -> Result<usize, Fault> {
@@ -305,23 +308,21 @@ impl<F: FnMut(usize, usize, usize)> Walk<'_, F> {
         let mut part = Part { bytes: &self.message[..end], at, old: false };
         let mut tags = table.tags(owner);
         let mut above = 0; // tags from here on are rising
-        while slice.is_some() || part.left() != 0 {
+        loop {
             let start = part;
-            let header = part.byte()?;
-            let mut tag = (header >> 3) as u32;
-            if tag >= 30 {
-                if tag == 31 {
-                    return match slice {
-                        Some(flags) if header == 255 => {
-                            if above == 0 {
-                                Err(Fault::new(14, flags))
-                            } else {
-                                Ok(part.at)
-                            }
-                        }
-                        _ => start.refuse(12),
-                    };
-                }
+            let header = match part.byte() {
+                Err(_) if slice.is_none() => return Ok(part.at),
+                header => header?,
+            };
+            let mut tag = u32::from(header >> 3);
+            if tag == 31 {
+                return match slice {
+                    Some(flags) if header == 255 && above == 0 => Err(Fault::new(14, flags)),
+                    Some(_) if header == 255 => Ok(part.at),
+                    _ => start.refuse(12),
+                };
+            }
+            if tag == 30 {
                 tag = part.size()? as u32;
                 if tag < 30 {
                     return start.refuse(12);
@@ -332,11 +333,21 @@ impl<F: FnMut(usize, usize, usize)> Walk<'_, F> {
             }
             above = tag + 1;
             let optional = header & 7;
+            let known = tags.find(tag);
+            if let Some((m, of)) = known {
+                // A plain value of fixed length needs no more than its bytes.
+                let width = table.shape(of).width_as(optional);
+                if width != 0 && width <= part.left() {
+                    (self.give)(m, part.at, width);
+                    part.at += width;
+                    continue;
+                }
+            }
             if optional > FSIZE {
                 return start.refuse(13);
             }
-            let Some((m, of)) = tags.find(tag) else {
-                part.declared_bytes(optional, false)?;
+            let Some((m, of)) = known else {
+                part.at = declared(part.bytes, part.at, optional)?.1;
                 self.reading.optionals_skipped += 1;
                 continue;
             };
@@ -345,45 +356,42 @@ impl<F: FnMut(usize, usize, usize)> Walk<'_, F> {
                 return start.refuse(12);
             }
             // The declared bytes first, then the value, which must use them up.
-            let length = part;
-            let value = part.declared_bytes(optional, shape.has_own_size())?;
-            let width = part.at - value;
-            if (shape.width() != width || width == 0)
-                && table.value_at(of, &part.bytes[..part.at], value, false)? != part.at
-            {
-                return length.refuse(11);
+            let (value, end) = declared(part.bytes, part.at, optional)?;
+            let value = if shape.has_own_size() { part.at } else { value };
+            if table.value_of(shape, of, &part.bytes[..end], value, false)? != end {
+                return part.refuse(11);
             }
-            (self.give)(m, value, width);
+            (self.give)(m, value, end - value);
+            part.at = end;
         }
-        Ok(part.at)
+    }
+}
+
+/// The declared bytes of an optional, after a size or an int that is their length: where they begin and end.
+#[inline(always)]
+fn declared(bytes: &[u8], at: usize, optional: u8) -> Result<(usize, usize), Fault> {
+    let mut part = Part { bytes, at, old: false };
+    match optional {
+        F1..=F8 => {
+            part.item(1 << optional)?;
+            Ok((at, part.at))
+        }
+        SIZE => {
+            part.size()?;
+            Ok((at, part.at))
+        }
+        VSIZE => {
+            let length = part.sized()?.len();
+            Ok((part.at - length, part.at))
+        }
+        _ => {
+            let end = part.declared(1, 0)?;
+            Ok((at + 4, end))
+        }
     }
 }
 
 impl Part<'_> {
-    /// The declared bytes of an optional: where its value begins, which is before its own size, if that is its length field.
-    #[inline]
-    fn declared_bytes(&mut self, optional: u8, own_size: bool) -> Result<usize, Fault> {
-        let start = self.at;
-        match optional {
-            F1..=F8 => {
-                self.item(1 << optional)?;
-                Ok(start)
-            }
-            SIZE => {
-                self.size()?;
-                Ok(start)
-            }
-            VSIZE => {
-                let declared = self.sized()?.len();
-                Ok(if own_size { start } else { self.at - declared })
-            }
-            _ => {
-                self.at = self.declared(1, 0)?;
-                Ok(start + 4)
-            }
-        }
-    }
-
     /// A type ID: whether it is the name of this record. A name of the table is text.
     fn is_name(&mut self, table: &Table, record: usize) -> Result<bool, Fault> {
         let start = *self;

@@ -137,11 +137,10 @@ pub(crate) enum Optionals {
     Mixed,
 }
 
-/// A look-up of tags, each greater than the one before.
+/// A look-up of tags in the member rows of an owner, each tag greater than the one before.
 pub(crate) struct Tags<'t> {
-    /// Those of the owner are from `first` on.
-    members: &'t [[u8; 8]],
     first: usize,
+    rows: &'t [[u8; 8]],
     /// Where the next one is looked for.
     next: usize,
     rising: bool,
@@ -150,31 +149,34 @@ pub(crate) struct Tags<'t> {
 impl Tags<'_> {
     /// The member row of a tag, and its type. Rising tags are passed once; others are all looked at, from where the last
     /// one was found.
-    #[inline]
+    #[inline(always)]
     pub fn find(&mut self, tag: u32) -> Option<(usize, usize)> {
         // Mark, zero byte and tag as one number.
         let wanted = 1 | u64::from(tag) << 16;
         if !self.rising {
-            self.next = find_mixed(self.members, self.first, self.next, wanted)?;
+            self.next = find_mixed(self.rows, self.next, wanted)?;
         }
-        while let Some(row) = self.members.get(self.next) {
+        while let Some(row) = self.rows.get(self.next) {
             let row = u64::from_le_bytes(*row);
+            if row >> 16 == wanted {
+                self.next += 1;
+                return Some((self.first + self.next - 1, row as u16 as usize));
+            }
             if row >> 16 > wanted {
-                return None;
+                break;
             }
             self.next += 1;
-            if row >> 16 == wanted {
-                return Some((self.next - 1, row as u16 as usize));
-            }
         }
         None
     }
 }
 
-/// The member row that is wanted, looked for from `next` on, then from `first` on.
+/// The row that is wanted, looked for from `next` on, then from the first.
 #[inline(never)]
-fn find_mixed(members: &[[u8; 8]], first: usize, next: usize, wanted: u64) -> Option<usize> {
-    (next..members.len()).chain(first..next).find(|&m| u64::from_le_bytes(members[m]) >> 16 == wanted)
+fn find_mixed(rows: &[[u8; 8]], next: usize, wanted: u64) -> Option<usize> {
+    let (before, after) = rows.split_at(next);
+    let is_wanted = |row: &[u8; 8]| u64::from_le_bytes(*row) >> 16 == wanted;
+    after.iter().position(is_wanted).map(|i| next + i).or_else(|| before.iter().position(is_wanted))
 }
 
 /// What the encoding asks of a type row, known from the rows before it.
@@ -233,8 +235,19 @@ impl Shape {
     }
 
     /// The length of a plain type; 0 for any other.
+    #[inline]
     pub fn width(&self) -> usize {
         self.width.into()
+    }
+
+    /// The length of a plain type that has this optional type, one of fixed length; 0 for any other.
+    #[inline]
+    pub fn width_as(&self, optional: u8) -> usize {
+        if self.form == optional && optional <= F8 {
+            self.width()
+        } else {
+            0
+        }
     }
 }
 
@@ -252,15 +265,16 @@ fn basic(row: &[u8; 12]) -> Option<&'static Shape> {
     Shape::BASIC.get(u64::from_le_bytes(*kind) as usize).filter(|_| *rest == [0; 4])
 }
 
-/// The shape of a record or a parameter list; none if a member row breaks a rule.
+/// Fills the shape of a record or a parameter list; false if a member row breaks a rule.
 #[inline]
-fn owner(kind: u8, rows: &[[u8; 8]], known: &[Shape]) -> Option<Shape> {
+fn fill_owner(kind: u8, rows: &[[u8; 8]], known: &[Shape], shape: &mut Shape) -> bool {
     let mut above = 0; // tags from here on are free
     let (mut count, mut last, mut falls) = (0, 0, false);
     for (i, row) in rows.iter().enumerate() {
         let member = u64::from_le_bytes(*row);
-        if known.get(member as u16 as usize)?.kind > PROXY {
-            return None;
+        let of = member as u16 as usize;
+        if of >= known.len() || known[of].kind > PROXY {
+            return false;
         }
         // Mark, zero byte and tag are 0 of a required member.
         let marked = member >> 16;
@@ -271,39 +285,42 @@ fn owner(kind: u8, rows: &[[u8; 8]], known: &[Shape]) -> Option<Shape> {
         }
         let tag = (marked >> 16) as u32;
         if marked as u16 != 1 || tag > GREATEST {
-            return None;
+            return false;
         }
         if tag >= above {
             above = tag + 1;
         } else if rows[..i].iter().any(|row| u64::from_le_bytes(*row) >> 16 == marked) {
-            return None;
+            return false;
         } else {
             falls = true;
         }
     }
-    let optionals = if count == rows.len() {
-        Optionals::None
-    } else if count == last && !falls {
-        Optionals::Rising
-    } else {
-        Optionals::Mixed
+    let optionals = match count == rows.len() {
+        true => Optionals::None,
+        false if count == last && !falls => Optionals::Rising,
+        false => Optionals::Mixed,
     };
-    Some(Shape { required: last as u16, optionals, ..Shape::of(kind, FSIZE) })
+    *shape = Shape { required: last as u16, optionals, ..Shape::of(kind, FSIZE) };
+    true
 }
 
-/// The shape of a struct, by those of its members; none if a member row breaks a rule.
+/// Fills the shape of a struct by those of its members; false if a member row breaks a rule.
 #[inline]
-fn structure(rows: &[[u8; 8]], known: &[Shape]) -> Option<Shape> {
+fn fill_struct(rows: &[[u8; 8]], known: &[Shape], shape: &mut Shape) -> bool {
     let (mut width, mut fixed, mut plain) = (0, true, true);
     for row in rows {
         // Mark, zero byte and tag are 0 of a required member.
-        let part = known.get(u64::from_le_bytes(*row) as usize).filter(|part| part.kind <= PROXY)?;
-        width += part.width();
-        fixed &= part.fixed;
-        plain &= part.width != 0;
+        let of = u64::from_le_bytes(*row) as usize;
+        if of >= known.len() || known[of].kind > PROXY {
+            return false;
+        }
+        width += known[of].width();
+        fixed &= known[of].fixed;
+        plain &= known[of].width != 0;
     }
     let width = if plain { u16::try_from(width).unwrap_or(0) } else { 0 };
-    Some(Shape { width, fixed, ..Shape::holding(STRUCT, fixed) })
+    *shape = Shape { width, fixed, ..Shape::holding(STRUCT, fixed) };
+    true
 }
 
 /// An entry of a list of enumerators.
@@ -340,7 +357,7 @@ impl<'t> Table<'t> {
     }
 
     /// The table, or the class and the place of the first rule broken.
-    #[inline]
+    #[inline(always)]
     pub fn check(bytes: &'t [u8], shapes: &'t mut [Shape]) -> Result<Table<'t>, Refusal> {
         let Some((header, rest)) = bytes.split_first_chunk::<12>() else {
             return Err((31, 0));
@@ -380,27 +397,25 @@ impl<'t> Table<'t> {
     }
 
     /// Judges the rows and fills their shapes in one pass; false if a rule is broken.
-    #[inline]
+    #[inline(never)]
     fn fill(&self, shapes: &mut [Shape]) -> bool {
+        let shapes = &mut shapes[..self.types.len()];
         let mut before = Before { members: 0, record: self.types.len() };
         for (r, row) in self.types.iter().enumerate() {
-            let (known, [shape, ..]) = shapes.split_at_mut(r) else {
-                return false;
-            };
             match basic(row) {
-                Some(basic) => *shape = *basic,
-                None if self.shape_row(&TypeRow::of(row), known, shape, &mut before) => (),
+                Some(shape) => shapes[r] = *shape,
+                None if self.fill_row(&TypeRow::of(row), r, shapes, &mut before) => (),
                 None => return false,
             }
         }
         before.members == self.members.len() && self.entries.is_none_or(|entries| self.list_rule(entries).is_ok())
     }
 
-    /// Fills the shape of the row after those of known shape; false if it or a member row of it breaks a rule.
+    /// Fills the shape of row `r`, after those before it; false if it or a member row of it breaks a rule.
     #[inline]
-    fn shape_row(&self, row: &TypeRow, known: &[Shape], shape: &mut Shape, before: &mut Before) -> bool {
+    fn fill_row(&self, row: &TypeRow, r: usize, shapes: &mut [Shape], before: &mut Before) -> bool {
         let TypeRow { kind, a, b, c, d, e, .. } = *row;
-        let is_part = |r: usize| r < known.len() && known[r].kind <= PROXY;
+        let is_part = |part: usize| part < r && shapes[part].kind <= PROXY;
         let is_right = match kind {
             ENUM => row.greatest() <= GREATEST as usize && e == 0 && (self.entries.is_some() || c | d == 0),
             STRUCT => b != 0 && c | d | e == 0,
@@ -408,10 +423,9 @@ impl<'t> Table<'t> {
             DICTIONARY => is_part(a) && is_part(b) && c | d | e == 0,
             PROXY => a | b | c | d | e == 0,
             EXCEPTION | CLASS => {
-                let first = before.record.min(known.len());
-                before.record = first;
-                row.base().is_none_or(|base| base < known.len() && known[base].kind == kind)
-                    && self.names_well(row, &self.types[first..known.len()])
+                before.record = before.record.min(r);
+                row.base().is_none_or(|base| base < r && shapes[base].kind == kind)
+                    && self.names_well(row, &self.types[before.record..r])
             }
             LIST => c | d | e == 0,
             _ => false,
@@ -419,22 +433,23 @@ impl<'t> Table<'t> {
         if !is_right || row.zero != 0 {
             return false;
         }
-        *shape = match kind {
+        shapes[r] = match kind {
             ENUM => Shape::of(ENUM, SIZE),
-            SEQUENCE if known[a].kind <= BYTE => Shape::of(SEQUENCE, VSIZE | OWN),
-            SEQUENCE => Shape::holding(SEQUENCE, known[a].fixed),
-            DICTIONARY => Shape::holding(DICTIONARY, known[a].fixed && known[b].fixed),
+            SEQUENCE if shapes[a].kind <= BYTE => Shape::of(SEQUENCE, VSIZE | OWN),
+            SEQUENCE => Shape::holding(SEQUENCE, shapes[a].fixed),
+            DICTIONARY => Shape::holding(DICTIONARY, shapes[a].fixed && shapes[b].fixed),
             PROXY => Shape::of(PROXY, FSIZE),
             _ => {
                 let Some(rows) = self.members.get(a..a + b).filter(|_| a == before.members) else {
                     return false;
                 };
                 before.members += b;
-                let owner = if kind == STRUCT { structure(rows, known) } else { owner(kind, rows, known) };
-                match owner {
-                    Some(shape) => shape,
-                    None => return false,
-                }
+                let (known, rest) = shapes.split_at_mut(r);
+                return if kind == STRUCT {
+                    fill_struct(rows, known, &mut rest[0])
+                } else {
+                    fill_owner(kind, rows, known, &mut rest[0])
+                };
             }
         };
         true
@@ -578,14 +593,18 @@ impl<'t> Table<'t> {
         self.shapes[r]
     }
 
-    /// The required members of a record or a parameter list, each by its member row and its type.
+    /// The member rows of a record or a parameter list up to the last required one, and the number of the first.
     #[inline]
-    pub fn required(&self, owner: usize) -> impl Iterator<Item = (usize, usize)> + use<'t> {
+    pub fn required(&self, owner: usize) -> (usize, &'t [[u8; 8]]) {
         let first = self.row(owner).a;
-        let rows = &self.members[first..first + self.shapes[owner].required as usize];
-        // Mark, zero byte and tag are 0 of a required member.
-        let member = |(m, row): (usize, &[u8; 8])| (m, u64::from_le_bytes(*row) as usize);
-        (first..).zip(rows).map(member).filter(|&(_, of)| of < 65_536)
+        (first, &self.members[first..first + self.shapes[owner].required as usize])
+    }
+
+    /// The type of a required member and its shape; none of an optional one. All but the type is 0 in a required row.
+    #[inline]
+    pub fn required_type(&self, row: &[u8; 8]) -> Option<(usize, Shape)> {
+        let of = u64::from_le_bytes(*row) as usize;
+        self.shapes.get(of).map(|shape| (of, *shape))
     }
 
     /// Whether an enum allows a number up to its greatest: in version 2 one of its list.
@@ -625,12 +644,8 @@ impl<'t> Table<'t> {
     /// The optionals of an owner, to look up rising tags.
     pub fn tags(&self, owner: usize) -> Tags<'t> {
         let (row, shape) = (self.row(owner), self.shapes[owner]);
-        Tags {
-            members: &self.members[..row.a + row.b],
-            first: row.a,
-            next: row.a + shape.required as usize,
-            rising: shape.optionals == Optionals::Rising,
-        }
+        let rising = shape.optionals == Optionals::Rising;
+        Tags { first: row.a, rows: &self.members[row.members()], next: shape.required as usize, rising }
     }
 
     /// The records with their row numbers.

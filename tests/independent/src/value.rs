@@ -12,16 +12,22 @@ pub(crate) fn is_text(bytes: &[u8]) -> bool {
     is_ascii(bytes) || core::str::from_utf8(bytes).is_ok()
 }
 
-/// Short strings are judged eight bytes at a time, the last eight again; the standard library is faster on long ones.
+/// Short strings are judged by a few numbers, which overlap; the standard library is faster on long ones.
+#[inline]
 fn is_ascii(bytes: &[u8]) -> bool {
-    match bytes.last_chunk::<8>() {
-        None => bytes.iter().fold(0, |all, byte| all | byte) < 128,
-        Some(_) if bytes.len() > 128 => bytes.is_ascii(),
-        Some(last) => {
-            let longs = bytes.as_chunks().0.iter().map(|&long| u64::from_le_bytes(long));
-            longs.fold(u64::from_le_bytes(*last), |all, long| all | long) & HIGH == 0
-        }
+    if bytes.len() > 128 {
+        return bytes.is_ascii();
     }
+    let long = |long: &[u8; 8]| u64::from_le_bytes(*long);
+    let int = |int: &[u8; 4]| u64::from(u32::from_le_bytes(*int));
+    let all = if let Some(last) = bytes.last_chunk() {
+        bytes.as_chunks().0.iter().fold(long(last), |all, next| all | long(next))
+    } else if let (Some(first), Some(last)) = (bytes.first_chunk(), bytes.last_chunk()) {
+        int(first) | int(last)
+    } else {
+        bytes.iter().fold(0, |all, &byte| all | u64::from(byte))
+    };
+    all & HIGH == 0
 }
 
 /// What is left of something that holds items: the message up to the holder's end, the place reached in it, and whether
@@ -45,8 +51,16 @@ fn long_size(bytes: &[u8], at: usize) -> Result<usize, Fault> {
     }
 }
 
+/// The place after the string at a place.
+#[inline(never)]
+fn string_at(bytes: &[u8], at: usize) -> Result<usize, Fault> {
+    let mut part = Part { bytes, at, old: false };
+    part.string()?;
+    Ok(part.at)
+}
+
 impl<'m> Part<'m> {
-    #[inline]
+    #[inline(always)]
     pub fn left(&self) -> usize {
         self.bytes.len() - self.at
     }
@@ -63,7 +77,7 @@ impl<'m> Part<'m> {
     }
 
     /// An item of so many bytes.
-    #[inline]
+    #[inline(always)]
     pub fn item(&mut self, width: usize) -> Result<(), Fault> {
         if width > self.left() {
             return self.refuse(4);
@@ -72,7 +86,7 @@ impl<'m> Part<'m> {
         Ok(())
     }
 
-    #[inline]
+    #[inline(always)]
     pub fn byte(&mut self) -> Result<u8, Fault> {
         match self.bytes.get(self.at) {
             None => self.refuse(4),
@@ -83,7 +97,7 @@ impl<'m> Part<'m> {
         }
     }
 
-    #[inline]
+    #[inline(always)]
     fn bool(&mut self) -> Result<(), Fault> {
         let start = *self;
         if self.byte()? > 1 {
@@ -137,7 +151,7 @@ impl<'m> Part<'m> {
     }
 
     /// A size: below 255 one byte; else 255 and an int.
-    #[inline]
+    #[inline(always)]
     pub fn size(&mut self) -> Result<usize, Fault> {
         match self.byte()? {
             255 => {
@@ -150,7 +164,7 @@ impl<'m> Part<'m> {
     }
 
     /// A size and that many bytes, which must be text.
-    #[inline]
+    #[inline(always)]
     pub fn string(&mut self) -> Result<&'m [u8], Fault> {
         let start = *self;
         let content = self.sized()?;
@@ -168,7 +182,7 @@ impl<'m> Part<'m> {
     }
 
     /// A size and that many bytes, whatever they are.
-    #[inline]
+    #[inline(always)]
     pub fn sized(&mut self) -> Result<&'m [u8], Fault> {
         let start = *self;
         let length = self.size()?;
@@ -242,33 +256,58 @@ impl Table<'_> {
     /// A value is read by reading its parts; the type number falls at every descent. A plain value is passed by its length.
     #[inline]
     pub(crate) fn value(&self, r: usize, part: &mut Part) -> Result<(), Fault> {
-        let width = self.shape(r).width();
-        part.at = if width != 0 && width <= part.left() {
-            part.at + width
-        } else {
-            self.value_at(r, part.bytes, part.at, part.old)?
-        };
+        part.at = self.value_of(self.shape(r), r, part.bytes, part.at, part.old)?;
         Ok(())
     }
 
-    /// A value at a place of what holds it; gives the place after it. Places are passed in registers.
+    /// The same of a type whose shape is known, at a place of what holds it; gives the place after it.
+    #[inline(always)]
+    pub(crate) fn value_of(&self, shape: Shape, r: usize, bytes: &[u8], at: usize, old: bool) -> Result<usize, Fault> {
+        let width = shape.width();
+        if width != 0 && width <= bytes.len() - at {
+            Ok(at + width)
+        } else {
+            self.value_at(r, bytes, at, old)
+        }
+    }
+
+    /// The same of a type that is not plain, or runs past what holds it. Places are passed in registers.
     pub(crate) fn value_at(&self, r: usize, bytes: &[u8], at: usize, old: bool) -> Result<usize, Fault> {
+        match self.kind(r) {
+            STRING => string_at(bytes, at),
+            BOOL => {
+                let mut part = Part { bytes, at, old };
+                part.bool()?;
+                Ok(part.at)
+            }
+            BYTE..=DOUBLE => Err(Fault::new(4, at)), // it would have been plain
+            ENUM => {
+                let mut part = Part { bytes, at, old };
+                self.enumerators(&self.row(r), 1, &mut part)?;
+                Ok(part.at)
+            }
+            _ => self.parts_at(r, bytes, at, old),
+        }
+    }
+
+    /// The same of a type with parts.
+    #[inline(never)]
+    fn parts_at(&self, r: usize, bytes: &[u8], at: usize, old: bool) -> Result<usize, Fault> {
         let mut part = Part { bytes, at, old };
-        let part = &mut part;
         let row = self.row(r);
         match row.kind {
-            BOOL => part.bool()?,
-            BYTE..=DOUBLE => part.item(self.shape(r).width())?,
-            STRING => drop(part.string()?),
-            ENUM => self.enumerators(&row, 1, part)?,
-            STRUCT => row.members().try_for_each(|m| self.value(self.member(m).of, part))?,
+            STRUCT => {
+                for m in row.members() {
+                    self.value(self.member(m).of, &mut part)?;
+                }
+            }
             SEQUENCE => {
                 let count = part.size()?;
-                self.elements(row.a, count, part)?;
+                self.elements(row.a, count, &mut part)?;
             }
             DICTIONARY => {
                 let count = part.size()?;
-                self.pairs(row.a, row.b, count, part)?;
+                self.pairs(row.a, row.b, count, &mut part)?;
             }
             _ => part.proxy()?,
         }
@@ -276,7 +315,7 @@ impl Table<'_> {
     }
 
     /// So many enumerators of one type.
-    #[inline]
+    #[inline(always)]
     fn enumerators(&self, row: &TypeRow, count: usize, part: &mut Part) -> Result<(), Fault> {
         let greatest = row.greatest();
         for _ in 0..count {
@@ -290,6 +329,7 @@ impl Table<'_> {
     }
 
     /// The elements of a sequence, those that need no judging together.
+    #[inline(always)]
     fn elements(&self, r: usize, count: usize, part: &mut Part) -> Result<(), Fault> {
         let width = self.shape(r).width();
         let mut done = 0;
@@ -300,13 +340,19 @@ impl Table<'_> {
         match self.kind(r) {
             _ if done == count => Ok(()),
             BOOL => part.bools(count),
-            STRING => (0..count).try_for_each(|_| part.string().map(drop)),
+            STRING => {
+                for _ in 0..count {
+                    part.at = string_at(part.bytes, part.at)?;
+                }
+                Ok(())
+            }
             ENUM => self.enumerators(&self.row(r), count, part),
             _ => (done..count).try_for_each(|_| self.value(r, part)),
         }
     }
 
     /// The pairs of a dictionary, likewise.
+    #[inline(always)]
     fn pairs(&self, key: usize, value: usize, count: usize, part: &mut Part) -> Result<(), Fault> {
         let (width, value_width) = (self.shape(key).width(), self.shape(value).width());
         let mut done = 0;
