@@ -43,6 +43,7 @@ fn fill_many(table: &Table, top: u32, message: &[u8], lent: &mut [Row], most: us
     }
 }
 
+#[inline(always)]
 /// Fills the lent list; `old` holds what its rows were, and is put back on a refusal.
 fn fill(table: &Table, top: u32, message: &[u8], lent: &mut [Row], old: &mut [Row]) -> Result<Reading, Refusal> {
     let mut rows = Rows { lent, old, count: 0 };
