@@ -43,12 +43,11 @@ fn fill_many(table: &Table, top: u32, message: &[u8], lent: &mut [Row], most: us
     }
 }
 
-#[inline(always)]
 /// Fills the lent list; `old` holds what its rows were, and is put back on a refusal.
+#[inline(always)]
 fn fill(table: &Table, top: u32, message: &[u8], lent: &mut [Row], old: &mut [Row]) -> Result<Reading, Refusal> {
     let mut rows = Rows { lent, old, count: 0 };
-    let reading =
-        walk(table, top, message, || table.has_optionals(top as usize), |m, place, length| rows.put(m, place, length));
+    let reading = walk(table, top, message, |m, place, length| rows.put(m, place, length));
     rows.end(reading)
 }
 
@@ -96,27 +95,32 @@ pub fn member<'a>(table: &[u8], top: u32, message: &'a [u8], member: u32, fallba
     let view = Table::with(table, |table| {
         let mut found = None;
         let wanted = member as usize;
-        let reading = walk(
-            table,
-            top,
-            message,
-            || table.has_optionals(top as usize),
-            |member, place, length| {
-                if member == wanted {
-                    found = Some(&message[place..place + length]);
-                }
-            },
-        )?;
+        let reading = walk(table, top, message, |member, place, length| {
+            if member == wanted {
+                found = Some(&message[place..place + length]);
+            }
+        })?;
         let is_of_chain = || table.chain(reading.first as usize).any(|r| table.row(r).members().contains(&wanted));
         Ok(found.or_else(|| is_of_chain().then_some(fallback)))
     });
     view.ok().flatten().unwrap_or(&fallback[..0])
 }
 
-/// Walks over a message and gives every row (member row, place, length) in message order. Whether encoding 1.0 is refused
-/// by 26 is asked only of a message of 1.0.
-#[inline]
+/// Walks over a message and gives every row (member row, place, length) in message order.
+#[inline(always)]
 pub(crate) fn walk(
+    table: &Table,
+    top: u32,
+    message: &[u8],
+    give: impl FnMut(usize, usize, usize),
+) -> Result<Reading, Fault> {
+    walk_one(table, top, message, || table.has_optionals(top as usize), give)
+}
+
+/// The same for one of many messages: whether encoding 1.0 is refused by 26 is known to the caller, who is asked for a
+/// message of 1.0 only.
+#[inline(always)]
+pub(crate) fn walk_one(
     table: &Table,
     top: u32,
     message: &[u8],
@@ -286,8 +290,8 @@ impl<F: FnMut(usize, usize, usize)> Walk<'_, F> {
         }
     }
 
-    #[inline(always)]
     /// Required members as declared, from a place on, held by what ends at `end`.
+    #[inline(always)]
     fn required(&mut self, owner: usize, mut at: usize, end: usize) -> Result<usize, Fault> {
         let (table, bytes) = (self.table, &self.message[..end]);
         let (first, rows) = table.required(owner);
@@ -301,9 +305,9 @@ impl<F: FnMut(usize, usize, usize)> Walk<'_, F> {
         Ok(at)
     }
 
-    #[inline(always)]
     /// Optionals by rising tag: in a slice, given by the place of its flags, at least one and byte 255; in a parameter list
     /// to the end.
+    #[inline(always)]
     fn optionals(&mut self, owner: usize, at: usize, end: usize, slice: Option<usize>) -> Result<usize, Fault> {
         let table = self.table;
         let mut part = Part { bytes: &self.message[..end], at, old: false };

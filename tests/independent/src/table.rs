@@ -265,62 +265,41 @@ fn basic(row: &[u8; 12]) -> Option<&'static Shape> {
     Shape::BASIC.get(u64::from_le_bytes(*kind) as usize).filter(|_| *rest == [0; 4])
 }
 
-/// Fills the shape of a record or a parameter list; false if a member row breaks a rule.
+/// The shape of a record or a parameter list whose members are in the usual order: required ones, then optionals by rising
+/// tag. None if they are not, or if a member row breaks a rule.
 #[inline]
-fn fill_owner(kind: u8, rows: &[[u8; 8]], known: &[Shape], shape: &mut Shape) -> bool {
-    let mut above = 0; // tags from here on are free
-    let (mut count, mut last, mut falls) = (0, 0, false);
-    for (i, row) in rows.iter().enumerate() {
-        let member = u64::from_le_bytes(*row);
-        let of = member as u16 as usize;
-        if of >= known.len() || known[of].kind > PROXY {
-            return false;
-        }
-        // Mark, zero byte and tag are 0 of a required member.
-        let marked = member >> 16;
-        if marked == 0 {
-            count += 1;
-            last = i + 1;
-            continue;
-        }
-        let tag = (marked >> 16) as u32;
-        if marked as u16 != 1 || tag > GREATEST {
-            return false;
-        }
-        if tag >= above {
-            above = tag + 1;
-        } else if rows[..i].iter().any(|row| u64::from_le_bytes(*row) >> 16 == marked) {
-            return false;
-        } else {
-            falls = true;
-        }
-    }
-    let optionals = match count == rows.len() {
-        true => Optionals::None,
-        false if count == last && !falls => Optionals::Rising,
-        false => Optionals::Mixed,
+fn usual_owner(kind: u8, rows: &[[u8; 8]], known: &[Shape]) -> Option<Shape> {
+    let is_part = |of: u64| known.get(of as usize).is_some_and(|part| part.kind <= PROXY);
+    let mut above = 0; // tags from here on are rising
+    let is_rising = |row: &&[u8; 8]| {
+        let row = u64::from_le_bytes(**row);
+        let tag = (row >> 32) as u32;
+        // Mark 1 and the zero byte.
+        let is_rising = (row >> 16) as u16 == 1 && above <= tag && tag <= GREATEST && is_part(row & 0xFFFF);
+        above = tag.wrapping_add(1);
+        is_rising
     };
-    *shape = Shape { required: last as u16, optionals, ..Shape::of(kind, FSIZE) };
-    true
+    // All but its type is 0 in the row of a required member.
+    let required = rows.iter().take_while(|row| is_part(u64::from_le_bytes(**row))).count();
+    let rising = rows[required..].iter().take_while(is_rising).count();
+    let optionals = if rising == 0 { Optionals::None } else { Optionals::Rising };
+    let shape = Shape { required: required as u16, optionals, ..Shape::of(kind, FSIZE) };
+    (required + rising == rows.len()).then_some(shape)
 }
 
-/// Fills the shape of a struct by those of its members; false if a member row breaks a rule.
+/// The shape of a struct by those of its members; none if a member row breaks a rule.
 #[inline]
-fn fill_struct(rows: &[[u8; 8]], known: &[Shape], shape: &mut Shape) -> bool {
+fn structure(rows: &[[u8; 8]], known: &[Shape]) -> Option<Shape> {
     let (mut width, mut fixed, mut plain) = (0, true, true);
     for row in rows {
-        // Mark, zero byte and tag are 0 of a required member.
-        let of = u64::from_le_bytes(*row) as usize;
-        if of >= known.len() || known[of].kind > PROXY {
-            return false;
-        }
-        width += known[of].width();
-        fixed &= known[of].fixed;
-        plain &= known[of].width != 0;
+        // All but its type is 0 in the row of a required member.
+        let part = known.get(u64::from_le_bytes(*row) as usize).filter(|part| part.kind <= PROXY)?;
+        width += part.width();
+        fixed &= part.fixed;
+        plain &= part.width != 0;
     }
     let width = if plain { u16::try_from(width).unwrap_or(0) } else { 0 };
-    *shape = Shape { width, fixed, ..Shape::holding(STRUCT, fixed) };
-    true
+    Some(Shape { width, fixed, ..Shape::holding(STRUCT, fixed) })
 }
 
 /// An entry of a list of enumerators.
@@ -444,15 +423,28 @@ impl<'t> Table<'t> {
                     return false;
                 };
                 before.members += b;
-                let (known, rest) = shapes.split_at_mut(r);
-                return if kind == STRUCT {
-                    fill_struct(rows, known, &mut rest[0])
-                } else {
-                    fill_owner(kind, rows, known, &mut rest[0])
+                let shape = match kind {
+                    STRUCT => structure(rows, &shapes[..r]),
+                    _ => usual_owner(kind, rows, &shapes[..r]).or_else(|| self.mixed_owner(r, row, rows)),
                 };
+                match shape {
+                    Some(shape) => shape,
+                    None => return false,
+                }
             }
         };
         true
+    }
+
+    /// The shape of a record or a parameter list whose members are in any order; none if a member row breaks a rule.
+    #[cold]
+    fn mixed_owner(&self, r: usize, owner: &TypeRow, rows: &[[u8; 8]]) -> Option<Shape> {
+        if self.member_rule(r, owner).is_some() {
+            return None;
+        }
+        let last = rows.iter().rposition(|row| MemberRow::of(row).required());
+        let required = last.map_or(0, |last| last as u16 + 1);
+        Some(Shape { required, optionals: Optionals::Mixed, ..Shape::of(owner.kind, FSIZE) })
     }
 
     /// The class and the place of the first rule broken, in the order of the rules: type rows, lists of enumerators, member

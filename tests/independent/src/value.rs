@@ -107,6 +107,22 @@ impl<'m> Part<'m> {
         }
     }
 
+    /// Up to so many plain values of one width: as many as there are whole ones; none of width 0.
+    #[inline(always)]
+    fn plain(&mut self, count: usize, width: usize) -> usize {
+        let done = if count * width <= self.left() {
+            if width == 0 {
+                0
+            } else {
+                count
+            }
+        } else {
+            self.left() / width
+        };
+        self.at += done * width;
+        done
+    }
+
     /// So many bools; the first that is none, or past the end, is refused.
     fn bools(&mut self, count: usize) -> Result<(), Fault> {
         let bools = &self.bytes[self.at..][..count.min(self.left())];
@@ -281,26 +297,28 @@ impl Table<'_> {
                 Ok(part.at)
             }
             BYTE..=DOUBLE => Err(Fault::new(4, at)), // it would have been plain
-            ENUM => {
-                let mut part = Part { bytes, at, old };
-                self.enumerators(&self.row(r), 1, &mut part)?;
-                Ok(part.at)
-            }
+            ENUM => self.enumerator_at(r, bytes, at, old),
             _ => self.parts_at(r, bytes, at, old),
         }
     }
 
-    /// The same of a type with parts.
+    /// The same of a type with parts. The last member of a struct is read in its place, so that nested structs take no stack.
     #[inline(never)]
     fn parts_at(&self, r: usize, bytes: &[u8], at: usize, old: bool) -> Result<usize, Fault> {
         let mut part = Part { bytes, at, old };
-        let row = self.row(r);
-        match row.kind {
-            STRUCT => {
-                for m in row.members() {
-                    self.value(self.member(m).of, &mut part)?;
-                }
+        let mut row = self.row(r);
+        while row.kind == STRUCT {
+            let last = row.a + row.b - 1;
+            for m in row.a..last {
+                self.value(self.member(m).of, &mut part)?;
             }
+            let of = self.member(last).of;
+            if self.shape(of).width() != 0 || self.kind(of) < STRUCT {
+                return self.value_of(self.shape(of), of, bytes, part.at, old);
+            }
+            row = self.row(of);
+        }
+        match row.kind {
             SEQUENCE => {
                 let count = part.size()?;
                 self.elements(row.a, count, &mut part)?;
@@ -311,6 +329,14 @@ impl Table<'_> {
             }
             _ => part.proxy()?,
         }
+        Ok(part.at)
+    }
+
+    /// The same of an enum.
+    #[inline(never)]
+    fn enumerator_at(&self, r: usize, bytes: &[u8], at: usize, old: bool) -> Result<usize, Fault> {
+        let mut part = Part { bytes, at, old };
+        self.enumerators(&self.row(r), 1, &mut part)?;
         Ok(part.at)
     }
 
@@ -328,26 +354,21 @@ impl Table<'_> {
         Ok(())
     }
 
-    /// The elements of a sequence, those that need no judging together.
+    /// The elements of a sequence, plain ones together.
     #[inline(always)]
     fn elements(&self, r: usize, count: usize, part: &mut Part) -> Result<(), Fault> {
-        let width = self.shape(r).width();
-        let mut done = 0;
-        if width != 0 {
-            done = count.min(part.left() / width);
-            part.at += done * width;
-        }
+        let left = count - part.plain(count, self.shape(r).width());
         match self.kind(r) {
-            _ if done == count => Ok(()),
-            BOOL => part.bools(count),
+            _ if left == 0 => Ok(()),
+            BOOL => part.bools(left),
             STRING => {
-                for _ in 0..count {
+                for _ in 0..left {
                     part.at = string_at(part.bytes, part.at)?;
                 }
                 Ok(())
             }
-            ENUM => self.enumerators(&self.row(r), count, part),
-            _ => (done..count).try_for_each(|_| self.value(r, part)),
+            ENUM => self.enumerators(&self.row(r), left, part),
+            _ => (0..left).try_for_each(|_| self.value(r, part)),
         }
     }
 
@@ -355,12 +376,8 @@ impl Table<'_> {
     #[inline(always)]
     fn pairs(&self, key: usize, value: usize, count: usize, part: &mut Part) -> Result<(), Fault> {
         let (width, value_width) = (self.shape(key).width(), self.shape(value).width());
-        let mut done = 0;
-        if width != 0 && value_width != 0 {
-            done = count.min(part.left() / (width + value_width));
-            part.at += done * (width + value_width);
-        }
-        for _ in done..count {
+        let pair = if width == 0 || value_width == 0 { 0 } else { width + value_width };
+        for _ in part.plain(count, pair)..count {
             self.value(key, part)?;
             self.value(value, part)?;
         }
