@@ -43,26 +43,28 @@ fn fill_many(table: &Table, top: u32, message: &[u8], lent: &mut [Row], most: us
     }
 }
 
-/// Fills the lent list; `old` holds what its rows were, and is put back on a refusal.
+/// Fills the lent list; what its rows were is kept and put back on a refusal.
 #[inline(always)]
-fn fill(table: &Table, top: u32, message: &[u8], lent: &mut [Row], old: &mut [Row]) -> Result<Reading, Refusal> {
-    let mut rows = Rows { lent, old, count: 0 };
+fn fill(table: &Table, top: u32, message: &[u8], lent: &mut [Row], kept: &mut [Row]) -> Result<Reading, Refusal> {
+    let mut rows = Rows { lent, kept, count: 0 };
     let reading = walk(table, top, message, |m, place, length| rows.put(m, place, length));
     rows.end(reading)
 }
 
-/// The rows of one message, put into a lent list at once. What they replace is kept, as far as there is room.
+/// The rows of one message, put into the lent list while it is read.
 pub(crate) struct Rows<'l> {
     pub lent: &'l mut [Row],
-    pub old: &'l mut [Row],
+    /// What the rows replace, until the message is accepted.
+    pub kept: &'l mut [Row],
     pub count: usize,
 }
 
 impl Rows<'_> {
+    /// Puts the next row, if there is room, and counts it.
     #[inline]
     pub fn put(&mut self, member: usize, place: usize, length: usize) {
-        if let (Some(row), Some(old)) = (self.lent.get_mut(self.count), self.old.get_mut(self.count)) {
-            *old = *row;
+        if let (Some(row), Some(kept)) = (self.lent.get_mut(self.count), self.kept.get_mut(self.count)) {
+            *kept = *row;
             row[..8].copy_from_slice(&(member as u64 | (place as u64) << 32).to_le_bytes());
             row[8..].copy_from_slice(&(length as u32).to_le_bytes());
         }
@@ -83,8 +85,8 @@ impl Rows<'_> {
 
     #[cold]
     fn put_back(&mut self) {
-        for (row, old) in self.lent.iter_mut().zip(&*self.old).take(self.count) {
-            *row = *old;
+        for (row, kept) in self.lent.iter_mut().zip(&*self.kept).take(self.count) {
+            *row = *kept;
         }
     }
 }

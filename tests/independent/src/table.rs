@@ -338,16 +338,28 @@ impl<'t> Table<'t> {
     /// The table, or the class and the place of the first rule broken.
     #[inline(always)]
     pub fn check(bytes: &'t [u8], shapes: &'t mut [Shape]) -> Result<Table<'t>, Refusal> {
-        let Some((header, rest)) = bytes.split_first_chunk::<12>() else {
+        let Some((mut table, start)) = Table::parts(bytes) else {
             return Err((31, 0));
         };
+        let shapes = &mut shapes[..table.rows()];
+        if !table.fill(shapes) {
+            table.rules(start)?;
+        }
+        table.shapes = shapes;
+        Ok(table)
+    }
+
+    /// The parts of a table whose header breaks no rule, and the place of its first row.
+    #[inline(always)]
+    fn parts(bytes: &'t [u8]) -> Option<(Table<'t>, usize)> {
+        let (header, rest) = bytes.split_first_chunk::<12>()?;
         let number = |i: usize| u16::from_le_bytes([header[i], header[i + 1]]) as usize;
         let (version, types, members, names) = (number(3), number(5), number(7), number(9));
         // In version 2 a count of entries follows the zero byte.
         let (entries, rest) = match (version, rest.split_first_chunk::<2>()) {
             (1, _) => (None, rest),
             (2, Some((&count, rest))) => (Some(u16::from_le_bytes(count) as usize), rest),
-            _ => return Err((31, 0)),
+            _ => return None,
         };
         let right = header[..3] == *b"FGT"
             && (1..=256).contains(&types)
@@ -357,25 +369,18 @@ impl<'t> Table<'t> {
             && entries.is_none_or(|entries| entries <= 1_024)
             && rest.len() == 12 * types + 8 * members + names + 4 * entries.unwrap_or(0);
         if !right {
-            return Err((31, 0));
+            return None;
         }
         let start = bytes.len() - rest.len();
-        let shapes = &mut shapes[..types];
         let (types, rest) = rest.split_at(12 * types);
         let (members, rest) = rest.split_at(8 * members);
         let (names, rest) = rest.split_at(names);
         let (types, members) = (types.as_chunks().0, members.as_chunks().0);
         let entries = entries.map(|_| rest.as_chunks().0);
-
-        let mut table = Table { types, members, names, entries, shapes: &[] };
-        if !table.fill(shapes) {
-            table.rules(start)?;
-        }
-        table.shapes = shapes;
-        Ok(table)
+        Some((Table { types, members, names, entries, shapes: &[] }, start))
     }
 
-    /// Judges the rows and fills their shapes in one pass; false if a rule is broken.
+    /// Judges the rows and fills their shapes in one pass; false exactly if `rules` finds a broken rule.
     #[inline(never)]
     fn fill(&self, shapes: &mut [Shape]) -> bool {
         let shapes = &mut shapes[..self.types.len()];
@@ -664,5 +669,37 @@ impl<'t> Table<'t> {
         } else {
             Err(Fault::new(2, 0))
         }
+    }
+}
+
+#[cfg(test)]
+mod tests {
+    use super::*;
+    use crate::gen::{Rng, Types};
+
+    /// The one pass and the rules agree whether a table is broken, whichever byte of it is changed.
+    #[test]
+    fn one_pass() {
+        let (mut right, mut broken) = (0, 0);
+        for seed in 0..100 {
+            let bytes = Types::random(&mut Rng(seed)).spec.bytes();
+            for (at, &byte) in bytes.iter().enumerate() {
+                for changed in [byte, byte ^ 1, byte.wrapping_add(1), byte.wrapping_sub(1), 0, 9, 13, 255] {
+                    let mut bytes = bytes.clone();
+                    bytes[at] = changed;
+                    let Some((table, start)) = Table::parts(&bytes) else {
+                        continue;
+                    };
+                    let filled = table.fill(&mut [Shape::NONE; 256]);
+                    assert_eq!(filled, table.rules(start).is_ok(), "seed {seed}, byte {at} is {changed}");
+                    if filled {
+                        right += 1;
+                    } else {
+                        broken += 1;
+                    }
+                }
+            }
+        }
+        assert!(right > 10_000 && broken > 10_000, "{right} right, {broken} broken");
     }
 }
