@@ -51,9 +51,16 @@ fn long_size(bytes: &[u8], at: usize) -> Result<usize, Fault> {
     }
 }
 
-/// The place after the string at a place.
+/// The place after the string at a place. One of up to 7 bytes is judged together with its size, as one number.
 #[inline(never)]
 fn string_at(bytes: &[u8], at: usize) -> Result<usize, Fault> {
+    if let Some(&long) = bytes[at..].first_chunk() {
+        let long = u64::from_le_bytes(long);
+        let size = long & 0xFF;
+        if size < 8 && (long >> 8) & HIGH & ((1 << (8 * size)) - 1) == 0 {
+            return Ok(at + 1 + size as usize);
+        }
+    }
     let mut part = Part { bytes, at, old: false };
     part.string()?;
     Ok(part.at)
