@@ -25,11 +25,19 @@ fn change(
     bytes: Option<&[u8]>,
     out: &mut [u8],
 ) -> Result<u32, Refusal> {
-    let mut shapes = [Shape::NONE; 256];
-    let table = Table::check(table, &mut shapes)?;
-    let wanted = member as usize;
+    Table::with(table, |table| changed(table, top, message, member as usize, bytes, out))
+}
+
+fn changed(
+    table: &Table,
+    top: u32,
+    message: &[u8],
+    wanted: usize,
+    bytes: Option<&[u8]>,
+    out: &mut [u8],
+) -> Result<u32, Refusal> {
     let mut is_there = false;
-    let reading = walk(&table, top, message, |member, _, _| is_there |= member == wanted)?;
+    let reading = walk(table, top, message, |member, _, _| is_there |= member == wanted)?;
     // In encoding 1.0 no chain has an optional.
     let owner = table.chain(reading.first as usize).find(|&r| table.row(r).members().contains(&wanted));
     let Some(owner) = owner.filter(|_| !table.member(wanted).required()) else {
@@ -50,10 +58,10 @@ fn change(
             if table.value(of.of, &mut part).is_err() || part.left() != 0 {
                 return Err((21, 0));
             }
-            Some((Head::of(&table, &of, bytes.len()), bytes))
+            Some((Head::of(table, &of, bytes.len()), bytes))
         }
     };
-    let held = Owner::find(&table, owner, message, of.tag)?;
+    let held = Owner::find(table, owner, message, of.tag)?;
     held.put(message, new.as_ref().map(|(head, bytes)| [head.bytes(), bytes]), out)
 }
 
@@ -65,14 +73,15 @@ struct Head {
 
 impl Head {
     fn of(table: &Table, member: &MemberRow, length: usize) -> Head {
-        let optional = table.shape(member.of).optional;
+        let shape = table.shape(member.of);
+        let optional = shape.optional();
         let mut head = Head { held: [0; 11], length: 0 };
         head.push(&[(member.tag.min(30) as u8) << 3 | optional]);
         if member.tag >= 30 {
             head.push_size(member.tag);
         }
         match optional {
-            VSIZE if !table.has_own_size(member.of) => head.push_size(length as u32),
+            VSIZE if !shape.has_own_size() => head.push_size(length as u32),
             FSIZE => head.push(&(length as u32).to_le_bytes()),
             _ => (),
         }

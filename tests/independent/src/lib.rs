@@ -34,6 +34,8 @@ mod table;
 mod value;
 mod write;
 
+use std::num::NonZeroU64;
+
 pub use change::{remove, set};
 pub use convert::convert;
 pub use read::{member, read, Reading};
@@ -42,6 +44,22 @@ pub use write::write;
 
 /// A refusal: its number and its place.
 pub type Refusal = (u32, u32);
+
+/// A refusal in one register, as the inner functions return it: the number in the upper half, the place in the lower.
+#[derive(Clone, Copy, Debug)]
+struct Fault(NonZeroU64);
+
+impl Fault {
+    fn new(number: u32, place: usize) -> Fault {
+        Fault(NonZeroU64::new(u64::from(number) << 32 | place as u64).unwrap_or(NonZeroU64::MAX))
+    }
+}
+
+impl From<Fault> for Refusal {
+    fn from(Fault(bits): Fault) -> Refusal {
+        ((bits.get() >> 32) as u32, bits.get() as u32)
+    }
+}
 
 /// The most bytes of a message and of the writer's buffer.
 const MOST: usize = 65_536;

@@ -2,7 +2,7 @@
 
 use crate::table::*;
 use crate::value::Part;
-use crate::{Refusal, MOST};
+use crate::{Fault, Refusal, MOST};
 
 /// What the reader gives besides the rows.
 #[derive(Clone, Copy, Debug, Default, PartialEq, Eq)]
@@ -16,105 +16,146 @@ pub struct Reading {
     pub slices_skipped: u32,
 }
 
+/// A row of the lent list.
+pub(crate) type Row = [u8; 12];
+
 /// Reads a message and fills the lent list with its rows (member row, place, length), given room for them.
 pub fn read(table: &[u8], top: u32, message: &[u8], rows: &mut [u8]) -> Result<Reading, Refusal> {
-    let mut shapes = [Shape::NONE; 256];
-    let table = Table::check(table, &mut shapes)?;
-    let lent = rows.as_chunks_mut::<12>().0;
+    Table::with(table, |table| {
+        let lent = rows.as_chunks_mut().0;
+        // No member is in a message twice.
+        let most = lent.len().min(table.member_rows());
+        if most <= 8 {
+            fill(table, top, message, lent, &mut [[0; 12]; 8])
+        } else {
+            fill_many(table, top, message, lent, most)
+        }
+    })
+}
 
-    // The rows are kept here until the message is accepted; no member is in a message twice.
-    let most = lent.len().min(table.member_rows());
-    let mut few = [[0; 12]; 32];
-    let mut many;
-    let kept = if most <= few.len() {
-        &mut few[..most]
-    } else {
-        many = vec![[0; 12]; most];
-        &mut many[..]
-    };
-    let mut count = 0;
-    let reading = walk(&table, top, message, |member, place, length| {
-        if let Some(row) = kept.get_mut(count) {
-            row[..4].copy_from_slice(&(member as u32).to_le_bytes());
-            row[4..8].copy_from_slice(&(place as u32).to_le_bytes());
+/// The same with a list of its own for more rows, in a function of its own, so that a short one takes little stack.
+#[inline(never)]
+fn fill_many(table: &Table, top: u32, message: &[u8], lent: &mut [Row], most: usize) -> Result<Reading, Refusal> {
+    match most {
+        0..=40 => fill(table, top, message, lent, &mut [[0; 12]; 40]),
+        41..=128 => fill(table, top, message, lent, &mut [[0; 12]; 128]),
+        _ => fill(table, top, message, lent, &mut [[0; 12]; 1_024]),
+    }
+}
+
+/// Fills the lent list; what its rows were is kept and put back on a refusal.
+#[inline(always)]
+fn fill(table: &Table, top: u32, message: &[u8], lent: &mut [Row], kept: &mut [Row]) -> Result<Reading, Refusal> {
+    let mut rows = Rows { lent, kept, count: 0 };
+    let reading = walk(table, top, message, |m, place, length| rows.put(m, place, length));
+    rows.end(reading)
+}
+
+/// The rows of one message, put into the lent list while it is read.
+pub(crate) struct Rows<'l> {
+    pub lent: &'l mut [Row],
+    /// What the rows replace, until the message is accepted.
+    pub kept: &'l mut [Row],
+    pub count: usize,
+}
+
+impl Rows<'_> {
+    /// Puts the next row, if there is room, and counts it.
+    #[inline]
+    pub fn put(&mut self, member: usize, place: usize, length: usize) {
+        if let (Some(row), Some(kept)) = (self.lent.get_mut(self.count), self.kept.get_mut(self.count)) {
+            *kept = *row;
+            row[..8].copy_from_slice(&(member as u64 | (place as u64) << 32).to_le_bytes());
             row[8..].copy_from_slice(&(length as u32).to_le_bytes());
         }
-        count += 1;
-    })?;
-    if count > lent.len() {
-        return Err((19, count as u32));
+        self.count += 1;
     }
-    lent[..count].copy_from_slice(&kept[..count]);
-    Ok(Reading { rows: count as u32, ..reading })
+
+    /// The reading with its number of rows; on a refusal, also by 19, the list is as it was.
+    #[inline]
+    pub fn end(&mut self, reading: Result<Reading, Fault>) -> Result<Reading, Refusal> {
+        let refusal = match reading {
+            Ok(reading) if self.count <= self.lent.len() => return Ok(Reading { rows: self.count as u32, ..reading }),
+            Ok(_) => (19, self.count as u32),
+            Err(fault) => fault.into(),
+        };
+        self.put_back();
+        Err(refusal)
+    }
+
+    #[cold]
+    fn put_back(&mut self) {
+        for (row, kept) in self.lent.iter_mut().zip(&*self.kept).take(self.count) {
+            *row = *kept;
+        }
+    }
 }
 
 /// The very bytes of the message, or the whole fallback where the accepted message lacks that member; on any
 /// refusal, or a member not of the first known type's chain, an empty part of the fallback.
 pub fn member<'a>(table: &[u8], top: u32, message: &'a [u8], member: u32, fallback: &'a [u8]) -> &'a [u8] {
-    let mut shapes = [Shape::NONE; 256];
-    let Ok(table) = Table::check(table, &mut shapes) else {
-        return &fallback[..0];
-    };
-    let mut found = None;
-    let wanted = member as usize;
-    let reading = walk(&table, top, message, |member, place, length| {
-        if member == wanted {
-            found = Some(&message[place..place + length]);
-        }
+    let view = Table::with(table, |table| {
+        let mut found = None;
+        let wanted = member as usize;
+        let reading = walk(table, top, message, |member, place, length| {
+            if member == wanted {
+                found = Some(&message[place..place + length]);
+            }
+        })?;
+        let is_of_chain = || table.chain(reading.first as usize).any(|r| table.row(r).members().contains(&wanted));
+        Ok(found.or_else(|| is_of_chain().then_some(fallback)))
     });
-    match (reading, found) {
-        (Ok(_), Some(bytes)) => bytes,
-        (Ok(reading), None)
-            if table.chain(reading.first as usize).any(|r| table.row(r).members().contains(&wanted)) =>
-        {
-            fallback
-        }
-        _ => &fallback[..0],
-    }
+    view.ok().flatten().unwrap_or(&fallback[..0])
 }
 
 /// Walks over a message and gives every row (member row, place, length) in message order.
+#[inline(always)]
 pub(crate) fn walk(
     table: &Table,
     top: u32,
     message: &[u8],
     give: impl FnMut(usize, usize, usize),
-) -> Result<Reading, Refusal> {
+) -> Result<Reading, Fault> {
+    walk_one(table, top, message, || table.has_optionals(top as usize), give)
+}
+
+/// The same for one of many messages: whether encoding 1.0 is refused by 26 is known to the caller, who is asked for a
+/// message of 1.0 only.
+#[inline(always)]
+pub(crate) fn walk_one(
+    table: &Table,
+    top: u32,
+    message: &[u8],
+    is_old_refused: impl FnOnce() -> bool,
+    give: impl FnMut(usize, usize, usize),
+) -> Result<Reading, Fault> {
     let top = table.wanted(top)?;
     if message.len() > MOST {
-        return Err((3, 0));
+        return Err(Fault::new(3, 0));
     }
     let Some(size) = message.first_chunk() else {
-        return Err((4, 0));
+        return Err(Fault::new(4, 0));
     };
     if message.len() < 6 || u32::from_le_bytes(*size) as usize != message.len() {
-        return Err((5, 0));
+        return Err(Fault::new(5, 0));
     }
+    let kind = table.kind(top);
     let old = match message[4..6] {
         [1, 1] => false,
-        [1, 0] if table.kind(top) != CLASS => true,
-        _ => return Err((6, 4)),
+        [1, 0] if kind != CLASS => true,
+        _ => return Err(Fault::new(6, 4)),
     };
-    if old && table.has_optionals(top) {
-        return Err((26, 0));
+    if old && is_old_refused() {
+        return Err(Fault::new(26, 0));
     }
-    let mut part = Part { bytes: message, at: 6, old };
-    let mut walk = Walk { table, give, reading: Reading::default() };
-    match table.kind(top) {
-        LIST => {
-            let format = if old { 2 } else { 1 };
-            walk.reading = Reading { first: top as u32, format, ..Reading::default() };
-            let list = table.row(top);
-            walk.required(&list, &mut part)?;
-            if !old {
-                walk.optionals(&list, &mut part, None)?;
-            }
-        }
-        _ if old => walk.old_exception(top, &mut part)?,
-        _ => walk.record(top, &mut part)?,
-    }
-    if part.left() != 0 {
-        return part.refuse(18);
+    let mut walk = Walk { table, give, message, old, reading: Reading::default() };
+    let end = match kind {
+        LIST => walk.list(top)?,
+        _ if old => walk.old_exception(top)?,
+        _ => walk.record(top)?,
+    };
+    if end != message.len() {
+        return Err(Fault::new(18, end));
     }
     Ok(walk.reading)
 }
@@ -122,15 +163,30 @@ pub(crate) fn walk(
 struct Walk<'w, F> {
     table: &'w Table<'w>,
     give: F,
+    message: &'w [u8],
+    old: bool,
     reading: Reading,
 }
 
 impl<F: FnMut(usize, usize, usize)> Walk<'_, F> {
+    /// A parameter list: required members, then optionals to the end. Like all these functions it gives the place after
+    /// what it has read.
+    fn list(&mut self, top: usize) -> Result<usize, Fault> {
+        let format = if self.old { 2 } else { 1 };
+        self.reading = Reading { first: top as u32, format, ..Reading::default() };
+        let at = self.required(top, 6, self.message.len())?;
+        if self.old || at == self.message.len() {
+            return Ok(at);
+        }
+        self.optionals(top, at, self.message.len(), None)
+    }
+
     /// An exception, or a class instance with its marker: slices from the most derived to the last.
-    fn record(&mut self, top: usize, part: &mut Part) -> Result<(), Refusal> {
+    fn record(&mut self, top: usize) -> Result<usize, Fault> {
         let table = self.table;
+        let mut part = Part { bytes: self.message, at: 6, old: false };
         if table.kind(top) == CLASS {
-            let marker = *part;
+            let marker = part;
             if part.byte()? != 1 {
                 return marker.refuse(13);
             }
@@ -138,7 +194,7 @@ impl<F: FnMut(usize, usize, usize)> Walk<'_, F> {
         let mut sliced = None; // fixed by the first slice
         let mut due = None; // after the first known slice, the base of the one before
         loop {
-            let start = *part;
+            let start = part;
             let flags = part.byte()?;
             let (form, has_optionals, last) = (flags & 3, flags >> 2 & 1 == 1, flags >> 5 & 1 == 1);
             let has_size = flags >> 4 & 1 == 1;
@@ -150,13 +206,12 @@ impl<F: FnMut(usize, usize, usize)> Walk<'_, F> {
             if flags >> 3 & 1 == 1 || form > 1 {
                 return start.refuse(13);
             }
-            let id_start = *part;
-            let id = if has_id { Some(part.string()?) } else { None };
-            let known = match due {
-                Some(base) => Some(base).filter(|&base| id.is_none_or(|id| id == table.name(&table.row(base)))),
+            let r = match due {
+                Some(base) if !has_id || part.is_name(table, base)? => base,
+                Some(_) => return start.refuse(17),
                 None => {
-                    let named = |(r, row): (usize, TypeRow)| (Some(table.name(&row)) == id).then_some(r);
-                    let Some(r) = table.records().find_map(named) else {
+                    let id_start = part;
+                    let Some(r) = part.named(table, top)? else {
                         if !sliced {
                             return id_start.refuse(15);
                         }
@@ -167,114 +222,110 @@ impl<F: FnMut(usize, usize, usize)> Walk<'_, F> {
                         self.reading.slices_skipped += 1;
                         continue;
                     };
+                    if !table.chain(r).any(|base| base == top) {
+                        return start.refuse(17);
+                    }
                     self.reading.first = r as u32;
                     self.reading.format = sliced as u32;
-                    table.chain(r).any(|base| base == top).then_some(r)
+                    r
                 }
             };
-            let Some(row) = known.map(|r| table.row(r)).filter(|row| last == row.base().is_none()) else {
+            let base = table.row(r).base();
+            if last != base.is_none() {
                 return start.refuse(17);
-            };
-            let size = *part;
-            let mut data = if sliced {
-                let end = part.declared(4, 4)?;
-                part.upto(end)
-            } else {
-                *part
-            };
-            self.required(&row, &mut data)?;
-            if has_optionals {
-                self.optionals(&row, &mut data, Some(start))?;
             }
-            if sliced && data.left() != 0 {
+            let size = part;
+            let end = if sliced { part.declared(4, 4)? } else { part.bytes.len() };
+            part.at = self.required(r, part.at, end)?;
+            if has_optionals {
+                part.at = self.optionals(r, part.at, end, Some(start.at))?;
+            }
+            if sliced && part.at != end {
                 return size.refuse(11);
             }
-            part.at = data.at;
             if last {
-                return Ok(());
+                return Ok(part.at);
             }
-            due = row.base();
+            due = base;
         }
     }
 
     /// An exception of encoding 1.0: a header byte, then type ID and size in pairs, most derived first. The pair
     /// without a base is last.
-    fn old_exception(&mut self, top: usize, part: &mut Part) -> Result<(), Refusal> {
+    fn old_exception(&mut self, top: usize) -> Result<usize, Fault> {
         let table = self.table;
-        let header = *part;
+        let mut part = Part { bytes: self.message, at: 6, old: true };
+        let header = part;
         if part.byte()? != 0 {
             return header.refuse(25);
         }
         self.reading.format = 2;
         let mut due = None; // after the first known pair, the base of the one before
         loop {
-            let id_start = *part;
-            let id = part.string()?;
+            let id_start = part;
             let r = match due {
-                Some(base) if table.name(&table.row(base)) == id => base,
+                Some(base) if part.is_name(table, base)? => base,
                 Some(_) => return id_start.refuse(17),
-                None => match table.records().find(|(_, row)| table.name(row) == id) {
+                None => match part.named(table, top)? {
                     None => {
                         part.at = part.declared(4, 4)?;
                         self.reading.slices_skipped += 1;
                         continue;
                     }
-                    Some((r, _)) if table.chain(r).any(|base| base == top) => {
+                    Some(r) if table.chain(r).any(|base| base == top) => {
                         self.reading.first = r as u32;
                         r
                     }
                     Some(_) => return id_start.refuse(17),
                 },
             };
-            let row = table.row(r);
-            let size = *part;
+            let size = part;
             let end = part.declared(4, 4)?;
-            let mut data = part.upto(end);
-            self.required(&row, &mut data)?;
-            if data.left() != 0 {
+            part.at = self.required(r, part.at, end)?;
+            if part.at != end {
                 return size.refuse(11);
             }
-            part.at = end;
-            match row.base() {
-                None => return Ok(()),
+            match table.row(r).base() {
+                None => return Ok(end),
                 base => due = base,
             }
         }
     }
 
-    /// Required members as declared.
-    fn required(&mut self, owner: &TypeRow, part: &mut Part) -> Result<(), Refusal> {
-        for m in owner.members() {
-            let member = self.table.member(m);
-            if member.required() {
-                let start = part.at;
-                self.table.value(member.of, part)?;
-                (self.give)(m, start, part.at - start);
+    /// Required members as declared, from a place on, held by what ends at `end`.
+    #[inline(always)]
+    fn required(&mut self, owner: usize, mut at: usize, end: usize) -> Result<usize, Fault> {
+        let (table, bytes) = (self.table, &self.message[..end]);
+        let (first, rows) = table.required(owner);
+        for (i, row) in rows.iter().enumerate() {
+            if let Some((of, shape)) = table.required_type(row) {
+                let start = at;
+                at = table.value_of(shape, of, bytes, at, self.old)?;
+                (self.give)(first + i, start, at - start);
             }
         }
-        Ok(())
+        Ok(at)
     }
 
-    /// Optionals by rising tag: in a slice, given by its flags, at least one and byte 255; in a parameter list to
-    /// the end.
-    fn optionals(&mut self, owner: &TypeRow, part: &mut Part, slice: Option<Part>) -> Result<(), Refusal> {
+    /// Optionals by rising tag: in a slice, given by the place of its flags, at least one and byte 255; in a parameter list
+    /// to the end.
+    #[inline(always)]
+    fn optionals(&mut self, owner: usize, at: usize, end: usize, slice: Option<usize>) -> Result<usize, Fault> {
         let table = self.table;
-        let members = owner.members();
-        let mut next = members.start; // members are mostly declared by rising tag as well
+        let mut part = Part { bytes: &self.message[..end], at, old: false };
+        let mut tags = table.tags(owner);
         let mut above = 0; // tags from here on are rising
-        while slice.is_some() || part.left() != 0 {
-            let start = *part;
-            let header = part.byte()?;
-            let mut tag = (header >> 3) as u32;
+        loop {
+            let start = part;
+            let header = match part.byte() {
+                Err(_) if slice.is_none() => return Ok(part.at),
+                header => header?,
+            };
+            let mut tag = u32::from(header >> 3);
             if tag == 31 {
                 return match slice {
-                    Some(flags) if header == 255 => {
-                        if above == 0 {
-                            flags.refuse(14)
-                        } else {
-                            Ok(())
-                        }
-                    }
+                    Some(flags) if header == 255 && above == 0 => Err(Fault::new(14, flags)),
+                    Some(_) if header == 255 => Ok(part.at),
                     _ => start.refuse(12),
                 };
             }
@@ -289,52 +340,82 @@ impl<F: FnMut(usize, usize, usize)> Walk<'_, F> {
             }
             above = tag + 1;
             let optional = header & 7;
+            let known = tags.find(tag);
+            if let Some((m, of)) = known {
+                // A plain value of fixed length needs no more than its bytes.
+                let width = table.shape(of).width_as(optional);
+                if width != 0 && width <= part.left() {
+                    (self.give)(m, part.at, width);
+                    part.at += width;
+                    continue;
+                }
+            }
             if optional > FSIZE {
                 return start.refuse(13);
             }
-            let known = (next..members.end).chain(members.start..next).find(|&m| table.member(m).has_tag(tag));
-            let of = known.map(|m| table.member(m).of);
-            if of.is_some_and(|of| table.shape(of).optional != optional) {
+            let Some((m, of)) = known else {
+                part.at = declared(part.bytes, part.at, optional)?.1;
+                self.reading.optionals_skipped += 1;
+                continue;
+            };
+            let shape = table.shape(of);
+            if shape.optional() != optional {
                 return start.refuse(12);
             }
-
-            // The declared bytes first, then a known tag's value, which must use them up.
-            let length = *part;
-            let value = match optional {
-                F1..=F8 => {
-                    part.item(1 << optional)?;
-                    length.at
-                }
-                SIZE => {
-                    part.size()?;
-                    length.at
-                }
-                VSIZE => {
-                    let declared = part.sized()?.len();
-                    if of.is_some_and(|of| table.has_own_size(of)) {
-                        length.at
-                    } else {
-                        part.at - declared
-                    }
-                }
-                _ => {
-                    part.at = part.declared(1, 0)?;
-                    length.at + 4
-                }
-            };
-            match (known, of) {
-                (Some(m), Some(of)) => {
-                    let mut declared = Part { at: value, ..part.upto(part.at) };
-                    table.value(of, &mut declared)?;
-                    if declared.left() != 0 {
-                        return length.refuse(11);
-                    }
-                    (self.give)(m, value, part.at - value);
-                    next = m + 1;
-                }
-                _ => self.reading.optionals_skipped += 1,
+            // The declared bytes first, then the value, which must use them up.
+            let (value, end) = declared(part.bytes, part.at, optional)?;
+            let value = if shape.has_own_size() { part.at } else { value };
+            if table.value_of(shape, of, &part.bytes[..end], value, false)? != end {
+                return part.refuse(11);
             }
+            (self.give)(m, value, end - value);
+            part.at = end;
         }
-        Ok(())
+    }
+}
+
+/// The declared bytes of an optional, after a size or an int that is their length: where they begin and end.
+#[inline(always)]
+fn declared(bytes: &[u8], at: usize, optional: u8) -> Result<(usize, usize), Fault> {
+    let mut part = Part { bytes, at, old: false };
+    match optional {
+        F1..=F8 => {
+            part.item(1 << optional)?;
+            Ok((at, part.at))
+        }
+        SIZE => {
+            part.size()?;
+            Ok((at, part.at))
+        }
+        VSIZE => {
+            let length = part.sized()?.len();
+            Ok((part.at - length, part.at))
+        }
+        _ => {
+            let end = part.declared(1, 0)?;
+            Ok((at + 4, end))
+        }
+    }
+}
+
+impl Part<'_> {
+    /// A type ID: whether it is the name of this record. A name of the table is text.
+    fn is_name(&mut self, table: &Table, record: usize) -> Result<bool, Fault> {
+        let start = *self;
+        let id = self.sized()?;
+        if id == table.name(&table.row(record)) {
+            return Ok(true);
+        }
+        start.text(id).map(|_| false)
+    }
+
+    /// A type ID: the record of this name, which is mostly the top.
+    fn named(&mut self, table: &Table, top: usize) -> Result<Option<usize>, Fault> {
+        let start = *self;
+        let id = self.sized()?;
+        if id == table.name(&table.row(top)) {
+            return Ok(Some(top));
+        }
+        start.text(id).map(|id| table.record_named(id))
     }
 }

@@ -1,12 +1,33 @@
 //! Values: a part of the message, read from front to back.
 
 use crate::table::*;
-use crate::Refusal;
+use crate::Fault;
 
-/// Whether bytes are well-formed UTF-8 as RFC 3629 has it. The standard library judges; most strings are ASCII, which it
-/// finds out faster.
+/// The highest bit of each byte: 0 in ASCII.
+const HIGH: u64 = 0x8080_8080_8080_8080;
+
+/// Whether bytes are well-formed UTF-8 as RFC 3629 has it. The standard library judges what is not ASCII.
+#[inline]
 pub(crate) fn is_text(bytes: &[u8]) -> bool {
-    bytes.is_ascii() || core::str::from_utf8(bytes).is_ok()
+    is_ascii(bytes) || core::str::from_utf8(bytes).is_ok()
+}
+
+/// Short strings are judged by a few numbers, which overlap; the standard library is faster on long ones.
+#[inline]
+fn is_ascii(bytes: &[u8]) -> bool {
+    if bytes.len() > 128 {
+        return bytes.is_ascii();
+    }
+    let long = |long: &[u8; 8]| u64::from_le_bytes(*long);
+    let int = |int: &[u8; 4]| u64::from(u32::from_le_bytes(*int));
+    let all = if let Some(last) = bytes.last_chunk() {
+        bytes.as_chunks().0.iter().fold(long(last), |all, next| all | long(next))
+    } else if let (Some(first), Some(last)) = (bytes.first_chunk(), bytes.last_chunk()) {
+        int(first) | int(last)
+    } else {
+        bytes.iter().fold(0, |all, &byte| all | u64::from(byte))
+    };
+    all & HIGH == 0
 }
 
 /// What is left of something that holds items: the message up to the holder's end, the place reached in it, and whether
@@ -18,22 +39,53 @@ pub(crate) struct Part<'m> {
     pub old: bool,
 }
 
+/// The int after the 255 at a place.
+#[inline(never)]
+fn long_size(bytes: &[u8], at: usize) -> Result<usize, Fault> {
+    match bytes[at + 1..].first_chunk() {
+        None => Err(Fault::new(4, at)),
+        Some(&int) => match i32::from_le_bytes(int) {
+            ..255 => Err(Fault::new(7, at)),
+            int => Ok(int as usize),
+        },
+    }
+}
+
+/// The place after the string at a place. One of up to 7 bytes is judged together with its size, as one number.
+#[inline(never)]
+fn string_at(bytes: &[u8], at: usize) -> Result<usize, Fault> {
+    if let Some(&long) = bytes[at..].first_chunk() {
+        let long = u64::from_le_bytes(long);
+        let size = long & 0xFF;
+        if size < 8 && (long >> 8) & HIGH & ((1 << (8 * size)) - 1) == 0 {
+            return Ok(at + 1 + size as usize);
+        }
+    }
+    let mut part = Part { bytes, at, old: false };
+    part.string()?;
+    Ok(part.at)
+}
+
 impl<'m> Part<'m> {
+    #[inline(always)]
     pub fn left(&self) -> usize {
         self.bytes.len() - self.at
     }
 
     /// The same place, held by what ends at `end`.
+    #[inline]
     pub fn upto(&self, end: usize) -> Part<'m> {
         Part { bytes: &self.bytes[..end], ..*self }
     }
 
-    pub fn refuse<T>(&self, number: u32) -> Result<T, Refusal> {
-        Err((number, self.at as u32))
+    #[inline]
+    pub fn refuse<T, E: From<Fault>>(&self, number: u32) -> Result<T, E> {
+        Err(Fault::new(number, self.at).into())
     }
 
     /// An item of so many bytes.
-    pub fn item(&mut self, width: usize) -> Result<(), Refusal> {
+    #[inline(always)]
+    pub fn item(&mut self, width: usize) -> Result<(), Fault> {
         if width > self.left() {
             return self.refuse(4);
         }
@@ -41,7 +93,8 @@ impl<'m> Part<'m> {
         Ok(())
     }
 
-    pub fn byte(&mut self) -> Result<u8, Refusal> {
+    #[inline(always)]
+    pub fn byte(&mut self) -> Result<u8, Fault> {
         match self.bytes.get(self.at) {
             None => self.refuse(4),
             Some(&byte) => {
@@ -51,7 +104,8 @@ impl<'m> Part<'m> {
         }
     }
 
-    fn bool(&mut self) -> Result<(), Refusal> {
+    #[inline(always)]
+    fn bool(&mut self) -> Result<(), Fault> {
         let start = *self;
         if self.byte()? > 1 {
             start.refuse(8)
@@ -60,7 +114,38 @@ impl<'m> Part<'m> {
         }
     }
 
-    fn int(&mut self) -> Result<i32, Refusal> {
+    /// Up to so many plain values of one width: as many as there are whole ones; none of width 0.
+    #[inline(always)]
+    fn plain(&mut self, count: usize, width: usize) -> usize {
+        let done = if count * width <= self.left() {
+            if width == 0 {
+                0
+            } else {
+                count
+            }
+        } else {
+            self.left() / width
+        };
+        self.at += done * width;
+        done
+    }
+
+    /// So many bools; the first that is none, or past the end, is refused.
+    fn bools(&mut self, count: usize) -> Result<(), Fault> {
+        let bools = &self.bytes[self.at..][..count.min(self.left())];
+        if bools.iter().fold(0, |all, bool| all | bool) > 1 {
+            self.at += bools.iter().take_while(|&&bool| bool <= 1).count();
+            return self.refuse(8);
+        }
+        self.at += bools.len();
+        if bools.len() < count {
+            return self.refuse(4);
+        }
+        Ok(())
+    }
+
+    #[inline]
+    fn int(&mut self) -> Result<i32, Fault> {
         match self.bytes[self.at..].first_chunk() {
             None => self.refuse(4),
             Some(&int) => {
@@ -71,7 +156,8 @@ impl<'m> Part<'m> {
     }
 
     /// An enumerator: a size; in encoding 1.0 a byte, short or int by the greatest.
-    fn enumerator(&mut self, greatest: usize) -> Result<usize, Refusal> {
+    #[inline]
+    fn enumerator(&mut self, greatest: usize) -> Result<usize, Fault> {
         if !self.old {
             return self.size();
         }
@@ -88,39 +174,39 @@ impl<'m> Part<'m> {
     }
 
     /// A size: below 255 one byte; else 255 and an int.
-    #[inline]
-    pub fn size(&mut self) -> Result<usize, Refusal> {
+    #[inline(always)]
+    pub fn size(&mut self) -> Result<usize, Fault> {
         match self.byte()? {
-            255 => self.long_size(),
+            255 => {
+                let size = long_size(self.bytes, self.at - 1)?;
+                self.at += 4;
+                Ok(size)
+            }
             byte => Ok(byte as usize),
         }
     }
 
-    #[cold]
-    fn long_size(&mut self) -> Result<usize, Refusal> {
-        let start = Part { at: self.at - 1, ..*self };
-        match self.int() {
-            Err(_) => start.refuse(4),
-            Ok(int) if int < 255 => start.refuse(7),
-            Ok(int) => Ok(int as usize),
-        }
-    }
-
     /// A size and that many bytes, which must be text.
-    #[inline]
-    pub fn string(&mut self) -> Result<&'m [u8], Refusal> {
+    #[inline(always)]
+    pub fn string(&mut self) -> Result<&'m [u8], Fault> {
         let start = *self;
         let content = self.sized()?;
+        start.text(content)
+    }
+
+    /// The content of a string that begins here, if it is text.
+    #[inline]
+    pub fn text(&self, content: &'m [u8]) -> Result<&'m [u8], Fault> {
         if is_text(content) {
             Ok(content)
         } else {
-            start.refuse(24)
+            self.refuse(24)
         }
     }
 
     /// A size and that many bytes, whatever they are.
-    #[inline]
-    pub fn sized(&mut self) -> Result<&'m [u8], Refusal> {
+    #[inline(always)]
+    pub fn sized(&mut self) -> Result<&'m [u8], Fault> {
         let start = *self;
         let length = self.size()?;
         if length > self.left() {
@@ -132,7 +218,8 @@ impl<'m> Part<'m> {
     }
 
     /// A declared length as an int, of which `own` bytes are the int itself: where what it measures ends.
-    pub fn declared(&mut self, least: i32, own: usize) -> Result<usize, Refusal> {
+    #[inline]
+    pub fn declared(&mut self, least: i32, own: usize) -> Result<usize, Fault> {
         let start = *self;
         let length = self.int()?;
         if length < least {
@@ -146,12 +233,12 @@ impl<'m> Part<'m> {
         }
     }
 
-    fn proxy(&mut self) -> Result<(), Refusal> {
+    fn proxy(&mut self) -> Result<(), Fault> {
         self.proxy_with(|_, _| ())
     }
 
     /// A proxy; `seen` is given the place and the end of each endpoint.
-    pub fn proxy_with(&mut self, mut seen: impl FnMut(usize, usize)) -> Result<(), Refusal> {
+    pub fn proxy_with(&mut self, mut seen: impl FnMut(usize, usize)) -> Result<(), Fault> {
         let identity = *self;
         let name = self.string()?;
         let category = self.string()?;
@@ -189,69 +276,115 @@ impl<'m> Part<'m> {
 }
 
 impl Table<'_> {
-    /// A value is read by reading its parts; the type number falls at every descent.
-    pub(crate) fn value(&self, r: usize, part: &mut Part) -> Result<(), Refusal> {
-        let shape = self.shape(r);
-        if shape.plain && shape.width() <= part.left() {
-            part.at += shape.width();
-            return Ok(());
+    /// A value is read by reading its parts; the type number falls at every descent. A plain value is passed by its length.
+    #[inline]
+    pub(crate) fn value(&self, r: usize, part: &mut Part) -> Result<(), Fault> {
+        part.at = self.value_of(self.shape(r), r, part.bytes, part.at, part.old)?;
+        Ok(())
+    }
+
+    /// The same of a type whose shape is known, at a place of what holds it; gives the place after it.
+    #[inline(always)]
+    pub(crate) fn value_of(&self, shape: Shape, r: usize, bytes: &[u8], at: usize, old: bool) -> Result<usize, Fault> {
+        let width = shape.width();
+        if width != 0 && width <= bytes.len() - at {
+            Ok(at + width)
+        } else {
+            self.value_at(r, bytes, at, old)
         }
-        let row = self.row(r);
-        match row.kind {
-            BOOL => part.bool(),
-            BYTE..=DOUBLE => part.refuse(4), // it would have been plain
-            STRING => part.string().map(drop),
-            ENUM => {
-                let start = *part;
-                if self.allows(&row, part.enumerator(row.greatest())?) {
-                    Ok(())
-                } else {
-                    start.refuse(9)
-                }
+    }
+
+    /// The same of a type that is not plain, or runs past what holds it. Places are passed in registers.
+    pub(crate) fn value_at(&self, r: usize, bytes: &[u8], at: usize, old: bool) -> Result<usize, Fault> {
+        match self.kind(r) {
+            STRING => string_at(bytes, at),
+            BOOL => {
+                let mut part = Part { bytes, at, old };
+                part.bool()?;
+                Ok(part.at)
             }
-            STRUCT => row.members().try_for_each(|m| self.value(self.member(m).of, part)),
+            BYTE..=DOUBLE => Err(Fault::new(4, at)), // it would have been plain
+            ENUM => self.enumerator_at(r, bytes, at, old),
+            _ => self.parts_at(r, bytes, at, old),
+        }
+    }
+
+    /// The same of a type with parts. The last member of a struct is read in its place, so that nested structs take no stack.
+    #[inline(never)]
+    fn parts_at(&self, r: usize, bytes: &[u8], at: usize, old: bool) -> Result<usize, Fault> {
+        let mut part = Part { bytes, at, old };
+        let mut row = self.row(r);
+        while row.kind == STRUCT {
+            let last = row.a + row.b - 1;
+            for m in row.a..last {
+                self.value(self.member(m).of, &mut part)?;
+            }
+            let of = self.member(last).of;
+            if self.shape(of).width() != 0 || self.kind(of) < STRUCT {
+                return self.value_of(self.shape(of), of, bytes, part.at, old);
+            }
+            row = self.row(of);
+        }
+        match row.kind {
             SEQUENCE => {
                 let count = part.size()?;
-                self.elements(row.a, count, part)
+                self.elements(row.a, count, &mut part)?;
             }
             DICTIONARY => {
                 let count = part.size()?;
-                self.pairs(row.a, row.b, count, part)
+                self.pairs(row.a, row.b, count, &mut part)?;
             }
-            _ => part.proxy(),
+            _ => part.proxy()?,
         }
+        Ok(part.at)
     }
 
-    /// The elements of a sequence, those that need no judging together.
-    fn elements(&self, r: usize, count: usize, part: &mut Part) -> Result<(), Refusal> {
-        let shape = self.shape(r);
-        let mut done = 0;
-        if shape.plain {
-            done = count.min(part.left() / shape.width());
-            part.at += done * shape.width();
-        } else if self.kind(r) == BOOL {
-            done = count.min(part.left());
-            let bools = &part.bytes[part.at..part.at + done];
-            if bools.iter().any(|&b| b > 1) {
-                part.at += bools.iter().take_while(|&&b| b <= 1).count();
-                return part.refuse(8);
+    /// The same of an enum.
+    #[inline(never)]
+    fn enumerator_at(&self, r: usize, bytes: &[u8], at: usize, old: bool) -> Result<usize, Fault> {
+        let mut part = Part { bytes, at, old };
+        self.enumerators(&self.row(r), 1, &mut part)?;
+        Ok(part.at)
+    }
+
+    /// So many enumerators of one type.
+    #[inline(always)]
+    fn enumerators(&self, row: &TypeRow, count: usize, part: &mut Part) -> Result<(), Fault> {
+        let greatest = row.greatest();
+        for _ in 0..count {
+            let start = *part;
+            let number = part.enumerator(greatest)?;
+            if number > greatest || !self.lists(row, number) {
+                return start.refuse(9);
             }
-            part.at += done;
-        } else if self.kind(r) == STRING {
-            return (0..count).try_for_each(|_| part.string().map(drop));
         }
-        (done..count).try_for_each(|_| self.value(r, part))
+        Ok(())
+    }
+
+    /// The elements of a sequence, plain ones together.
+    #[inline(always)]
+    fn elements(&self, r: usize, count: usize, part: &mut Part) -> Result<(), Fault> {
+        let left = count - part.plain(count, self.shape(r).width());
+        match self.kind(r) {
+            _ if left == 0 => Ok(()),
+            BOOL => part.bools(left),
+            STRING => {
+                for _ in 0..left {
+                    part.at = string_at(part.bytes, part.at)?;
+                }
+                Ok(())
+            }
+            ENUM => self.enumerators(&self.row(r), left, part),
+            _ => (0..left).try_for_each(|_| self.value(r, part)),
+        }
     }
 
     /// The pairs of a dictionary, likewise.
-    fn pairs(&self, key: usize, value: usize, count: usize, part: &mut Part) -> Result<(), Refusal> {
-        let mut done = 0;
-        if self.shape(key).plain && self.shape(value).plain {
-            let width = self.shape(key).width() + self.shape(value).width();
-            done = count.min(part.left() / width);
-            part.at += done * width;
-        }
-        for _ in done..count {
+    #[inline(always)]
+    fn pairs(&self, key: usize, value: usize, count: usize, part: &mut Part) -> Result<(), Fault> {
+        let (width, value_width) = (self.shape(key).width(), self.shape(value).width());
+        let pair = if width == 0 || value_width == 0 { 0 } else { width + value_width };
+        for _ in part.plain(count, pair)..count {
             self.value(key, part)?;
             self.value(value, part)?;
         }

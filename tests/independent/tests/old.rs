@@ -67,6 +67,7 @@ fn base_data() -> Vec<u8> {
     [vec![99, 0, 0, 0], string("Hello")].concat()
 }
 
+#[allow(clippy::approx_constant)] // document 002 has 3.14
 fn derived_data() -> Vec<u8> {
     [vec![1], string("World!"), 3.14f64.to_le_bytes().to_vec()].concat()
 }
@@ -178,7 +179,7 @@ fn pairs() {
     let of = |top: u32, body: &[Vec<u8>]| rows_of(&table, top, &wrapped(&[&[0], &body.concat()[..]].concat())).err();
     let [derived, base] = [pair("::Derived", &derived_data()), pair("::Base", &base_data())];
     // 17 at the type ID: neither the top nor below it, a class, another record than the base, an unknown one after it.
-    assert_eq!(of(DERIVED, &[base.clone()]), Some((17, 7)));
+    assert_eq!(of(DERIVED, std::slice::from_ref(&base)), Some((17, 7)));
     assert_eq!(of(BASE, &[pair("::Other", &[])]), Some((17, 7)));
     assert_eq!(of(other.into(), &[pair("::Class", &[])]), Some((17, 7)));
     let second = 7 + derived.len() as u32;

@@ -26,13 +26,33 @@ const LEAST_ROUNDS: usize = 20;
 /// A ratio above its bar is measured on for at most so many times as long: the least times only fall.
 const PATIENCE: u32 = 20;
 
-/// Bars. A long sequence of numbers is read in at most twice the time of a short one (document 02, M-103), and one of
-/// shorts in at most 1.2 times it. One of shorts is written in at most 1.1 times the time of plain Rust, and one of bools
-/// read in at most 2.8 times: a quarter of what it was when they were judged one by one. A report to a frost guard takes
-/// at most 1.3 times a read of its message.
+/// Bars, each held on the ratio as measured. A message is read in at most this part of the time of plain Rust: P2, the
+/// record of four slices, its compact form and a newer one, exceptions of 1.1 and 1.0, the dense record.
+const READ: f64 = 0.9;
+
+/// So is a log, a message of one sequence of 20 numbers or of as many as a message holds.
+const READ_LOG: f64 = 0.75;
+
+/// So is a parameter list of 33 to 1,024 required ints.
+const READ_REQUIRED: f64 = 1.0;
+
+/// So is one of as many optional ints.
+const READ_OPTIONAL: f64 = 1.2;
+
+/// P2 and logs are written in at most this part of the time of plain Rust; M-103 asks for 1.1 of 20,000 shorts.
+const WRITE: f64 = 1.0;
+
+/// So are records and exceptions.
+const WRITE_RECORD: f64 = 1.2;
+
+/// The reader with its numbers takes at most so many times the time of the reader.
+const NUMBERS: f64 = 1.05;
+
+/// A long sequence of numbers is read in at most twice the time of a short one (document 02, M-103), and one of shorts in
+/// at most 1.2 times it. One of bools is read in at most 2.8 times the time of plain Rust: a quarter of what it was when
+/// they were judged one by one. A report to a frost guard takes at most 1.3 times a read of its message.
 const LONG: f64 = 2.0;
 const LONG_SHORTS: f64 = 1.2;
-const WRITTEN: f64 = 1.1;
 const BOOLS: f64 = 2.8;
 const REPORT: f64 = 1.3;
 
@@ -94,9 +114,14 @@ impl Case {
     }
 
     fn run(&self) {
-        let Case { name, table, top, .. } = self;
         // Without a bar none is missed.
-        let _ = (self.run_read(None), self.run_write(None));
+        let _ = self.run_with(None, None);
+    }
+
+    /// Reader, writer and table check, the first two with a bar each.
+    fn run_with(&self, read_bar: Option<f64>, write_bar: Option<f64>) -> [Result<(), String>; 2] {
+        let Case { name, table, top, .. } = self;
+        let bars = [self.run_read(read_bar), self.run_write(write_bar)];
         // The empty input is refused by 4 right after the rules of the table.
         report(
             &format!("{name}: table check, {} bytes", table.len()),
@@ -104,6 +129,7 @@ impl Case {
             || number(read(black_box(table), *top, &[], &mut [])),
             4,
         );
+        bars
     }
 
     /// The writer; both write to the same bytes, since the time of a long copy depends on where they lie.
@@ -273,17 +299,18 @@ impl Case {
         )
     }
 
-    /// The reader with its numbers, and the view of the last member listed, against the reader.
-    fn run_calls(&self) {
+    /// The reader with its numbers, which has a bar, and the view of the last member listed, against the reader.
+    fn run_calls(&self) -> Result<(), String> {
         let Case { name, table, top, message, rows, .. } = self;
         let mut lent = vec![0; rows.len()];
         let mut other = lent.clone();
         let mut numbers = [0; 20];
-        report(
+        let met = compare(
             &format!("{name}: icehub_read_numbers"),
             || ffi::read_numbers(black_box(table), *top, black_box(message), &mut lent, &mut numbers),
             || ffi::read(black_box(table), *top, black_box(message), &mut other),
             0,
+            Some(NUMBERS),
         );
         let last = rows.len() - 12;
         let member = u32::from_le_bytes([rows[last], rows[last + 1], rows[last + 2], rows[last + 3]]);
@@ -293,7 +320,103 @@ impl Case {
             || ffi::read(black_box(table), *top, black_box(message), &mut other),
             0,
         );
+        met
     }
+}
+
+/// The types of the record's members in a table: int, bool, double, string, enum.
+fn record_types(spec: &mut Spec) -> [u16; 5] {
+    let [truth, int, double, text] = [0, 3, 6, 7].map(|kind| spec.basic(kind));
+    [int, truth, double, text, spec.enumeration(300)]
+}
+
+/// A class instance of four slices, each with required members and optionals, 1 KB.
+fn record() -> Case {
+    let mut spec = Spec::default();
+    let [int, truth, double, text, state] = record_types(&mut spec);
+    let point = spec.owner(9, &[(double, None), (double, None), (int, None)]);
+    let points = spec.row(10, [point, 0, 0, 0, 0]);
+    let lookup = spec.row(11, [text, int, 0, 0, 0]);
+    let members = [
+        (int, None),
+        (truth, None),
+        (text, None),
+        (state, None),
+        (points, Some(1)),
+        (lookup, Some(2)),
+        (text, Some(30)),
+        (double, Some(31)),
+    ];
+    let mut chain = vec![];
+    for name in [&b"::Cabin"[..], b"::Heated::Cabin", b"::Guarded::Cabin", b"::Frost::Guarded::Cabin"] {
+        chain.push(spec.record(14, chain.last().copied(), name, &members));
+    }
+    let mut values = vec![];
+    for &record in chain.iter().rev() {
+        let first = spec.rows[record as usize].1[0] as usize;
+        let pairs = [&[3][..], &string(5), &[1; 4], &string(9), &[2; 4], &string(7), &[3; 4]].concat();
+        let data = [
+            vec![7; 4],
+            vec![1],
+            string(63),
+            vec![255, 44, 1, 0, 0],
+            [&[4][..], &[9; 80]].concat(),
+            pairs,
+            string(20),
+            vec![6; 8],
+        ];
+        values.extend(data.into_iter().enumerate().map(|(i, value)| (first + i, value)));
+    }
+    Case::new("record of 4 slices", &spec, chain[3], &values)
+}
+
+/// The record as a newer message: the table lacks its most derived class and half of its optionals.
+fn newer(record: &Case) -> Case {
+    let mut spec = Spec::default();
+    let [int, truth, double, text, state] = record_types(&mut spec);
+    let members = [(int, None), (truth, None), (text, None), (state, None), (text, Some(30)), (double, Some(31))];
+    let mut chain = vec![];
+    for name in [&b"::Cabin"[..], b"::Heated::Cabin", b"::Guarded::Cabin"] {
+        chain.push(spec.record(14, chain.last().copied(), name, &members));
+    }
+    let (table, top) = (spec.bytes(), chain[0].into());
+    let mut rows = vec![0; 12 * spec.members.len()];
+    let reading = read(&table, top, &record.message, &mut rows).expect("newer message");
+    assert_eq!((reading.rows, reading.optionals_skipped, reading.slices_skipped), (18, 6, 1));
+    Case { name: "newer message", table, top, format: 1, message: record.message.clone(), rows }
+}
+
+/// A class instance of three slices, each with 20 required members and 20 optionals of all basic kinds.
+fn dense() -> Case {
+    let mut spec = Spec::default();
+    let kinds: [u16; 8] = array::from_fn(|kind| spec.basic(kind as u8));
+    let mut chain = vec![];
+    for (shift, name) in [&b"::Dense::A"[..], b"::Dense::B", b"::Dense::C"].into_iter().enumerate() {
+        let tag = |i: usize| (i >= 20).then_some(i as u32);
+        let members: Vec<_> = (0..40).map(|i| (kinds[(i + shift) % 8], tag(i))).collect();
+        chain.push(spec.record(14, chain.last().copied(), name, &members));
+    }
+    let mut values = vec![];
+    for (shift, &class) in chain.iter().enumerate().rev() {
+        let first = spec.rows[class as usize].1[0] as usize;
+        values.extend((0..40).map(|i| (first + i, basic_value(i + shift))));
+    }
+    Case::new("dense record", &spec, chain[2], &values)
+}
+
+/// A value of a basic kind, by a number whose rest by 8 is the kind.
+fn basic_value(kind: usize) -> Vec<u8> {
+    vec![1; [1, 1, 2, 4, 8, 4, 8, 2][kind % 8]]
+}
+
+/// A parameter list of so many ints.
+fn ints(count: u32, what: &str, tag: impl Fn(u32) -> Option<u32>) -> Case {
+    let mut spec = Spec::default();
+    let int = spec.basic(3);
+    let members: Vec<_> = (0..count).map(|i| (int, tag(i))).collect();
+    let top = spec.owner(15, &members);
+    let values: Vec<_> = (0..count as usize).map(|m| (m, vec![1; 4])).collect();
+    Case::new(format!("{} {what}", grouped(count as usize)).leak(), &spec, top, &values)
 }
 
 /// An exception of four slices without optionals, 1 KB: in encoding 1.1, or in format 2 in 1.0.
@@ -549,12 +672,11 @@ fn compare(
         other_least = other_least.min(round(&mut other, other_calls));
         rounds += 1;
     }
-    // Bars are held with two decimals, as ratios are printed.
-    let ratio = (100.0 * least / other_least).round() / 100.0;
-    let told = bar.map_or(String::new(), |bar| format!("  at most {bar}"));
-    println!("{name:<46} {least:>12.1} {other_least:>12.1} {ratio:>8.2}{told}");
+    let ratio = least / other_least;
+    let told = bar.map_or(format!("{ratio:>8.2}"), |bar| format!("{ratio:>8.3}  at most {bar}"));
+    println!("{name:<46} {least:>12.1} {other_least:>12.1} {told}");
     if ratio > most {
-        return Err(format!("{name}: {ratio:.2}, the bar is {most}"));
+        return Err(format!("{name}: {ratio:.3}, the bar is {most}"));
     }
     Ok(())
 }
@@ -654,9 +776,8 @@ fn logs() -> Vec<String> {
     println!();
     heads("library", "independent");
     let mut bars = vec![];
-    for (long, short) in &logs {
-        let written = (long.name == "20,000 shorts").then_some(WRITTEN);
-        bars.extend([long.run_read(None), long.run_write(written), short.run_read(None), short.run_write(None)]);
+    for case in logs.iter().flat_map(|(long, short)| [long, short]) {
+        bars.extend([case.run_read(Some(READ_LOG)), case.run_write(Some(WRITE))]);
     }
     let (long, short) = &bools;
     bars.extend([long.run_read(Some(BOOLS)), long.run_write(None), short.run_read(None), short.run_write(None)]);
@@ -694,53 +815,23 @@ fn all_but_logs() -> Vec<String> {
     let top = spec.owner(15, &[(short, None), (long, Some(7)), (int, Some(8))]);
     let p2_values = [(0, vec![0x0C, 0xFE]), (1, vec![0, 0, 0, 0, 1, 0, 0, 0]), (2, vec![8, 7, 0, 0])];
     let p2 = Case::new("P2", &spec, top, &p2_values);
-    p2.run();
+    let mut bars: Vec<_> = p2.run_with(Some(READ), Some(WRITE)).into();
 
-    // 1 KB in four slices, each with required members and optionals.
-    let mut spec = Spec::default();
-    let (bool, int, double, string_row) = (spec.basic(0), spec.basic(3), spec.basic(6), spec.basic(7));
-    let state = spec.enumeration(300);
-    let point = spec.owner(9, &[(double, None), (double, None), (int, None)]);
-    let points = spec.row(10, [point, 0, 0, 0, 0]);
-    let lookup = spec.row(11, [string_row, int, 0, 0, 0]);
-    let members = [
-        (int, None),
-        (bool, None),
-        (string_row, None),
-        (state, None),
-        (points, Some(1)),
-        (lookup, Some(2)),
-        (string_row, Some(30)),
-        (double, Some(31)),
-    ];
-    let mut chain = vec![];
-    for name in [&b"::Cabin"[..], b"::Heated::Cabin", b"::Guarded::Cabin", b"::Frost::Guarded::Cabin"] {
-        chain.push(spec.record(14, chain.last().copied(), name, &members));
-    }
-    let mut values = vec![];
-    for &record in chain.iter().rev() {
-        let first = spec.rows[record as usize].1[0] as usize;
-        let pairs = [&[3][..], &string(5), &[1; 4], &string(9), &[2; 4], &string(7), &[3; 4]].concat();
-        let data = [
-            vec![7; 4],
-            vec![1],
-            string(63),
-            vec![255, 44, 1, 0, 0],
-            [&[4][..], &[9; 80]].concat(),
-            pairs,
-            string(20),
-            vec![6; 8],
-        ];
-        values.extend(data.into_iter().enumerate().map(|(i, value)| (first + i, value)));
-    }
-    let record = Case::new("record of 4 slices", &spec, chain[3], &values);
-    record.run();
+    let record = record();
     let compact = compact(&record.message);
+    bars.extend(record.run_with(Some(READ), Some(WRITE_RECORD)));
+    bars.push(Case { name: "compact record", message: compact.clone(), ..record.clone() }.run_read(Some(READ)));
+    bars.push(newer(&record).run_read(Some(READ)));
     record.run_conversion(&compact);
     record.run_setting();
     let (new, old) = (exception(1), exception(2));
-    new.run();
-    old.run();
+    for case in [&new, &old, &dense()] {
+        bars.extend(case.run_with(Some(READ), Some(WRITE_RECORD)));
+    }
+    for count in [33, 128, 1_024] {
+        bars.push(ints(count, "required ints", |_| None).run_read(Some(READ_REQUIRED)));
+        bars.push(ints(count, "optional ints", Some).run_read(Some(READ_OPTIONAL)));
+    }
 
     let mut spec = Spec::default();
     let text = spec.basic(7);
@@ -786,8 +877,7 @@ fn all_but_logs() -> Vec<String> {
     let kinds: Vec<u16> = (0..8).map(|kind| spec.basic(kind)).collect();
     let members: Vec<_> = (0..1_024).map(|i| (kinds[i % 8], if i < 512 { None } else { Some(i as u32) })).collect();
     let top = spec.owner(15, &members);
-    let value = |i: usize| vec![1; [1, 1, 2, 4, 8, 4, 8, 2][i % 8]];
-    let values: Vec<_> = (0..1_024).map(|i| (i, value(i))).collect();
+    let values: Vec<_> = (0..1_024).map(|i| (i, basic_value(i))).collect();
     let many = Case::new("1,024 members", &spec, top, &values);
     many.run();
 
@@ -844,9 +934,7 @@ fn all_but_logs() -> Vec<String> {
     let setting = record.run_setting_call();
     let old_reading = old.run_against(&new);
     let reporting = p2.run_report_call();
-    for case in [p2, record, many] {
-        case.run_calls();
-    }
+    bars.extend([p2, record, many].iter().map(Case::run_calls));
 
     // A night of 10,000 messages of P2, under its table and under one of 1,024 members.
     println!();
@@ -865,7 +953,7 @@ fn all_but_logs() -> Vec<String> {
     println!();
     heads("call", "from_utf8");
     texts.iter().for_each(Case::run_text);
-    let calls = [converting, setting, old_reading, reporting];
-    let bars = calls.into_iter().chain(compared).chain(plans).chain(ten_plans).chain(whole).chain(sheets).chain(single);
-    bars.filter_map(Result::err).collect()
+    bars.extend([converting, setting, old_reading, reporting]);
+    bars.extend(compared.into_iter().chain(plans).chain(ten_plans).chain(whole).chain(sheets).chain(single));
+    bars.into_iter().filter_map(Result::err).collect()
 }

@@ -10,7 +10,7 @@ pub fn sheet(rng: &mut Rng, call: &Call, other: &[u8]) -> Option<Call> {
     let members = night.table.get(7..9).map_or(0, |count| usize::from(count[0]));
     let summable = summable(&night.table);
     let member = match rng.below(20) {
-        0 => rng.number(members) as u32,
+        0 => rng.number(members),
         1 => rng.below(members.max(1)) as u32,
         _ if summable.is_empty() => 0,
         _ => rng.pick(&summable),
