@@ -6,6 +6,7 @@
 --   old-put, new-put             the front, by the encoding
 --   bare-old, bare-new           how many bytes of it are not the type ID's
 --   slice-laid                   the front put before the data
+--   slice-measured               the same where nothing is put
 use mathlib.Core.Path.{_≡_, refl, sym, ap, _∙_}
 use mathlib.Core.Bool.{Bool, true, false}
 use mathlib.Core.List.{List, [], _∷_}
@@ -19,16 +20,17 @@ use Rattle.encoding.specs.Slice.{sliced, worth, flagBits, anyOptional, dataByte
 use Rattle.encoding.specs.Table.{nameOf}
 use Rattle.wire.specs.Put.{put}
 use Rattle.writer.specs.declared.Laid.{Laid}
+use Rattle.pieces.specs.Cursors.{Cursor, dueAt}
 use Rattle.pieces.specs.Puts.{Puts}
-use Rattle.pieces.specs.PutsLaws.{puts-none, puts-is, puts-number, puts-byte, puts-then, puts-under}
+use Rattle.pieces.specs.PutsLaws.{puts-none, puts-is, puts-measured, puts-number, puts-byte, puts-then, puts-under}
 use Rattle.writer.specs.Slices.{groupOf, sliceOf, frontField, pairField, frontOf, sliceField, Judges, RowsPut, DataPut, SlicePut}
 
 -- ---- the data
 
-pub still-wrong : (T : List ℕ) (old : Bool) (rows buffer : List ℕ) (judged : Bool) (count o i : ℕ) (r : Laid) (A B : Type 0) → Judges T old rows buffer judged count o i r A → (r .fault ≡ 0 → ⊥) → Judges T old rows buffer judged count o i r B
-still-wrong T old rows buffer judged count o i r A B j n = record { right = λ e. absurd (n e); wrong = j .wrong }
+pub still-wrong : (T : List ℕ) (old : Bool) (rows buffer : List ℕ) (judged : Bool) (count : ℕ) (c : Cursor) (i : ℕ) (r : Laid) (A B : Type 0) → Judges T old rows buffer judged count c i r A → (r .fault ≡ 0 → ⊥) → Judges T old rows buffer judged count c i r B
+still-wrong T old rows buffer judged count c i r A B j n = record { right = λ e. absurd (n e); wrong = j .wrong }
 
-module _ (T : List ℕ) (old : Bool) (rows buffer : List ℕ) (judged : Bool) (count o i at : ℕ) (out mid : List ℕ) (d : Laid) (j : RowsPut T old rows buffer judged count o i at out mid d) (z : d .fault ≡ 0) where
+module _ (T : List ℕ) (old : Bool) (rows buffer : List ℕ) (judged : Bool) (count o i at : ℕ) (out mid : List ℕ) (d : Laid) (j : RowsPut T old rows buffer judged count (dueAt o 0) i at out mid d) (z : d .fault ≡ 0) where
   pub data-marked : d .optionals ≡ true → (last : List ℕ) → last ≡ put (d .end) (leBytes 1 255) mid
       → DataPut T old rows buffer judged count o i at out last (record { end = d .end + 1; row = d .row; optionals = true; fault = 0 })
   unfolding dataBytes sliceOf
@@ -140,3 +142,10 @@ slice-laid T old rows buffer judged count o i at end b k n e out mid last d eb h
       };
       wrong = λ r. absurd (r z);
     }
+
+pub slice-measured : (T : List ℕ) (old : Bool) (rows buffer : List ℕ) (judged : Bool) (count o i at : ℕ) (end : Bool) (b k : ℕ) (d : Laid)
+    → b ≡ pick old 4 5 → b ≤ 5 → k ≡ length (stringBytes (nameOf T o)) → k ≤ 65540 → DataPut T old rows buffer judged count o i (at + b + k) [] [] d → d .fault ≡ 0
+    → SlicePut T old rows buffer judged count end o i at [] [] d
+slice-measured T old rows buffer judged count o i at end b k d eb hb ek h j z =
+    slice-laid T old rows buffer judged count o i at end b k (d .end - (at + b + k)) _ [] [] [] d eb hb ek h j z refl
+    (puts-measured at (frontOf T o old (d .optionals) end (d .end - (at + b + k))) _ refl)

@@ -2,9 +2,11 @@
 --
 --   Slicing, slicing-..                             what the loop over the owners of a chain keeps
 --   list-over, list-made                            a parameter list
+--   lead-class, -old, -new                          how many bytes come before the slices
 --   contents-class, -old, -other                    the data of an encapsulation of another kind
 --   version-old, version-new                        the version
 --   message-made, message-wrong                     size and version put before the data, if the rows are right
+--   list-wrong, -short, -measured, slices-measured  the message where nothing is put, of a parameter list and of slices
 use mathlib.Core.Path.{_≡_, refl, sym, ap, _∙_}
 use mathlib.Core.Bool.{Bool, true, false}
 use mathlib.Core.List.{List, [], _∷_, _++_, append-assoc}
@@ -12,6 +14,7 @@ use Prim.Native.Nat.{ℕ, zero, suc, _+_, _-_, _*_, _≤_, _<_}
 use native.Mathlib.Omega.{arith}
 use lib.ListN.{length}
 use lib.Dec.{eqb}
+use Rattle.encoding.specs.Result.{pick}
 use borrow.Author.Tests.{lt-ltb, le-ltb, eq-eqb, ne-eqb}
 use Rattle.encoding.specs.Number.{leBytes}
 use Rattle.encoding.specs.Table.{kind, base, upward, chain}
@@ -24,13 +27,13 @@ use Rattle.wire.specs.Put.{put}
 use Rattle.writer.specs.declared.Laid.{Laid}
 use Rattle.writer.specs.declared.Put.{Put}
 use Rattle.writer.specs.declared.Put.the-variants.{Made, Wrong}
-use Rattle.pieces.specs.Cursors.{start, stateOf}
+use Rattle.pieces.specs.Cursors.{dueAt, stateOf}
 use Rattle.pieces.specs.Judged.{verdictFrom, verdictAbove, Gives}
 use Rattle.pieces.specs.JudgedLaws.{gives-then}
 use Rattle.pieces.specs.Puts.{Puts, Leaves}
-use Rattle.pieces.specs.PutsLaws.{puts-is, puts-number, puts-byte, puts-then, puts-under, leaves-begin, leaves-next, leaves-end}
+use Rattle.pieces.specs.PutsLaws.{put-empty, puts-is, puts-measured, puts-number, puts-byte, puts-then, puts-under, leaves-begin, leaves-next, leaves-end}
 use Rattle.writer.specs.Slices.{encodingAs, groupOf, sliceOf, slicesFrom, frontField, pairField, frontOf, sliceField, RowsPut, SlicePut}
-use Rattle.writer.specs.Messages.{versionOf, contentsOf, AllPut}
+use Rattle.writer.specs.Messages.{versionOf, leadOf, contentsOf, AllPut}
 
 -- ---- the last owner
 
@@ -72,7 +75,7 @@ pub record Slicing (T : List ℕ) (old : Bool) (rows buffer : List ℕ) (judged 
   pub stand : Stand
   pub named : due stand sliced ≡ true
   pub leaves : Leaves begin (slicesBytes (encodingAs old) first (slicesFrom T rows buffer count 0 (chain T t))) lent at (slicesBytes (encodingAs old) stand (slicesFrom T rows buffer count i (chain T o))) mid
-  pub rest : Gives judged (verdictFrom T old rows buffer count (stateOf T (start t)) 0) (verdictFrom T old rows buffer count (stateOf T (start o)) i)
+  pub rest : Gives judged (verdictFrom T old rows buffer count (stateOf T (dueAt t 0)) 0) (verdictFrom T old rows buffer count (stateOf T (dueAt o 0)) i)
   pub within : i ≤ count
   pub below : o ≤ t
   pub few : at ≤ begin + 66000 * (i + (t - o))
@@ -108,7 +111,7 @@ module _ (T : List ℕ) (old : Bool) (rows buffer : List ℕ) (judged : Bool) (c
         (slices-more T rows buffer count old (w .stand) o i (w .named) ∙ ap (λ (z : List ℕ). z ++ slicesBytes (encodingAs old) (laterAs (encodingAs old)) (behind T rows buffer count o i (base T o))) b ∙ rw e)
         (j .right f .puts)
 
-    verdict-left : Gives judged (verdictFrom T old rows buffer count (stateOf T (start t)) 0) (verdictAbove T old rows buffer count up (d .row))
+    verdict-left : Gives judged (verdictFrom T old rows buffer count (stateOf T (dueAt t 0)) 0) (verdictAbove T old rows buffer count up (d .row))
     verdict-left a = gives-then judged _ _ _ (w .rest) (j .right f .rest) a ∙ ap (λ (x : ℕ). verdictAbove T old rows buffer count x (d .row)) (sym e)
 
     module _ (z : up ≡ 0) where
@@ -136,12 +139,26 @@ module _ (T : List ℕ) (old : Bool) (rows buffer : List ℕ) (judged : Bool) (c
 
 -- ---- the message
 
+module _ (k : ℕ) (old : Bool) where
+  pub lead-class : k ≡ 14 → 1 ≡ length (leadOf k old)
+  unfolding leadOf
+  lead-class z = rw (eq-eqb k 14 z)
+
+  module _ (z : k ≡ 14 → ⊥) where
+    pub lead-old : old ≡ true → 1 ≡ length (leadOf k old)
+    unfolding leadOf
+    lead-old q = rw (ne-eqb k 14 z, q)
+
+    pub lead-new : old ≡ false → 0 ≡ length (leadOf k old)
+    unfolding leadOf
+    lead-new q = rw (ne-eqb k 14 z, q)
+
 no-base : (T : List ℕ) (t : ℕ) → kind T t ≡ 15 → base T t ≡ 0
 unfolding base
 no-base T t e = rw e
 
-module _ (T : List ℕ) (old : Bool) (rows buffer : List ℕ) (judged : Bool) (count t k : ℕ) (ek : k ≡ kind T t) (z : k ≡ 15) (lent last : List ℕ) (d : Laid) (j : RowsPut T old rows buffer judged count t 0 6 lent last d) (f : d .fault ≡ 0) where
-  pub list-over : d .row < count → Gives judged (verdictFrom T old rows buffer count (stateOf T (start t)) 0) (stop 20 (d .row))
+module _ (T : List ℕ) (old : Bool) (rows buffer : List ℕ) (judged : Bool) (count t k : ℕ) (ek : k ≡ kind T t) (z : k ≡ 15) (lent last : List ℕ) (d : Laid) (j : RowsPut T old rows buffer judged count (dueAt t 0) 0 6 lent last d) (f : d .fault ≡ 0) where
+  pub list-over : d .row < count → Gives judged (verdictFrom T old rows buffer count (stateOf T (dueAt t 0)) 0) (stop 20 (d .row))
   list-over h a = j .right f .rest a ∙ above-over T old rows buffer count (base T t) (d .row) (no-base T t (sym ek ∙ z)) h
 
   pub list-made : count ≤ d .row → AllPut T old rows buffer judged count t 6 (contentsOf T old rows buffer count t) lent last (Made (d .end))
@@ -214,3 +231,41 @@ module _ (T : List ℕ) (old : Bool) (rows buffer : List ℕ) (judged : Bool) (c
 
   pub message-wrong : (n p : ℕ) → r ≡ Wrong n p → AllPut T old rows buffer judged count t 0 (encapsulate (encodingAs old) b) lent one (Wrong n p)
   message-wrong n p q = rw q at j
+
+-- ---- the message, measured
+
+module _ (T : List ℕ) (old : Bool) (rows buffer : List ℕ) (count t k : ℕ) (ek : k ≡ kind T t) where
+  -- the message of data that are measured
+  measured : (r : Put) → AllPut T old rows buffer false count t 6 (contentsOf T old rows buffer count t) [] [] r
+      → AllPut T old rows buffer false count t 0 (encapsulate (encodingAs old) (contentsOf T old rows buffer count t)) [] [] r
+  measured (Made n) j = message-made T old rows buffer false count t _ [] [] (Made n) j n refl (versionOf old) refl [] [] (put-empty 0 _) (put-empty 4 _)
+  measured (Wrong n p) j = j
+
+  module _ (z : k ≡ 15) (d : Laid) (j : RowsPut T old rows buffer false count (dueAt t 0) 0 6 [] [] d) where
+    pub list-wrong : (d .fault ≡ 0 → ⊥) → AllPut T old rows buffer false count t 0 (encapsulate (encodingAs old) (contentsOf T old rows buffer count t)) [] [] (Wrong (d .fault) (d .row))
+    list-wrong n = j .wrong n
+
+    module _ (f : d .fault ≡ 0) where
+      pub list-short : d .row < count → AllPut T old rows buffer false count t 0 (encapsulate (encodingAs old) (contentsOf T old rows buffer count t)) [] [] (Wrong 20 (d .row))
+      list-short h = list-over T old rows buffer false count t k ek z [] [] d j f h
+
+      pub list-measured : count ≤ d .row → AllPut T old rows buffer false count t 0 (encapsulate (encodingAs old) (contentsOf T old rows buffer count t)) [] [] (Made (d .end))
+      list-measured h = measured (Made (d .end)) (list-made T old rows buffer false count t k ek z [] [] d j f h)
+
+  module _ (n : k ≡ 15 → ⊥) where
+    contents-lead : contentsOf T old rows buffer count t ≡ leadOf k old ++ slicesBytes (encodingAs old) first (slicesFrom T rows buffer count 0 (chain T t))
+    unfolding contentsOf leadOf
+    contents-lead = rw (ne-eqb (kind T t) 15 (λ h. n (ek ∙ h)), ek) (go (eqb (kind T t) 14))
+      where
+        go : (b : Bool) → pick b (1 ∷ slicesBytes (encodingAs old) first (slicesFrom T rows buffer count 0 (chain T t))) (lead (encodingAs old) ++ slicesBytes (encodingAs old) first (slicesFrom T rows buffer count 0 (chain T t)))
+            ≡ pick b (1 ∷ []) (lead (encodingAs old)) ++ slicesBytes (encodingAs old) first (slicesFrom T rows buffer count 0 (chain T t))
+        go true = refl
+        go false = refl
+
+    pub slices-measured : (l : ℕ) → l ≡ length (leadOf k old) → (r : Put)
+        → AllPut T old rows buffer false count t (6 + l) (slicesBytes (encodingAs old) first (slicesFrom T rows buffer count 0 (chain T t))) [] [] r
+        → AllPut T old rows buffer false count t 0 (encapsulate (encodingAs old) (contentsOf T old rows buffer count t)) [] [] r
+    slices-measured l el r j =
+        measured r
+        (all-put T old rows buffer false count t k ek [] [] (6 + l) 6 _ _ [] r
+        (λ e q. puts-is 6 _ _ [] [] e (sym contents-lead) (puts-then 6 (leadOf k old) [] [] (6 + l) (puts-measured 6 (leadOf k old) (6 + l) (ap (λ (x : ℕ). 6 + x) el)) _ [] e q)) j)

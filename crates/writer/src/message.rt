@@ -1,7 +1,8 @@
-// Checks the rows and puts the slices of a chain, and a message. `old` says that the encoding is 1.0.
+// Puts the slices of a chain, and a message. The rows were checked before. `old` says that the encoding is 1.0.
 use crate::Put;
 use crate::slice;
 ghost use mathlib.Core.Path.{_≡_};
+ghost use mathlib.Core.Bool.{true};
 ghost use Prim.Native.Nat.{_≤_, _<_};
 ghost use lib.ListN.{length};
 ghost use Rattle.encoding.specs.Table.{typesAt, chain};
@@ -11,7 +12,7 @@ ghost use Rattle.shapes.specs.Shapes.{shapesOf};
 ghost use Rattle.writer.specs.Slices.{encodingAs, slicesFrom};
 ghost use Rattle.writer.specs.Messages.{versionOf, contentsOf, AllPut};
 
-// Checks the rows and puts the slices of row t and its bases.
+// Puts the slices of row t and its bases.
 fn put_slices(
     table: &[u8],
     begin: usize,
@@ -20,7 +21,6 @@ fn put_slices(
     start: usize,
     t: usize,
     old: bool,
-    judged: bool,
     count: usize,
     rows: &[u8],
     buffer: &[u8],
@@ -28,7 +28,7 @@ fn put_slices(
     requires { ⌜ begin ≡ typesAt (now table) ⌝ }
     requires { ⌜ now shapes ≡ shapesOf (now table) ⌝ }
     requires { ⌜ (start ≤ 7) × (t < 65536) × (count ≤ 4294967296) × (length (now buffer) ≤ 65536) ⌝ }
-    ensures { λ r. ⌜ AllPut (now (table .entry)) old (now (rows .entry)) (now (buffer .entry)) judged count t start (slicesBytes (encodingAs old) first (slicesFrom (now (table .entry)) (now (rows .entry)) (now (buffer .entry)) count 0 (chain (now (table .entry)) t))) (now (out .entry)) (now (out .exit)) r ⌝ }
+    ensures { λ r. ⌜ AllPut (now (table .entry)) old (now (rows .entry)) (now (buffer .entry)) true count t start (slicesBytes (encodingAs old) first (slicesFrom (now (table .entry)) (now (rows .entry)) (now (buffer .entry)) count 0 (chain (now (table .entry)) t))) (now (out .entry)) (now (out .exit)) r ⌝ }
 {
     let mut at = start;
     let mut o = t;
@@ -45,7 +45,6 @@ fn put_slices(
             up == 0,
             i,
             old,
-            judged,
             count,
             rows,
             buffer,
@@ -65,7 +64,7 @@ fn put_slices(
     }
 }
 
-// Checks the rows and puts the data of an encapsulation: a parameter list, a class instance after its marker, or an exception, in 1.0 after its header byte.
+// Puts the data of an encapsulation: a parameter list, a class instance after its marker, or an exception, in 1.0 after its header byte.
 fn put_contents(
     table: &[u8],
     begin: usize,
@@ -73,7 +72,6 @@ fn put_contents(
     out: &mut [u8],
     t: usize,
     old: bool,
-    judged: bool,
     count: usize,
     rows: &[u8],
     buffer: &[u8],
@@ -81,24 +79,11 @@ fn put_contents(
     requires { ⌜ begin ≡ typesAt (now table) ⌝ }
     requires { ⌜ now shapes ≡ shapesOf (now table) ⌝ }
     requires { ⌜ (t < 65536) × (count ≤ 4294967296) × (length (now buffer) ≤ 65536) ⌝ }
-    ensures { λ r. ⌜ AllPut (now (table .entry)) old (now (rows .entry)) (now (buffer .entry)) judged count t 6 (contentsOf (now (table .entry)) old (now (rows .entry)) (now (buffer .entry)) count t) (now (out .entry)) (now (out .exit)) r ⌝ }
+    ensures { λ r. ⌜ AllPut (now (table .entry)) old (now (rows .entry)) (now (buffer .entry)) true count t 6 (contentsOf (now (table .entry)) old (now (rows .entry)) (now (buffer .entry)) count t) (now (out .entry)) (now (out .exit)) r ⌝ }
 {
     let k = table::kind(table, begin, t);
     if k == 15 {
-        let d = slice::put_rows(
-            table,
-            begin,
-            shapes,
-            out,
-            6,
-            t,
-            0,
-            old,
-            judged,
-            count,
-            rows,
-            buffer,
-        );
+        let d = slice::put_rows(table, begin, shapes, out, 6, t, 0, old, count, rows, buffer);
         if d.fault != 0 {
             return Put::Wrong(d.fault, d.row);
         }
@@ -109,49 +94,13 @@ fn put_contents(
     }
     if k == 14 {
         wire::put_number(out, 6, 1, 1);
-        return put_slices(
-            table,
-            begin,
-            shapes,
-            out,
-            7,
-            t,
-            old,
-            judged,
-            count,
-            rows,
-            buffer,
-        );
+        return put_slices(table, begin, shapes, out, 7, t, old, count, rows, buffer);
     }
     if old {
         wire::put_number(out, 6, 1, 0);
-        return put_slices(
-            table,
-            begin,
-            shapes,
-            out,
-            7,
-            t,
-            old,
-            judged,
-            count,
-            rows,
-            buffer,
-        );
+        return put_slices(table, begin, shapes, out, 7, t, old, count, rows, buffer);
     }
-    put_slices(
-        table,
-        begin,
-        shapes,
-        out,
-        6,
-        t,
-        old,
-        judged,
-        count,
-        rows,
-        buffer,
-    )
+    put_slices(table, begin, shapes, out, 6, t, old, count, rows, buffer)
 }
 
 // The version's two bytes as a number: 1.0 or 1.1.
@@ -164,7 +113,7 @@ fn version(old: bool) -> usize
     257
 }
 
-// Checks the rows and puts the message: the data, then the size and the version before them.
+// Puts the message: the data, then the size and the version before them.
 pub fn put_message(
     table: &[u8],
     begin: usize,
@@ -172,7 +121,6 @@ pub fn put_message(
     out: &mut [u8],
     t: usize,
     old: bool,
-    judged: bool,
     count: usize,
     rows: &[u8],
     buffer: &[u8],
@@ -180,20 +128,9 @@ pub fn put_message(
     requires { ⌜ begin ≡ typesAt (now table) ⌝ }
     requires { ⌜ now shapes ≡ shapesOf (now table) ⌝ }
     requires { ⌜ (t < 65536) × (count ≤ 4294967296) × (length (now buffer) ≤ 65536) ⌝ }
-    ensures { λ r. ⌜ AllPut (now (table .entry)) old (now (rows .entry)) (now (buffer .entry)) judged count t 0 (encapsulate (encodingAs old) (contentsOf (now (table .entry)) old (now (rows .entry)) (now (buffer .entry)) count t)) (now (out .entry)) (now (out .exit)) r ⌝ }
+    ensures { λ r. ⌜ AllPut (now (table .entry)) old (now (rows .entry)) (now (buffer .entry)) true count t 0 (encapsulate (encodingAs old) (contentsOf (now (table .entry)) old (now (rows .entry)) (now (buffer .entry)) count t)) (now (out .entry)) (now (out .exit)) r ⌝ }
 {
-    let put = put_contents(
-        table,
-        begin,
-        shapes,
-        out,
-        t,
-        old,
-        judged,
-        count,
-        rows,
-        buffer,
-    );
+    let put = put_contents(table, begin, shapes, out, t, old, count, rows, buffer);
     match put {
         Put::Made(n) => {
             wire::put_number(out, 0, 4, n);

@@ -1,6 +1,7 @@
 -- The loop's invariant: the slices from the owner at hand on are still to be put, and the rows left decide the answer. The measure is the owner, since a base is smaller. Assumes nothing.
 use borrow.Author.Needs.{needs}
 use mathlib.Core.Path.{_≡_, refl}
+use mathlib.Core.Bool.{true}
 use native.Mathlib.Omega.{arith}
 use lib.ListN.{length}
 use Rattle.writer.proofs.Walks.{Slicing, slicing-begin, slicing-wrong, slicing-over, slicing-end, slicing-next}
@@ -8,10 +9,10 @@ use Rattle.writer.proofs.message.put_slices.Statement.{statement}
 use Rattle.writer.proofs.message.put_slices.Tie as tie
 
 abbrev Inv-loop : tie.InvT-loop
-Inv-loop table begin shapes out₀ start t old judged count rows buffer at₀ o₀ i₀ out at o i = (length out ≡ length out₀) × Slicing table old rows buffer judged count t start out₀ at o i out
+Inv-loop table begin shapes out₀ start t old count rows buffer at₀ o₀ i₀ out at o i = (length out ≡ length out₀) × Slicing table old rows buffer true count t start out₀ at o i out
 
 abbrev μ-loop : tie.MeasureT-loop
-μ-loop table begin shapes out₀ start t old judged count rows buffer at₀ o₀ i₀ out at o i = o
+μ-loop table begin shapes out₀ start t old count rows buffer at₀ o₀ i₀ out at o i = o
 
 pub put-slices-spec : {M : Type 1} → statement M
 put-slices-spec =
