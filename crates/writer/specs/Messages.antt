@@ -1,7 +1,8 @@
 -- The message that the rows make, as the code puts it.
 --
 --   versionOf     the version as a number of two bytes
---   leadOf        what comes before the slices
+--   leadOf        what comes before the members or slices
+--   partsOf       the members of a parameter list, or the slices of a record
 --   contentsOf    the data of the encapsulation
 --   AllPut        every row is right and bytes are put; or the verdict is the rows' refusal
 --   written       what follows the judgements before the rows: the message or a refusal
@@ -31,7 +32,12 @@ versionOf old = pick old version10 version11
 
 -- of a type of kind k: the marker of a class instance, in 1.0 the header byte of an exception
 unfoldable pub leadOf : ℕ → Bool → List ℕ
-leadOf k old = pick (eqb k 14) (1 ∷ []) (lead (encodingAs old))
+leadOf k old = pick (eqb k 15) [] (pick (eqb k 14) (1 ∷ []) (lead (encodingAs old)))
+
+-- the members of a parameter list, or the slices of a record
+unfoldable pub partsOf : List ℕ → Bool → Bool → List ℕ → List ℕ → ℕ → ℕ → List ℕ
+partsOf T old list rows buffer count t =
+    pick list (concat pieceBytes (groupOf T rows buffer count t 0)) (slicesBytes (encodingAs old) first (slicesFrom T rows buffer count 0 (chain T t)))
 
 -- a parameter list, a class instance after its marker, or an exception, in 1.0 after its header byte
 unfoldable pub contentsOf : List ℕ → Bool → List ℕ → List ℕ → ℕ → ℕ → List ℕ

@@ -5,11 +5,12 @@
 --   slicesFrom             the slices of owners, one after another, from row i on
 --   encodingAs             1.0 if old, else 1.1 sliced
 --   frontField, pairField  all that comes before a slice's data: flags, type ID, size; in 1.0 type ID and size. frontOf: by the encoding
+--   endMark                the end marker, after optionals
 --   Grouping               what the loops over the rows of an owner keep; bytes of the buffer may wait to be put
 --   RowsLaid, DataLaid, SliceLaid   what is put of an owner's rows, of its slice's data, of its slice, and what the code answers of it
 --   Judges                 the owner's rows are right and that much is put; or the verdict is their refusal
 --   RequiredsPut           the code's answer to the rows of required members: then the rows of optional ones are to come
---   RowsPut, DataPut, SlicePut      the code's answers
+--   RowsPut, DataPut, SlicePut      the code's answers; PartPut: of a parameter list or a slice
 use mathlib.Core.Path.{_≡_}
 use mathlib.Core.Bool.{Bool, true, false, _||_}
 use mathlib.Core.List.{List, [], _∷_, _++_}
@@ -87,6 +88,9 @@ sliceField T old rows buffer count last o i =
     frontOf T o old (anyOptional (groupOf T rows buffer count o i)) last (length (dataBytes (sliceOf T rows buffer count o i)))
     ++ dataBytes (sliceOf T rows buffer count o i)
 
+abbrev pub endMark : Bool → List ℕ
+endMark optionals = pick optionals (255 ∷ []) []
+
 pub record SliceLaid (T : List ℕ) (old : Bool) (rows buffer : List ℕ) (judged : Bool) (count : ℕ) (end : Bool) (o i at : ℕ) (out last : List ℕ) (r : Laid) : Type 0 where
   pub puts : Puts at (sliceField T old rows buffer count end o i) out last (r .end)
   pub next : r .row ≡ i + length (groupOf T rows buffer count o i)
@@ -110,3 +114,8 @@ DataPut T old rows buffer judged count o i at out last r = Judges T old rows buf
 
 abbrev pub SlicePut : List ℕ → Bool → List ℕ → List ℕ → Bool → ℕ → Bool → ℕ → ℕ → ℕ → List ℕ → List ℕ → Laid → Type 0
 SlicePut T old rows buffer judged count end o i at out last r = Judges T old rows buffer judged count (dueAt o 0) i r (SliceLaid T old rows buffer judged count end o i at out last r)
+
+-- the rows of a parameter list, which has neither front nor end marker, or a slice
+abbrev pub PartPut : List ℕ → Bool → List ℕ → List ℕ → Bool → ℕ → Bool → Bool → ℕ → ℕ → ℕ → List ℕ → List ℕ → Laid → Type 0
+PartPut T old rows buffer judged count true end o i at out last r = RowsPut T old rows buffer judged count (dueAt o 0) i at out last r
+PartPut T old rows buffer judged count false end o i at out last r = SlicePut T old rows buffer judged count end o i at out last r

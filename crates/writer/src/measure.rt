@@ -10,13 +10,13 @@ ghost use mathlib.Core.Bool.{false};
 ghost use mathlib.Core.List.{[]};
 ghost use Prim.Native.Nat.{_+_, _≤_, _<_};
 ghost use lib.ListN.{length};
-ghost use Rattle.encoding.specs.Table.{typesAt, membersAt, members, field, chain};
-ghost use Rattle.encoding.specs.Slice.{first};
-ghost use Rattle.encoding.specs.Message.{slicesBytes, encapsulate};
+ghost use lib.Dec.{eqb};
+ghost use Rattle.encoding.specs.Table.{typesAt, membersAt, members, kind, field};
+ghost use Rattle.encoding.specs.Message.{encapsulate};
 ghost use Rattle.shapes.specs.Shapes.{shapesOf};
 ghost use Rattle.pieces.specs.Cursors.{dueAt, mayAt};
-ghost use Rattle.writer.specs.Slices.{encodingAs, slicesFrom, RequiredsPut, RowsPut, SlicePut};
-ghost use Rattle.writer.specs.Messages.{leadOf, contentsOf, AllPut};
+ghost use Rattle.writer.specs.Slices.{encodingAs, endMark, RequiredsPut, RowsPut, PartPut};
+ghost use Rattle.writer.specs.Messages.{leadOf, partsOf, contentsOf, AllPut};
 
 // Checks and measures the rows of the required members of owner o, from row `from` on. Its member rows are the b rows from a on.
 fn measure_requireds(
@@ -234,13 +234,24 @@ fn measure_rows(
     )
 }
 
-// Checks the rows of owner o and measures its slice.
-fn measure_slice(
+// How many bytes the end marker takes, which a slice has after optionals.
+fn end_len(optionals: bool) -> usize
+    ensures { λ r. ⌜ (r ≡ length (endMark optionals)) × (r ≤ 1) ⌝ }
+{
+    if optionals {
+        return 1;
+    }
+    0
+}
+
+// Checks the rows of owner o and measures its slice; of a parameter list the rows alone.
+fn measure_part(
     table: &[u8],
     begin: usize,
     shapes: &[u8; 256],
     at: usize,
     o: usize,
+    list: bool,
     last: bool,
     from: usize,
     old: bool,
@@ -251,9 +262,9 @@ fn measure_slice(
     requires { ⌜ begin ≡ typesAt (now table) ⌝ }
     requires { ⌜ now shapes ≡ shapesOf (now table) ⌝ }
     requires { ⌜ (at ≤ 288230376151711744) × (from ≤ count) × (count ≤ 4294967296) × (length (now buffer) ≤ 65536) ⌝ }
-    ensures { λ r. ⌜ SlicePut (now (table .entry)) old (now (rows .entry)) (now (buffer .entry)) false count last o from at [] [] r ⌝ }
+    ensures { λ r. ⌜ PartPut (now (table .entry)) old (now (rows .entry)) (now (buffer .entry)) false count list last o from at [] [] r ⌝ }
 {
-    let start = at + slice::bare_len(old) + slice::id_len(table, begin, o);
+    let start = at + slice::front_len(table, begin, o, list, old);
     let d = measure_rows(
         table,
         begin,
@@ -269,24 +280,25 @@ fn measure_slice(
     if d.fault != 0 {
         return d;
     }
-    if d.optionals {
-        return Laid {
-            end: d.end + 1,
-            row: d.row,
-            optionals: true,
-            fault: 0,
-        };
+    if list {
+        return d;
     }
-    d
+    Laid {
+        end: d.end + end_len(d.optionals),
+        row: d.row,
+        optionals: d.optionals,
+        fault: 0,
+    }
 }
 
-// Checks the rows and measures the slices of row t and its bases.
-fn measure_slices(
+// Checks the rows and measures the members of a parameter list t, or the slices of row t and its bases.
+fn measure_parts(
     table: &[u8],
     begin: usize,
     shapes: &[u8; 256],
     start: usize,
     t: usize,
+    list: bool,
     old: bool,
     count: usize,
     rows: &[u8],
@@ -294,20 +306,22 @@ fn measure_slices(
 ) -> Put
     requires { ⌜ begin ≡ typesAt (now table) ⌝ }
     requires { ⌜ now shapes ≡ shapesOf (now table) ⌝ }
+    requires { ⌜ list ≡ eqb (kind (now table) t) 15 ⌝ }
     requires { ⌜ (start ≤ 7) × (t < 65536) × (count ≤ 4294967296) × (length (now buffer) ≤ 65536) ⌝ }
-    ensures { λ r. ⌜ AllPut (now (table .entry)) old (now (rows .entry)) (now (buffer .entry)) false count t start (slicesBytes (encodingAs old) first (slicesFrom (now (table .entry)) (now (rows .entry)) (now (buffer .entry)) count 0 (chain (now (table .entry)) t))) [] [] r ⌝ }
+    ensures { λ r. ⌜ AllPut (now (table .entry)) old (now (rows .entry)) (now (buffer .entry)) false count t start (partsOf (now (table .entry)) old list (now (rows .entry)) (now (buffer .entry)) count t) [] [] r ⌝ }
 {
     let mut at = start;
     let mut o = t;
     let mut i = 0;
     loop {
         let up = table::chain::base(table, begin, o);
-        let d = measure_slice(
+        let d = measure_part(
             table,
             begin,
             shapes,
             at,
             o,
+            list,
             up == 0,
             i,
             old,
@@ -330,10 +344,13 @@ fn measure_slices(
     }
 }
 
-// How many bytes come before the slices: the marker of a class instance, in 1.0 the header byte of an exception.
+// How many bytes come before the members or slices: the marker of a class instance, in 1.0 the header byte of an exception.
 fn lead_len(k: usize, old: bool) -> usize
     ensures { λ r. ⌜ (r ≡ length (leadOf k old)) × (r ≤ 1) ⌝ }
 {
+    if k == 15 {
+        return 0;
+    }
     if k == 14 {
         return 1;
     }
@@ -360,22 +377,14 @@ pub fn measure(
     ensures { λ r. ⌜ AllPut (now (table .entry)) old (now (rows .entry)) (now (buffer .entry)) false count t 0 (encapsulate (encodingAs old) (contentsOf (now (table .entry)) old (now (rows .entry)) (now (buffer .entry)) count t)) [] [] r ⌝ }
 {
     let k = table::kind(table, begin, t);
-    if k == 15 {
-        let d = measure_rows(table, begin, shapes, 6, t, 0, old, count, rows, buffer);
-        if d.fault != 0 {
-            return Put::Wrong(d.fault, d.row);
-        }
-        if d.row < count {
-            return Put::Wrong(20, d.row);
-        }
-        return Put::Made(d.end);
-    }
-    measure_slices(
+    let lead = lead_len(k, old);
+    measure_parts(
         table,
         begin,
         shapes,
-        6 + lead_len(k, old),
+        6 + lead,
         t,
+        k == 15,
         old,
         count,
         rows,

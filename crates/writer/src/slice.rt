@@ -12,7 +12,7 @@ ghost use Rattle.encoding.specs.Table.{typesAt, membersAt, members, field, name
 ghost use Rattle.shapes.specs.Shapes.{shapesOf};
 ghost use Rattle.pieces.specs.Puts.{Puts};
 ghost use Rattle.pieces.specs.Cursors.{dueAt, mayAt};
-ghost use Rattle.writer.specs.Slices.{frontField, pairField, frontOf, RequiredsPut, RowsPut, DataPut, SlicePut};
+ghost use Rattle.writer.specs.Slices.{frontField, pairField, frontOf, endMark, RequiredsPut, RowsPut, PartPut};
 
 // Puts the rows of the required members of owner o, from row `from` on. Its member rows are the b rows from a on.
 // Rows whose parts follow one another in the buffer are put by one copy: `len` bytes from `place` on are still to be put.
@@ -248,51 +248,16 @@ fn put_id(table: &[u8], begin: usize, out: &mut [u8], at: usize, o: usize) -> us
     at + k + n
 }
 
-// Puts a slice's data: the rows and, after optionals, byte 255.
-fn put_data(
-    table: &[u8],
-    begin: usize,
-    shapes: &[u8; 256],
-    out: &mut [u8],
-    start: usize,
-    o: usize,
-    first: usize,
-    old: bool,
-    count: usize,
-    rows: &[u8],
-    buffer: &[u8],
-) -> Laid
-    requires { ⌜ begin ≡ typesAt (now table) ⌝ }
-    requires { ⌜ now shapes ≡ shapesOf (now table) ⌝ }
-    requires { ⌜ (start ≤ 576460752303423488) × (first ≤ count) × (count ≤ 4294967296) × (length (now buffer) ≤ 65536) ⌝ }
-    ensures { λ r. ⌜ DataPut (now (table .entry)) old (now (rows .entry)) (now (buffer .entry)) true count o first start (now (out .entry)) (now (out .exit)) r ⌝ }
+// Puts byte 255 after the optionals of a slice, if it has any, and returns its end.
+fn put_end(out: &mut [u8], at: usize, optionals: bool) -> usize
+    requires { ⌜ at ≤ 864691128455135232 ⌝ }
+    ensures { λ r. ⌜ Puts at (endMark optionals) (now (out .entry)) (now (out .exit)) r × (r ≤ at + 1) ⌝ }
 {
-    let d = put_rows(
-        table,
-        begin,
-        shapes,
-        out,
-        start,
-        o,
-        first,
-        old,
-        count,
-        rows,
-        buffer,
-    );
-    if d.fault != 0 {
-        return d;
+    if optionals {
+        wire::put_number(out, at, 1, 255);
+        return at + 1;
     }
-    if d.optionals {
-        wire::put_number(out, d.end, 1, 255);
-        return Laid {
-            end: d.end + 1,
-            row: d.row,
-            optionals: true,
-            fault: 0,
-        };
-    }
-    d
+    at
 }
 
 // Puts the type ID of owner o and the size of data of n bytes, counting itself, and returns its end.
@@ -348,7 +313,7 @@ fn put_front_as(
 }
 
 // How many bytes before a slice's data are not those of its type ID: size and flags, in 1.0 the size alone.
-pub fn bare_len(old: bool) -> usize
+fn bare_len(old: bool) -> usize
     ensures { λ r. ⌜ (r ≡ pick old 4 5) × (r ≤ 5) ⌝ }
 {
     if old {
@@ -357,16 +322,28 @@ pub fn bare_len(old: bool) -> usize
     5
 }
 
-// Puts the slice of owner o: the data first, then what comes before them.
-pub fn put_slice(
+// How many bytes come before the data of owner o's slice; a parameter list has none.
+pub fn front_len(table: &[u8], begin: usize, o: usize, list: bool, old: bool) -> usize
+    requires { ⌜ begin ≡ typesAt (now table) ⌝ }
+    ensures { λ r. ⌜ (r ≡ pick list 0 (pick old 4 5 + length (stringBytes (nameOf (now (table .entry)) o)))) × (r ≤ 65545) ⌝ }
+{
+    if list {
+        return 0;
+    }
+    bare_len(old) + id_len(table, begin, o)
+}
+
+// Puts the slice of owner o: the data first, then what comes before them; of a parameter list the rows alone.
+pub fn put_part(
     table: &[u8],
     begin: usize,
     shapes: &[u8; 256],
     out: &mut [u8],
     at: usize,
     o: usize,
+    list: bool,
     last: bool,
-    first: usize,
+    from: usize,
     old: bool,
     count: usize,
     rows: &[u8],
@@ -374,18 +351,18 @@ pub fn put_slice(
 ) -> Laid
     requires { ⌜ begin ≡ typesAt (now table) ⌝ }
     requires { ⌜ now shapes ≡ shapesOf (now table) ⌝ }
-    requires { ⌜ (at ≤ 288230376151711744) × (first ≤ count) × (count ≤ 4294967296) × (length (now buffer) ≤ 65536) ⌝ }
-    ensures { λ r. ⌜ SlicePut (now (table .entry)) old (now (rows .entry)) (now (buffer .entry)) true count last o first at (now (out .entry)) (now (out .exit)) r ⌝ }
+    requires { ⌜ (at ≤ 288230376151711744) × (from ≤ count) × (count ≤ 4294967296) × (length (now buffer) ≤ 65536) ⌝ }
+    ensures { λ r. ⌜ PartPut (now (table .entry)) old (now (rows .entry)) (now (buffer .entry)) true count list last o from at (now (out .entry)) (now (out .exit)) r ⌝ }
 {
-    let start = at + bare_len(old) + id_len(table, begin, o);
-    let d = put_data(
+    let start = at + front_len(table, begin, o, list, old);
+    let d = put_rows(
         table,
         begin,
         shapes,
         out,
         start,
         o,
-        first,
+        from,
         old,
         count,
         rows,
@@ -394,7 +371,15 @@ pub fn put_slice(
     if d.fault != 0 {
         return d;
     }
-    let n = d.end - start;
-    put_front_as(table, begin, out, at, o, old, d.optionals, last, n);
-    d
+    if list {
+        return d;
+    }
+    let e = put_end(out, d.end, d.optionals);
+    put_front_as(table, begin, out, at, o, old, d.optionals, last, e - start);
+    Laid {
+        end: e,
+        row: d.row,
+        optionals: d.optionals,
+        fault: 0,
+    }
 }
