@@ -1,7 +1,7 @@
 -- One row, judged. Assumes nothing.
 --
---   part-before                                         a part judged before is not judged again
 --   part-inside, part-outside, part-right, part-wrong   the judgement on a row's bytes
+--   part-fits                                           a part that is right lies in the buffer
 --   row-none, row-refused, row-right                    the judgement on a row, by what is reached and by its bytes
 use mathlib.Core.Path.{_≡_, refl, sym, ap, _∙_}
 use mathlib.Core.Bool.{Bool, true, false}
@@ -25,26 +25,31 @@ use Rattle.pieces.specs.Judged.{partForm, stateFrom, judgedRow, Accepted
 pub part-inside : (l p n : ℕ) (f : Bool) → f ≡ leb (p + n) l → f ≡ true → p + n ≤ l
 part-inside l p n f e q = leb-true (p + n) l (sym e ∙ q)
 
-pub part-before : (buffer : List ℕ) (r : Row) (w : Ty) (judged : Bool) → judged ≡ true → 0 ≡ pick judged 0 (partForm buffer r w)
-part-before buffer r w judged e = rw e
-
-module _ (buffer : List ℕ) (r : Row) (w : Ty) (judged : Bool) (ej : judged ≡ false) (f : Bool) (ef : f ≡ leb (r .place + r .len) (length buffer)) where
-  pub part-outside : f ≡ false → 20 ≡ pick judged 0 (partForm buffer r w)
+module _ (buffer : List ℕ) (r : Row) (w : Ty) (f : Bool) (ef : f ≡ leb (r .place + r .len) (length buffer)) where
+  pub part-outside : f ≡ false → 20 ≡ partForm buffer r w
   unfolding partForm
-  part-outside q = rw (ej, ← ef, q)
+  part-outside q = rw (← ef, q)
 
   module _ (q : f ≡ true) (x : Bool) (ex : x ≡ exact w (take (r .place + r .len - r .place) (drop (r .place) buffer))) where
     exact-is : exact w (partOf buffer r) ≡ x
     unfolding partOf
     exact-is = let z : r .place + r .len - r .place ≡ r .len = omega arith in sym (ex ∙ rw z)
 
-    pub part-right : x ≡ true → 0 ≡ pick judged 0 (partForm buffer r w)
+    pub part-right : x ≡ true → 0 ≡ partForm buffer r w
     unfolding partForm
-    part-right g = rw (ej, ← ef, q, exact-is, g)
+    part-right g = rw (← ef, q, exact-is, g)
 
-    pub part-wrong : x ≡ false → 21 ≡ pick judged 0 (partForm buffer r w)
+    pub part-wrong : x ≡ false → 21 ≡ partForm buffer r w
     unfolding partForm
-    part-wrong g = rw (ej, ← ef, q, exact-is, g)
+    part-wrong g = rw (← ef, q, exact-is, g)
+
+pub part-fits : (buffer : List ℕ) (r : Row) (w : Ty) → partForm buffer r w ≡ 0 → r .place + r .len ≤ length buffer
+unfolding partForm
+part-fits buffer r w e = go (leb (r .place + r .len) (length buffer)) refl e
+  where
+    go : (b : Bool) → leb (r .place + r .len) (length buffer) ≡ b → _≡_ {A = ℕ} (pick b (pick (exact w (partOf buffer r)) 0 21) 20) 0 → r .place + r .len ≤ length buffer
+    go true q h = leb-true (r .place + r .len) (length buffer) q
+    go false q h = absurd (omega arith)
 
 -- ---- a row
 

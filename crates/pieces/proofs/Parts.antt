@@ -6,20 +6,17 @@ use mathlib.Core.List.{List}
 use Prim.Native.Nat.{ℕ, _-_, _≤_, _<_, min}
 use native.Mathlib.Omega.{arith}
 use native.Mathlib.Nat.{min-eq-left, min-eq-right}
-use lib.ListN.{length, length-take, length-drop}
-use Rattle.encoding.specs.Message.{Row}
-use Rattle.encoding.specs.Write.{partOf}
+use lib.ListN.{length, take, drop, length-take, length-drop}
 
-part-min : (buffer : List ℕ) (r : Row) → length (partOf buffer r) ≡ min (r .len) (length buffer - r .place)
-unfolding partOf
-part-min buffer r = simp (length-take, length-drop)
+module _ (buffer : List ℕ) (place len : ℕ) where
+  part-min : length (take len (drop place buffer)) ≡ min len (length buffer - place)
+  part-min = simp (length-take, length-drop)
 
-module _ (buffer : List ℕ) (r : Row) where
-  pub part-past : length buffer ≤ r .place → 0 ≡ length (partOf buffer r)
-  part-past h = let z : length buffer - r .place ≡ 0 = omega arith in sym (part-min buffer r ∙ min-eq-right (omega arith) ∙ z)
+  pub part-past : length buffer ≤ place → 0 ≡ length (take len (drop place buffer))
+  part-past h = let z : length buffer - place ≡ 0 = omega arith in sym (part-min ∙ min-eq-right (omega arith) ∙ z)
 
-  pub part-whole : r .len ≤ length buffer - r .place → r .len ≡ length (partOf buffer r)
-  part-whole h = sym (part-min buffer r ∙ min-eq-left h)
+  pub part-whole : len ≤ length buffer - place → len ≡ length (take len (drop place buffer))
+  part-whole h = sym (part-min ∙ min-eq-left h)
 
-  pub part-cut : length buffer - r .place < r .len → length buffer - r .place ≡ length (partOf buffer r)
-  part-cut h = sym (part-min buffer r ∙ min-eq-right (omega arith))
+  pub part-cut : length buffer - place < len → length buffer - place ≡ length (take len (drop place buffer))
+  part-cut h = sym (part-min ∙ min-eq-right (omega arith))

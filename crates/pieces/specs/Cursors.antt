@@ -4,25 +4,27 @@
 --   dueIn            the required members of some member rows still due, where so many of them are passed
 --   dueFrom          the same of an owner
 --   bases            the bases of a row, one after another
---   start            the cursor at the start of an owner
+--   Cursor           an owner, how many of its member rows are passed, and the least tag that may come
+--   dueAt            the cursor where required members may be due; at 0 the start of an owner
+--   mayAt            the cursor where all member rows are passed
 --   stateOf          the state of a cursor
 --   mayMember        an optional member
 --   dueReached       a row gives a required member, the last one passed by a cursor; mayReached an optional one
---   Settled          the code's answer to the next required member
+--   IsDue            a member row is the required member that is due
 --   Gone             no member is due of the owner, and a member row is no optional that may come
---   ReachedIn        the code's answer to the member of a row, of the owner alone
+--   IsMay            a member row is an optional that may come, of a type row and tag
+--   FoundIn          the code's answer to the optional member of a row, of the owner alone
 use mathlib.Core.Path.{_≡_}
 use mathlib.Core.Bool.{true, false}
 use mathlib.Core.Option.{none, some}
 use mathlib.Core.List.{List, []}
-use Prim.Native.Nat.{ℕ, zero, suc, _+_, _-_, _≤_, _<_}
+use Prim.Native.Nat.{ℕ, zero, suc, _+_, _-_, _<_}
 use lib.Dec.{eqb}
 use Rattle.encoding.specs.Result.{pick}
-use Rattle.encoding.specs.Table.{field, mark, tag, range, Member, trees, memberTy, requiredsIn, optionalMembers, base, upward, chain}
+use Rattle.encoding.specs.Table.{field, mark, tag, range, Member, trees, tyOf, memberTy, requiredsIn, optionalMembers, base, upward, chain}
 use Rattle.encoding.specs.Write.{State, Reached, optionalRow, reach}
-use Rattle.pieces.specs.declared.Cursor.{Cursor}
-use Rattle.pieces.specs.declared.Reach.{Reach}
-use Rattle.pieces.specs.declared.Reach.the-variants.{Due, May, Above, Nothing}
+use Rattle.pieces.specs.declared.Found.{Found}
+use Rattle.pieces.specs.declared.Found.the-variants.{At, Nothing}
 
 -- among the k member rows from a on
 unfoldable pub requiredIn : List ℕ → ℕ → ℕ → ℕ
@@ -39,8 +41,16 @@ dueFrom T o k = dueIn T (field T o 0) (field T o 1) k
 abbrev pub bases : List ℕ → ℕ → List ℕ
 bases T o = upward (chain T) (base T o)
 
-abbrev pub start : ℕ → Cursor
-start o = record { owner = o; passed = 0; least = 0 }
+pub record Cursor : Type 0 where
+  pub owner : ℕ
+  pub passed : ℕ
+  pub least : ℕ
+
+abbrev pub dueAt : ℕ → ℕ → Cursor
+dueAt o k = record { owner = o; passed = k; least = 0 }
+
+abbrev pub mayAt : List ℕ → ℕ → ℕ → Cursor
+mayAt T o least = record { owner = o; passed = field T o 1; least = least }
 
 -- the owners above are the bases of the owner
 unfoldable pub stateOf : List ℕ → Cursor → State
@@ -61,19 +71,22 @@ dueReached T m c = record { member = record { row = m; key = requiredIn T (field
 unfoldable pub mayReached : List ℕ → ℕ → Cursor → Reached
 mayReached T m c = record { member = mayMember T m; required-one = false; state = stateOf T c }
 
--- of the b member rows from a on, k passed, the next required one comes after r rows, or none is due and all are passed
-pub record Settled (T : List ℕ) (a b k r : ℕ) : Type 0 where
-  pub same : dueIn T a b r ≡ dueIn T a b k
-  pub due : r < b → mark T (a + r) ≡ 0
-  pub small : r ≤ 65536
+-- a member row is the required member that is due where k member rows of an owner are passed
+pub record IsDue (T : List ℕ) (o k m : ℕ) : Type 0 where
+  pub here : m ≡ field T o 0 + k
+  pub inside : k < field T o 1
+  pub required : mark T m ≡ 0
 
 pub record Gone (T : List ℕ) (c : Cursor) (m : ℕ) : Type 0 where
   pub due : dueFrom T (c .owner) (c .passed) ≡ []
   pub may : optionalRow m (c .least) (optionalMembers T (c .owner)) ≡ none
 
--- the cursor after a member is of the same owner, and has passed at most 65,536 rows
-abbrev pub ReachedIn : List ℕ → Cursor → ℕ → Reach → Type 0
-ReachedIn T at m (Due c) = (reach T m (stateOf T at) ≡ some (dueReached T m c)) × (c .owner ≡ at .owner) × (c .passed ≤ 65536)
-ReachedIn T at m (May c) = (reach T m (stateOf T at) ≡ some (mayReached T m c)) × (c .owner ≡ at .owner) × (c .passed ≤ 65536) × (c .least ≡ tag T m + 1)
-ReachedIn T at m Above = Gone T at m
-ReachedIn T at m Nothing = reach T m (stateOf T at) ≡ none
+pub record IsMay (T : List ℕ) (o least m t key : ℕ) : Type 0 where
+  pub reached : reach T m (stateOf T (mayAt T o least)) ≡ some (mayReached T m (mayAt T o (key + 1)))
+  pub typed : tyOf T t ≡ memberTy T (trees T) m
+  pub tagged : key ≡ tag T m
+  pub small : key < 4294967296
+
+abbrev pub FoundIn : List ℕ → ℕ → ℕ → ℕ → Found → Type 0
+FoundIn T o least m (At t key) = IsMay T o least m t key
+FoundIn T o least m Nothing = Gone T (mayAt T o least) m

@@ -20,8 +20,7 @@ use Rattle.encoding.specs.Table.{field, mark, tag, range, Member, ownRows, tree
 use Rattle.encoding.specs.TableLaws.{chain-row}
 use Rattle.encoding.specs.Old.{anyOf}
 use Rattle.encoding.specs.Write.{optionalRow, orAbove, entered, reachDue, reachMay, reach, stillDue}
-use Rattle.pieces.specs.declared.Cursor.{Cursor}
-use Rattle.pieces.specs.Cursors.{requiredIn, dueIn, dueFrom, bases, start, stateOf, mayMember}
+use Rattle.pieces.specs.Cursors.{requiredIn, dueIn, dueFrom, bases, Cursor, dueAt, stateOf, mayMember}
 
 -- ---- required members
 
@@ -158,7 +157,7 @@ module _ (T : List ℕ) (m : ℕ) (c : Cursor) where
   reach-end e f z = reach-free e ∙ rw (z, f)
 
   pub reach-above : (t : ℕ) → dueFrom T (c .owner) (c .passed) ≡ [] → optionalRow m (c .least) (optionalMembers T (c .owner)) ≡ none → base T (c .owner) ≡ suc t
-      → reach T m (stateOf T c) ≡ reach T m (stateOf T (start t))
+      → reach T m (stateOf T c) ≡ reach T m (stateOf T (dueAt t 0))
   unfolding reachMay orAbove upward reach entered stateOf
   reach-above t e f z = reach-free e ∙ rw (z, chain-row T t, f, due-begin T t)
 
@@ -174,6 +173,6 @@ module _ (T : List ℕ) (c : Cursor) where
   still-none e z = rw (e, z)
 
   pub still-above : (t : ℕ) → dueFrom T (c .owner) (c .passed) ≡ [] → base T (c .owner) ≡ suc t
-      → stillDue T (stateOf T c) ≡ stillDue T (stateOf T (start t))
+      → stillDue T (stateOf T c) ≡ stillDue T (stateOf T (dueAt t 0))
   unfolding stillDue anyOf stateOf any upward
   still-above t e z = rw (e, z, chain-row T t, due-begin T t)

@@ -20,7 +20,7 @@ use Rattle.encoding.specs.Value.{exact}
 use Rattle.encoding.specs.Table.{range}
 use Rattle.encoding.specs.Message.{Row}
 use Rattle.encoding.specs.Write.{Out, out, stop, State, Reached, reach, Given, partOf, judge, judgeAll, rowAt}
-use Rattle.pieces.specs.Cursors.{start, stateOf}
+use Rattle.pieces.specs.Cursors.{dueAt, stateOf}
 
 unfoldable pub partForm : List ℕ → Row → Ty → ℕ
 partForm buffer r t = pick (leb (r .place + r .len) (length buffer)) (pick (exact t (partOf buffer r)) 0 21) 20
@@ -42,7 +42,7 @@ verdictFrom T old rows buffer count s i = verdictOf (judgeAll T old buffer s i (
 -- a row after the last owner is 20
 unfoldable pub verdictAbove : List ℕ → Bool → List ℕ → List ℕ → ℕ → ℕ → ℕ → Out (Unit {0})
 verdictAbove T old rows buffer count zero i = pick (ltb i count) (stop 20 i) (out tt)
-verdictAbove T old rows buffer count (suc t) i = verdictFrom T old rows buffer count (stateOf T (start t)) i
+verdictAbove T old rows buffer count (suc t) i = verdictFrom T old rows buffer count (stateOf T (dueAt t 0)) i
 
 abbrev pub Accepted : {A : Type 0} → Out A → Type 0
 Accepted (out a) = Unit {0}

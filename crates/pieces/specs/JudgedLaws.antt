@@ -17,8 +17,7 @@ use Rattle.encoding.specs.Table.{range, Member, base}
 use Rattle.encoding.specs.Message.{Row}
 use Rattle.encoding.specs.Old.{anyOf}
 use Rattle.encoding.specs.Write.{Out, out, stop, next, State, Reached, reach, stillDue, Given, given, partOf, judge, prepend, judgeAll, rowAt}
-use Rattle.pieces.specs.declared.Cursor.{Cursor}
-use Rattle.pieces.specs.Cursors.{dueFrom, start, stateOf, Gone}
+use Rattle.pieces.specs.Cursors.{Cursor, dueFrom, dueAt, stateOf, Gone}
 use Rattle.pieces.specs.CursorsLaws.{reach-end, reach-above, still-here, still-none, still-above}
 use Rattle.pieces.specs.Judged.{stateFrom, judgedRow, verdictOf, verdictFrom, verdictAbove, Accepted, Gives}
 
@@ -115,8 +114,8 @@ module _ (T : List ℕ) (old : Bool) (rows buffer : List ℕ) where
             verdict-wrong count (stateOf T c) i h 20 (rw n) ∙ rw (lt-ltb i count h)
         go (suc t) e =
             row-first count (stateOf T c) i h
-            ∙ ap verdictOf (judged-up (stateOf T c) (stateOf T (start t)) i (count - (i + 1)) (reach-above T (rowAt rows i .member) c t (g .due) (g .may) e))
-            ∙ sym (row-first count (stateOf T (start t)) i h)
+            ∙ ap verdictOf (judged-up (stateOf T c) (stateOf T (dueAt t 0)) i (count - (i + 1)) (reach-above T (rowAt rows i .member) c t (g .due) (g .may) e))
+            ∙ sym (row-first count (stateOf T (dueAt t 0)) i h)
 
     pub leave-end : count ≤ i → anyOf (dueFrom T (c .owner) (c .passed)) ≡ false
         → verdictFrom T old rows buffer count (stateOf T c) i ≡ verdictAbove T old rows buffer count (base T (c .owner)) i
@@ -128,4 +127,4 @@ module _ (T : List ℕ) (old : Bool) (rows buffer : List ℕ) where
 
         go : (up : ℕ) → base T (c .owner) ≡ up → verdictFrom T old rows buffer count (stateOf T c) i ≡ verdictAbove T old rows buffer count up i
         go zero e = row-last count (stateOf T c) i h false (still-none T c none-due e) ∙ rw (le-ltb i count h)
-        go (suc t) e = row-last count (stateOf T c) i h (stillDue T (stateOf T (start t))) (still-above T c t none-due e) ∙ sym (row-last count (stateOf T (start t)) i h (stillDue T (stateOf T (start t))) refl)
+        go (suc t) e = row-last count (stateOf T c) i h (stillDue T (stateOf T (dueAt t 0))) (still-above T c t none-due e) ∙ sym (row-last count (stateOf T (dueAt t 0)) i h (stillDue T (stateOf T (dueAt t 0))) refl)

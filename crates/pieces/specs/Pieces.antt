@@ -6,10 +6,11 @@
 --   Taken          the piece of a row, and the state after it
 --   pieceAt        row i as a member of the state's owner, if it is one
 --   group          the pieces of that owner from row i on, at most k rows
---   RowLaid        what is put of a row that is right, and what the code answers of it, its part being judged before or now
---   RowPut         the same of every answer
+--   RowIs          a row that is right: its piece and the cursor after it, its part being judged before or now
+--   RowLaid        the same, and what is put of it; nothing where it is measured, so that the output is empty before and after
+--   DuePut, MayPut what the code answers of a row as the required member that is due, and as an optional one
 use mathlib.Core.Path.{_≡_}
-use mathlib.Core.Bool.{Bool}
+use mathlib.Core.Bool.{Bool, true, false}
 use mathlib.Core.Option.{Option, none, some}
 use mathlib.Core.List.{List, [], _∷_, _++_}
 use Prim.Native.Nat.{ℕ, zero, suc, _+_, _*_, _≤_, _<_}
@@ -20,10 +21,11 @@ use Rattle.encoding.specs.Number.{leBytes, sizeBytes}
 use Rattle.encoding.specs.Optional.{Piece, pieceBytes, isOptional}
 use Rattle.encoding.specs.Write.{out, stop, State, Reached, reach, given, partOf, rowAt}
 use Rattle.wire.specs.Put.{formBits}
-use Rattle.pieces.specs.declared.Cursor.{Cursor}
-use Rattle.pieces.specs.declared.Placed.{Placed}
-use Rattle.pieces.specs.declared.Placed.the-variants.{Row as PutRow, Stop, Wrong}
-use Rattle.pieces.specs.Cursors.{stateOf, Gone}
+use Rattle.pieces.specs.declared.Due.{Due}
+use Rattle.pieces.specs.declared.Due.the-variants.{Row as DueRow, Wrong as DueWrong}
+use Rattle.pieces.specs.declared.May.{May}
+use Rattle.pieces.specs.declared.May.the-variants.{Row as MayRow, Stop, Wrong as MayWrong}
+use Rattle.pieces.specs.Cursors.{Cursor, dueAt, mayAt, stateOf, Gone}
 use Rattle.pieces.specs.Judged.{judgedRow, Gives}
 use Rattle.pieces.specs.Puts.{Puts}
 
@@ -60,17 +62,23 @@ unfoldable pub group : List ℕ → List ℕ → List ℕ → State → ℕ → 
 group T rows buffer s i zero = []
 group T rows buffer s i (suc k) = grown (pieceAt T rows buffer s i) (λ (z : State). group T rows buffer z (suc i) k)
 
-pub record RowLaid (T : List ℕ) (old : Bool) (rows buffer : List ℕ) (judged : Bool) (from : Cursor) (i at : ℕ) (lent last : List ℕ) (c : Cursor) (end : ℕ) (optional : Bool) : Type 0 where
-  pub piece : Piece
+pub record RowIs (T : List ℕ) (old : Bool) (rows buffer : List ℕ) (judged : Bool) (from : Cursor) (i : ℕ) (c : Cursor) (piece : Piece) : Type 0 where
   pub is : pieceAt T rows buffer (stateOf T from) i ≡ some (record { piece = piece; state = stateOf T c })
   pub right : Gives judged (judgedRow T old rows buffer (stateOf T from) i) (out (stateOf T c))
   pub same : c .owner ≡ from .owner
+
+pub record RowLaid (T : List ℕ) (old : Bool) (rows buffer : List ℕ) (judged : Bool) (from : Cursor) (i at : ℕ) (lent last : List ℕ) (c : Cursor) (end : ℕ) (optional : Bool) : Type 0 where
+  pub piece : Piece
+  pub gives : RowIs T old rows buffer judged from i c piece
   pub puts : Puts at (pieceBytes piece) lent last end
   pub flag : optional ≡ isOptional piece
-  pub near : c .passed ≤ 65536
   pub few : end ≤ at + 66000
 
-abbrev pub RowPut : List ℕ → Bool → List ℕ → List ℕ → Bool → Cursor → ℕ → ℕ → List ℕ → List ℕ → Placed → Type 0
-RowPut T old rows buffer judged from i at lent last (PutRow c end optional) = RowLaid T old rows buffer judged from i at lent last c end optional
-RowPut T old rows buffer judged from i at lent last Stop = Gone T from (rowAt rows i .member) × (last ≡ lent)
-RowPut T old rows buffer judged from i at lent last (Wrong n) = (judgedRow T old rows buffer (stateOf T from) i ≡ stop n i) × (0 < n)
+abbrev pub DuePut : List ℕ → Bool → List ℕ → List ℕ → Bool → ℕ → ℕ → ℕ → ℕ → List ℕ → List ℕ → Due → Type 0
+DuePut T old rows buffer judged o k i at lent last (DueRow end) = RowLaid T old rows buffer judged (dueAt o k) i at lent last (dueAt o (k + 1)) end false
+DuePut T old rows buffer judged o k i at lent last (DueWrong n) = (judgedRow T old rows buffer (stateOf T (dueAt o k)) i ≡ stop n i) × (0 < n)
+
+abbrev pub MayPut : List ℕ → Bool → List ℕ → List ℕ → Bool → ℕ → ℕ → ℕ → ℕ → List ℕ → List ℕ → May → Type 0
+MayPut T old rows buffer judged o least i at lent last (MayRow end key) = RowLaid T old rows buffer judged (mayAt T o least) i at lent last (mayAt T o (key + 1)) end true × (key < 4294967296)
+MayPut T old rows buffer judged o least i at lent last Stop = Gone T (mayAt T o least) (rowAt rows i .member) × (last ≡ lent)
+MayPut T old rows buffer judged o least i at lent last (MayWrong n) = (judgedRow T old rows buffer (stateOf T (mayAt T o least)) i ≡ stop n i) × (0 < n)

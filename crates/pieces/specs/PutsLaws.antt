@@ -1,6 +1,7 @@
 -- Laws of `Puts`: parts laid one after another, or one before another, are laid at once. Assumes nothing.
 --
 --   puts-one, puts-none, puts-is            one put; no bytes; the same bytes
+--   put-empty, puts-measured                an output of no bytes stays; bytes that are only measured
 --   puts-number, puts-byte, puts-size       a number, a byte, a size
 --   puts-then, puts-under                   bytes after those laid; bytes before those laid
 --   leaves-begin, leaves-next, leaves-end   what is still to be laid, at first, after more bytes, at the end
@@ -25,6 +26,16 @@ puts-none at out = record { ends = sym (add-zero at); lays = λ h. sym (put-none
 
 pub puts-is : (at : ℕ) (b c out last : List ℕ) (end : ℕ) → b ≡ c → Puts at b out last end → Puts at c out last end
 puts-is at b c out last end e p = subst (λ (z : List ℕ). Puts at z out last end) e p
+
+pub put-empty : (at : ℕ) (b : List ℕ) → [] ≡ put at b []
+put-empty at b = sym (none (put at b []) (put-length at b []))
+  where
+    none : (l : List ℕ) → length l ≡ 0 → l ≡ []
+    none [] e = refl
+    none (x ∷ l) e = absurd (omega arith)
+
+pub puts-measured : (at : ℕ) (b : List ℕ) (end : ℕ) → end ≡ at + length b → Puts at b [] [] end
+puts-measured at b end e = puts-one at b [] [] end (put-empty at b) e
 
 pub puts-number : (k v at : ℕ) (out last : List ℕ) → last ≡ put at (leBytes k v) out → Puts at (leBytes k v) out last (at + k)
 puts-number k v at out last e = puts-one at (leBytes k v) out last (at + k) e (omega (arith, length-leBytes k v))

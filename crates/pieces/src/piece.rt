@@ -1,22 +1,19 @@
-// Checks one row and puts its member: its header, its length field, its bytes. `old` says that the encoding is 1.0, which has other enums and proxies.
-use crate::Cursor;
-use crate::Placed;
-use crate::Reach;
+// Puts the member of a row: its header, its length field, its bytes. The row was checked before; `old` says that it was for encoding 1.0.
+use crate::Found;
+use crate::May;
+use crate::judge;
 use crate::rows;
-use crate::state;
 use wire::rows::RowNumbers;
 ghost use mathlib.Core.Path.{_≡_};
+ghost use mathlib.Core.Bool.{true};
 ghost use Prim.Native.Nat.{_+_, _≤_, _<_};
 ghost use lib.ListN.{length, take, drop};
-ghost use Rattle.encoding.specs.Result.{pick};
-ghost use Rattle.encoding.specs.Table.{typesAt, tyOf};
-ghost use Rattle.encoding.specs.Old.{typeAs};
+ghost use Rattle.encoding.specs.Table.{membersAt, members, field};
 ghost use Rattle.encoding.specs.Write.{partOf};
 ghost use Rattle.shapes.specs.Shapes.{shapesOf};
 ghost use Rattle.wire.specs.Row.{asRow};
 ghost use Rattle.pieces.specs.Puts.{Puts};
-ghost use Rattle.pieces.specs.Judged.{partForm};
-ghost use Rattle.pieces.specs.Pieces.{headerField, lengthField, optionalField, RowPut};
+ghost use Rattle.pieces.specs.Pieces.{headerField, lengthField, optionalField, MayPut};
 
 // Puts a long part of the buffer and returns its end: the bytes up to a place that is a multiple of 64 by themselves, then the others.
 // The loop that copies these stores sixteen bytes at a time; from such a place on no store crosses a line of the cache, where the output begins at a multiple of 16.
@@ -30,18 +27,18 @@ fn put_long(out: &mut [u8], at: usize, buffer: &[u8], place: usize, n: usize) ->
     at + n
 }
 
-// Puts the bytes of a row and returns their end.
-fn put_content(out: &mut [u8], at: usize, row: RowNumbers, buffer: &[u8]) -> usize
+// Puts the bytes of a row, `len` bytes of the buffer from `place` on, and returns their end.
+pub fn put_content(out: &mut [u8], at: usize, place: usize, len: usize, buffer: &[u8]) -> usize
     requires { ⌜ (at ≤ 1152921504606847000) × (length (now buffer) ≤ 65536) ⌝ }
-    ensures { λ r. ⌜ Puts at (partOf (now (buffer .entry)) (asRow row)) (now (out .entry)) (now (out .exit)) r × (r ≤ at + length (now (buffer .entry))) ⌝ }
+    ensures { λ r. ⌜ Puts at (take len (drop place (now (buffer .entry)))) (now (out .entry)) (now (out .exit)) r × (r ≤ at + length (now (buffer .entry))) ⌝ }
 {
-    if 1024 <= row.len {
-        if wire::fits(buffer.len(), row.place, row.len) {
-            return put_long(out, at, buffer, row.place, row.len);
+    if 1024 <= len {
+        if wire::fits(buffer.len(), place, len) {
+            return put_long(out, at, buffer, place, len);
         }
     }
-    wire::put_part(out, at, buffer, row.place, row.len);
-    at + rows::part_len(row, buffer)
+    wire::put_part(out, at, buffer, place, len);
+    at + rows::part_len(place, len, buffer)
 }
 
 // Puts an optional's header and returns its end.
@@ -74,37 +71,6 @@ fn put_length(out: &mut [u8], at: usize, form: usize, n: usize) -> usize
     at + 4
 }
 
-// 20 if a row's part lies outside the buffer, 21 if it is not exactly a value of type row t, else 0. With `judged` it was checked before: 0.
-fn part_form(
-    table: &[u8],
-    begin: usize,
-    shapes: &[u8; 256],
-    t: usize,
-    old: bool,
-    judged: bool,
-    row: RowNumbers,
-    buffer: &[u8],
-) -> usize
-    requires { ⌜ begin ≡ typesAt (now table) ⌝ }
-    requires { ⌜ now shapes ≡ shapesOf (now table) ⌝ }
-    requires { ⌜ length (now buffer) ≤ 65536 ⌝ }
-    ensures { λ r. ⌜ r ≡ pick judged 0 (partForm (now (buffer .entry)) (asRow row) (typeAs old (tyOf (now (table .entry)) t))) ⌝ }
-{
-    if judged {
-        return 0;
-    }
-    let place = row.place;
-    let len = row.len;
-    if wire::fits(buffer.len(), place, len) {
-        let e = place + len;
-        if value::exact_value(table, begin, shapes, t, &buffer[place..e], old) {
-            return 0;
-        }
-        return 21;
-    }
-    20
-}
-
 // Puts a row as an optional of a tag and form and returns its end.
 pub fn put_optional(
     out: &mut [u8],
@@ -118,51 +84,43 @@ pub fn put_optional(
     ensures { λ r. ⌜ Puts at (optionalField tag form (partOf (now (buffer .entry)) (asRow row))) (now (out .entry)) (now (out .exit)) r × (r ≤ at + 11 + length (now (buffer .entry))) ⌝ }
 {
     let a = put_header(out, at, tag, wire::form_bits(form));
-    let b = put_length(out, a, form, rows::part_len(row, buffer));
-    put_content(out, b, row, buffer)
+    let b = put_length(out, a, form, rows::part_len(row.place, row.len, buffer));
+    put_content(out, b, row.place, row.len, buffer)
 }
 
-// Checks row i, 20 then 21, and puts it if it is a member of the cursor's owner. With `judged` its part is not checked again.
-pub fn put_row(
+// Puts row i as an optional member of owner o, if it is one.
+pub fn put_may(
     table: &[u8],
-    begin: usize,
     shapes: &[u8; 256],
+    first: usize,
+    all: usize,
     out: &mut [u8],
     at: usize,
-    from: Cursor,
+    o: usize,
+    a: usize,
+    b: usize,
+    least: usize,
     old: bool,
-    judged: bool,
     rows: &[u8],
     i: usize,
     buffer: &[u8],
-) -> Placed
-    requires { ⌜ begin ≡ typesAt (now table) ⌝ }
+) -> May
     requires { ⌜ now shapes ≡ shapesOf (now table) ⌝ }
-    requires { ⌜ (at ≤ 1152921504606846976) × (i < 4294967296) × (from .passed ≤ 65536) × (length (now buffer) ≤ 65536) ⌝ }
-    ensures { λ r. ⌜ RowPut (now (table .entry)) old (now (rows .entry)) (now (buffer .entry)) judged from i at (now (out .entry)) (now (out .exit)) r ⌝ }
+    requires { ⌜ (first ≡ membersAt (now table)) × (first < 1048576) × (all ≡ members (now table)) ⌝ }
+    requires { ⌜ (a ≡ field (now table) o 0) × (b ≡ field (now table) o 1) × (a < 65536) × (b < 65536) ⌝ }
+    requires { ⌜ (at ≤ 1152921504606846976) × (i < 4294967296) × (length (now buffer) ≤ 65536) ⌝ }
+    ensures { λ r. ⌜ MayPut (now (table .entry)) old (now (rows .entry)) (now (buffer .entry)) true o least i at (now (out .entry)) (now (out .exit)) r ⌝ }
 {
     let row = wire::rows::row_at(rows, i);
-    let r = state::reach_in(table, begin, from, row.member);
-    match r {
-        Reach::Due(c) => {
-            let t = table::type_of_member(table, begin, row.member);
-            let fault = part_form(table, begin, shapes, t, old, judged, row, buffer);
-            if fault != 0 {
-                return Placed::Wrong(fault);
-            }
-            let end = put_content(out, at, row, buffer);
-            Placed::Row(c, end, false)
+    let f = judge::optional_at(table, first, all, o, a, b, least, row.member);
+    match f {
+        Found::At(t, tag) => {
+            let form = shapes::form(shapes, t);
+            let c = put_header(out, at, tag, wire::form_bits(form));
+            let d = put_length(out, c, form, rows::part_len(row.place, row.len, buffer));
+            let e = put_content(out, d, row.place, row.len, buffer);
+            May::Row(e, tag)
         }
-        Reach::May(c) => {
-            let t = table::type_of_member(table, begin, row.member);
-            let fault = part_form(table, begin, shapes, t, old, judged, row, buffer);
-            if fault != 0 {
-                return Placed::Wrong(fault);
-            }
-            let end = put_optional(out, at, c.least - 1, shapes::form(shapes, t), row, buffer);
-            Placed::Row(c, end, true)
-        }
-        Reach::Above => Placed::Stop,
-        Reach::Nothing => Placed::Wrong(20),
+        Found::Nothing => May::Stop,
     }
 }

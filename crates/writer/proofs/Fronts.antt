@@ -1,16 +1,20 @@
 -- A slice: its data, and what comes before them. Assumes nothing.
 --
 --   still-wrong                  rows that are refused stay refused
---   data-marked, data-plain      the rows of an owner, with and without byte 255 after them
+--   data-ended                   the rows of an owner, and the end marker after optionals
+--   end-..                       the end marker: its length, and what is put of it
 --   pair-put, front-put          type ID and size; flags before them
 --   old-put, new-put             the front, by the encoding
 --   bare-old, bare-new           how many bytes of it are not the type ID's
---   slice-laid                   the front put before the data
-use mathlib.Core.Path.{_≡_, refl, sym, ap, _∙_}
+--   front-list, front-slice      how many bytes come before the data
+--   part-refused, part-list, part-slice   rows that are refused; those of a parameter list; a slice, the front put before the data
+--   part-measured                a slice where nothing is put
+use mathlib.Core.Path.{_≡_, refl, sym, ap, subst, _∙_}
 use mathlib.Core.Bool.{Bool, true, false}
 use mathlib.Core.List.{List, [], _∷_}
 use Prim.Native.Nat.{ℕ, _+_, _-_, _≤_, _<_}
 use native.Mathlib.Omega.{arith}
+use native.Mathlib.Nat.{add-zero}
 use lib.ListN.{length, length-append}
 use Rattle.encoding.specs.Result.{pick}
 use Rattle.encoding.specs.Number.{leBytes, stringBytes}
@@ -19,48 +23,46 @@ use Rattle.encoding.specs.Slice.{sliced, worth, flagBits, anyOptional, dataByte
 use Rattle.encoding.specs.Table.{nameOf}
 use Rattle.wire.specs.Put.{put}
 use Rattle.writer.specs.declared.Laid.{Laid}
+use Rattle.pieces.specs.Cursors.{Cursor, dueAt}
 use Rattle.pieces.specs.Puts.{Puts}
-use Rattle.pieces.specs.PutsLaws.{puts-none, puts-is, puts-number, puts-byte, puts-then, puts-under}
-use Rattle.writer.specs.Slices.{groupOf, sliceOf, frontField, pairField, frontOf, sliceField, Judges, RowsPut, DataPut, SlicePut}
+use Rattle.pieces.specs.PutsLaws.{puts-none, puts-is, puts-measured, puts-number, puts-byte, puts-then, puts-under}
+use Rattle.writer.specs.Slices.{groupOf, sliceOf, frontField, pairField, frontOf, sliceField, endMark, Judges, RowsPut, DataPut, SlicePut, PartPut}
 
 -- ---- the data
 
-pub still-wrong : (T : List ℕ) (old : Bool) (rows buffer : List ℕ) (judged : Bool) (count o i : ℕ) (r : Laid) (A B : Type 0) → Judges T old rows buffer judged count o i r A → (r .fault ≡ 0 → ⊥) → Judges T old rows buffer judged count o i r B
-still-wrong T old rows buffer judged count o i r A B j n = record { right = λ e. absurd (n e); wrong = j .wrong }
+pub still-wrong : (T : List ℕ) (old : Bool) (rows buffer : List ℕ) (judged : Bool) (count : ℕ) (c : Cursor) (i : ℕ) (r : Laid) (A B : Type 0) → Judges T old rows buffer judged count c i r A → (r .fault ≡ 0 → ⊥) → Judges T old rows buffer judged count c i r B
+still-wrong T old rows buffer judged count c i r A B j n = record { right = λ e. absurd (n e); wrong = j .wrong }
 
-module _ (T : List ℕ) (old : Bool) (rows buffer : List ℕ) (judged : Bool) (count o i at : ℕ) (out mid : List ℕ) (d : Laid) (j : RowsPut T old rows buffer judged count o i at out mid d) (z : d .fault ≡ 0) where
-  pub data-marked : d .optionals ≡ true → (last : List ℕ) → last ≡ put (d .end) (leBytes 1 255) mid
-      → DataPut T old rows buffer judged count o i at out last (record { end = d .end + 1; row = d .row; optionals = true; fault = 0 })
-  unfolding dataBytes sliceOf
-  data-marked q last e =
-      let l = j .right z in
-      record {
-        right = λ _. record {
-          puts = rw (sym (l .flag) ∙ q) (puts-then at _ out mid (d .end) (l .puts) (255 ∷ []) last (d .end + 1) (puts-byte 255 (d .end) mid last (omega arith) e));
-          next = l .next;
-          flag = sym q ∙ l .flag;
-          within = l .within;
-          rest = l .rest;
-          few = omega (arith, l .few);
-        };
-        wrong = λ n. absurd (n refl);
-      }
+pub data-ended : (T : List ℕ) (old : Bool) (rows buffer : List ℕ) (judged : Bool) (count o i at : ℕ) (out mid : List ℕ) (d : Laid) → RowsPut T old rows buffer judged count (dueAt o 0) i at out mid d → d .fault ≡ 0
+    → (last : List ℕ) (e : ℕ) → Puts (d .end) (endMark (d .optionals)) mid last e → e ≤ d .end + 1
+    → DataPut T old rows buffer judged count o i at out last (record { end = e; row = d .row; optionals = d .optionals; fault = 0 })
+unfolding dataBytes sliceOf
+data-ended T old rows buffer judged count o i at out mid d j z last e p h =
+    let l = j .right z in
+    record {
+      right = λ _. record {
+        puts = rw (← l .flag) (puts-then at _ out mid (d .end) (l .puts) (endMark (d .optionals)) last e p);
+        next = l .next;
+        flag = l .flag;
+        within = l .within;
+        rest = l .rest;
+        few = omega (arith, l .few);
+      };
+      wrong = λ n. absurd (n refl);
+    }
 
-  pub data-plain : d .optionals ≡ false → DataPut T old rows buffer judged count o i at out mid d
-  unfolding dataBytes sliceOf
-  data-plain q =
-      let l = j .right z in
-      record {
-        right = λ _. record {
-          puts = rw (sym (l .flag) ∙ q) (puts-then at _ out mid (d .end) (l .puts) [] mid (d .end) (puts-none (d .end) mid));
-          next = l .next;
-          flag = l .flag;
-          within = l .within;
-          rest = l .rest;
-          few = omega (arith, l .few);
-        };
-        wrong = λ n. absurd (n z);
-      }
+pub end-some : (b : Bool) → b ≡ true → 1 ≡ length (endMark b)
+end-some b q = rw q
+
+pub end-none : (b : Bool) → b ≡ false → 0 ≡ length (endMark b)
+end-none b q = rw q
+
+module _ (b : Bool) (at : ℕ) (out : List ℕ) where
+  pub end-put : b ≡ true → (last : List ℕ) → last ≡ put at (leBytes 1 255) out → Puts at (endMark b) out last (at + 1)
+  end-put q last e = rw q (puts-byte 255 at out last (omega arith) e)
+
+  pub end-over : b ≡ false → Puts at (endMark b) out out at
+  end-over q = rw q (puts-none at out)
 
 -- ---- the front
 
@@ -117,22 +119,29 @@ bare-old old q = rw q
 pub bare-new : (old : Bool) → old ≡ false → _≡_ {A = ℕ} 5 (pick old 4 5)
 bare-new old q = rw q
 
+-- how many bytes come before the data; a parameter list has none
+pub front-list : (list : Bool) (n : ℕ) → list ≡ true → 0 ≡ pick list 0 n
+front-list list n q = rw q
+
+pub front-slice : (list : Bool) (b k n m : ℕ) → list ≡ false → b ≡ m → k ≡ n → b + k ≡ pick list 0 (m + n)
+front-slice list b k n m q e f = rw q (omega arith)
+
 -- ---- the slice
 
-pub slice-laid : (T : List ℕ) (old : Bool) (rows buffer : List ℕ) (judged : Bool) (count o i at : ℕ) (end : Bool) (b k n e : ℕ) (out mid last : List ℕ) (d : Laid)
-    → b ≡ pick old 4 5 → b ≤ 5 → k ≡ length (stringBytes (nameOf T o)) → k ≤ 65540 → DataPut T old rows buffer judged count o i (at + b + k) out mid d → d .fault ≡ 0
-    → n ≡ d .end - (at + b + k) → Puts at (frontOf T o old (d .optionals) end n) mid last e
+slice-laid : (T : List ℕ) (old : Bool) (rows buffer : List ℕ) (judged : Bool) (count o i at : ℕ) (end : Bool) (f n e : ℕ) (out mid last : List ℕ) (d : Laid)
+    → f ≡ pick old 4 5 + length (stringBytes (nameOf T o)) → f ≤ 65545 → DataPut T old rows buffer judged count o i (at + f) out mid d → d .fault ≡ 0
+    → n ≡ d .end - (at + f) → Puts at (frontOf T o old (d .optionals) end n) mid last e
     → SlicePut T old rows buffer judged count end o i at out last d
 unfolding sliceField
-slice-laid T old rows buffer judged count o i at end b k n e out mid last d eb hb ek h j z en p =
+slice-laid T old rows buffer judged count o i at end f n e out mid last d ef hf j z en p =
     let l = j .right z in
     let w = dataBytes (sliceOf T rows buffer count o i) in
     let y : n ≡ length w = omega (arith, l .puts .ends) in
     let q : frontOf T o old (d .optionals) end n ≡ frontOf T o old (anyOptional (groupOf T rows buffer count o i)) end (length w) = rw (l .flag, y) in
-    let v : length (frontOf T o old (anyOptional (groupOf T rows buffer count o i)) end (length w)) ≡ b + length (stringBytes (nameOf T o)) = of-length T o (length w) (anyOptional (groupOf T rows buffer count o i)) end old ∙ ap (λ (x : ℕ). x + length (stringBytes (nameOf T o))) (sym eb) in
+    let v : length (frontOf T o old (anyOptional (groupOf T rows buffer count o i)) end (length w)) ≡ f = of-length T o (length w) (anyOptional (groupOf T rows buffer count o i)) end old ∙ sym ef in
     record {
       right = λ _. record {
-        puts = puts-under at (at + b + k) _ w out mid last e (d .end) (omega (arith, v)) (l .puts) (puts-is at _ _ mid last e q p);
+        puts = puts-under at (at + f) _ w out mid last e (d .end) (omega (arith, v)) (l .puts) (puts-is at _ _ mid last e q p);
         next = l .next;
         within = l .within;
         rest = l .rest;
@@ -140,3 +149,36 @@ slice-laid T old rows buffer judged count o i at end b k n e out mid last d eb h
       };
       wrong = λ r. absurd (r z);
     }
+
+-- ---- a parameter list or a slice
+
+module _ (T : List ℕ) (old : Bool) (rows buffer : List ℕ) (judged : Bool) (count : ℕ) (list end : Bool) (o i at f : ℕ) (ef : f ≡ pick list 0 (pick old 4 5 + length (stringBytes (nameOf T o)))) (hf : f ≤ 65545)
+    (out mid : List ℕ) (d : Laid) (j : RowsPut T old rows buffer judged count (dueAt o 0) i (at + f) out mid d) where
+  pub part-refused : (d .fault ≡ 0 → ⊥) → PartPut T old rows buffer judged count list end o i at out mid d
+  part-refused n = go list
+    where
+      go : (b : Bool) → PartPut T old rows buffer judged count b end o i at out mid d
+      go true = still-wrong T old rows buffer judged count (dueAt o 0) i d _ _ j n
+      go false = still-wrong T old rows buffer judged count (dueAt o 0) i d _ _ j n
+
+  pub part-list : list ≡ true → PartPut T old rows buffer judged count list end o i at out mid d
+  part-list q =
+      let z : at + f ≡ at = ap (λ (x : ℕ). at + x) (ef ∙ ap (λ (b : Bool). pick b 0 (pick old 4 5 + length (stringBytes (nameOf T o)))) q) ∙ add-zero at in
+      subst (λ (b : Bool). PartPut T old rows buffer judged count b end o i at out mid d) (sym q) (subst (λ (x : ℕ). RowsPut T old rows buffer judged count (dueAt o 0) i x out mid d) z j)
+
+  pub part-slice : list ≡ false → d .fault ≡ 0 → (two last : List ℕ) (e n x : ℕ) → Puts (d .end) (endMark (d .optionals)) mid two e → e ≤ d .end + 1
+      → n ≡ e - (at + f) → Puts at (frontOf T o old (d .optionals) end n) two last x
+      → PartPut T old rows buffer judged count list end o i at out last (record { end = e; row = d .row; optionals = d .optionals; fault = 0 })
+  part-slice q z two last e n x p h en r =
+      subst (λ (b : Bool). PartPut T old rows buffer judged count b end o i at out last (record { end = e; row = d .row; optionals = d .optionals; fault = 0 })) (sym q)
+      (slice-laid T old rows buffer judged count o i at end f n x out two last _ (ef ∙ ap (λ (b : Bool). pick b 0 (pick old 4 5 + length (stringBytes (nameOf T o)))) q) hf
+      (data-ended T old rows buffer judged count o i (at + f) out mid d j z two e p h) refl en r)
+
+-- nothing is put
+pub part-measured : (T : List ℕ) (old : Bool) (rows buffer : List ℕ) (judged : Bool) (count : ℕ) (list end : Bool) (o i at f : ℕ) → f ≡ pick list 0 (pick old 4 5 + length (stringBytes (nameOf T o))) → f ≤ 65545
+    → (d : Laid) → RowsPut T old rows buffer judged count (dueAt o 0) i (at + f) [] [] d → list ≡ false → d .fault ≡ 0 → (k : ℕ) → k ≡ length (endMark (d .optionals)) → k ≤ 1
+    → PartPut T old rows buffer judged count list end o i at [] [] (record { end = d .end + k; row = d .row; optionals = d .optionals; fault = 0 })
+part-measured T old rows buffer judged count list end o i at f ef hf d j q z k ek hk =
+    part-slice T old rows buffer judged count list end o i at f ef hf [] [] d j q z [] [] (d .end + k) (d .end + k - (at + f)) _
+    (puts-measured (d .end) (endMark (d .optionals)) (d .end + k) (ap (λ (x : ℕ). d .end + x) ek)) (omega arith) refl
+    (puts-measured at (frontOf T o old (d .optionals) end (d .end + k - (at + f))) _ refl)

@@ -3,16 +3,14 @@
 --   answer-few                   too few row bytes: a refusal, and the output stays
 --   answer-wrong                 a row is wrong: the same
 --   answer-over, answer-room     22: the message is too long, or longer than the output
---   answer-short                 a message put into a draft is copied to the output's start
---   answer-long                  a message put again is at the output's start
+--   answer-made                  a message that is put is at the output's start
 use mathlib.Core.Path.{_≡_, refl, sym, ap, _∙_}
 use mathlib.Core.Bool.{Bool, true, false, _&&_}
-use mathlib.Core.List.{List, _++_}
+use mathlib.Core.List.{List, []}
 use Prim.Native.Nat.{ℕ, _/_, _≤_, _<_}
 use native.Mathlib.Nat.{zero-add}
 use native.Mathlib.Omega.{arith}
-use lib.ListN.{length, take, drop}
-use lib.Seq.{take-at}
+use lib.ListN.{length}
 use lib.Dec.{leb}
 use borrow.Author.Tests.{le-leb, lt-leb}
 use Rattle.encoding.specs.Result.{pick}
@@ -23,7 +21,7 @@ use Rattle.wire.specs.PutLaws.{put-front}
 use Rattle.writer.specs.declared.Outcome.the-variants.{Made as Told, Stopped}
 use Rattle.writer.specs.declared.Put.{Put}
 use Rattle.writer.specs.declared.Put.the-variants.{Made, Wrong}
-use Rattle.pieces.specs.Cursors.{start, stateOf}
+use Rattle.pieces.specs.Cursors.{dueAt, stateOf}
 use Rattle.pieces.specs.Judged.{verdictFrom}
 use Rattle.pieces.specs.JudgedLaws.{gives-all}
 use Rattle.pieces.specs.Puts.{Puts}
@@ -47,15 +45,15 @@ module _ (T : List ℕ) (top : ℕ) (old : Bool) (count : ℕ) (rows buffer lent
   pub answer-few : length rows / 12 < count → (Stopped 20 count ≡ outcomeOf result) × (lent ≡ output result lent)
   answer-few h = refused 20 count (written-few T top old count rows buffer (length lent) h)
 
-  module _ (enough : count ≤ length rows / 12) (few last : List ℕ) (r : Put) (j : AllPut T old rows buffer false count top 0 message few last r) where
+  module _ (enough : count ≤ length rows / 12) (r : Put) (j : AllPut T old rows buffer false count top 0 message [] [] r) where
     pub answer-wrong : (n p : ℕ) → r ≡ Wrong n p → (Stopped n p ≡ outcomeOf result) × (lent ≡ output result lent)
     answer-wrong n p q = refused n p (written-wrong T top old count rows buffer (length lent) enough n p (gives-all _ _ (rw q at j)))
 
     module _ (n : ℕ) (q : r ≡ Made n) where
-      all-right : (verdictFrom T old rows buffer count (stateOf T (start top)) 0 ≡ out tt) × Puts 0 message few last n
+      all-right : (verdictFrom T old rows buffer count (stateOf T (dueAt top 0)) 0 ≡ out tt) × Puts 0 message [] [] n
       all-right = go (rw q at j)
         where
-          go : AllPut T old rows buffer false count top 0 message few last (Made n) → (verdictFrom T old rows buffer count (stateOf T (start top)) 0 ≡ out tt) × Puts 0 message few last n
+          go : AllPut T old rows buffer false count top 0 message [] [] (Made n) → (verdictFrom T old rows buffer count (stateOf T (dueAt top 0)) 0 ≡ out tt) × Puts 0 message [] [] n
           go a = (gives-all _ _ (a .0), a .1)
 
       long : length message ≡ n
@@ -81,13 +79,7 @@ module _ (T : List ℕ) (top : ℕ) (old : Bool) (count : ℕ) (rows buffer lent
               let w = result-is true true (le-leb (length message) 65536 (omega (arith, long))) (le-leb (length message) (length lent) (omega (arith, long))) in
               (sym (ap outcomeOf w ∙ ap Told long), e ∙ put-front message lent (omega (arith, long)) ∙ sym (ap (λ (x : Out (List ℕ)). output x lent) w))
 
-          pub answer-short : n ≤ length few → end ≡ put 0 (take n (drop 0 last)) lent → (Told n ≡ outcomeOf result) × (end ≡ output result lent)
-          answer-short m e =
-              let s : last ≡ message ++ drop (length message) few = all-right .1 .lays (omega (arith, long)) ∙ put-front message few (omega (arith, long)) in
-              let t : take n last ≡ message = ap (take n) s ∙ take-at message (drop (length message) few) n long in
-              made (e ∙ ap (λ (b : List ℕ). put 0 b lent) t)
-
           -- the rows are right as before
-          pub answer-long : (again : Put) → AllPut T old rows buffer true count top 0 message lent end again → (Told n ≡ outcomeOf result) × (end ≡ output result lent)
-          answer-long (Made k) a = made (a .1 .lays (omega (arith, long)))
-          answer-long (Wrong k p) a = let f : stop k p ≡ out tt = sym (a (λ _. rw (all-right .0) tt)) ∙ all-right .0 in let y : _≡_ {A = ℕ} 0 1 = cc in absurd (omega arith)
+          pub answer-made : (again : Put) → AllPut T old rows buffer true count top 0 message lent end again → (Told n ≡ outcomeOf result) × (end ≡ output result lent)
+          answer-made (Made k) a = made (a .1 .lays (omega (arith, long)))
+          answer-made (Wrong k p) a = let f : stop k p ≡ out tt = sym (a (λ _. rw (all-right .0) tt)) ∙ all-right .0 in let y : _≡_ {A = ℕ} 0 1 = cc in absurd (omega arith)

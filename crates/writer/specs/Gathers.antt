@@ -25,8 +25,7 @@ use Rattle.encoding.specs.Slice.{first, Slice, known}
 use Rattle.encoding.specs.Old.{typeAs}
 use Rattle.encoding.specs.Message.{Row, list, exception, class, slicesBytes, lead, encode}
 use Rattle.encoding.specs.Write.{Out, out, stop, next, State, above, begin, Reached, reachDue, optionalRow, orAbove, entered, reachMay, reach, stillDue, Given, given, partOf, judge, prepend, judgeAll, piecesOf, slicesOf, gathered, rowAt}
-use Rattle.pieces.specs.declared.Cursor.{Cursor}
-use Rattle.pieces.specs.Cursors.{bases, start, stateOf, Gone}
+use Rattle.pieces.specs.Cursors.{bases, Cursor, dueAt, stateOf, Gone}
 use Rattle.pieces.specs.CursorsLaws.{due-begin, reach-end, reach-above}
 use Rattle.pieces.specs.JudgedLaws.{judged-up}
 use Rattle.pieces.specs.Pieces.{hereOf, Taken, takenOf, pieceAt, grown, group}
@@ -57,7 +56,7 @@ module _ (T : List ℕ) where
   under-bases (t ∷ ts) o e = let m = bases-more o t ts e in (m .0, under-bases ts t (m .1))
 
   -- the state at the start of an owner
-  pub begin-is : (t : ℕ) (ts : List ℕ) → ts ≡ bases T t → begin T t ts ≡ stateOf T (start t)
+  pub begin-is : (t : ℕ) (ts : List ℕ) → ts ≡ bases T t → begin T t ts ≡ stateOf T (dueAt t 0)
   unfolding begin stateOf
   begin-is t ts e = rw (due-begin T t, e)
 
@@ -137,15 +136,15 @@ gone-none T rows buffer c i g = go (base T (c .owner)) refl
     taken : Option Reached → Option Taken
     taken w = takenOf (partOf buffer (rowAt rows i)) (hereOf (c .owner) w)
 
-    lower : (t : ℕ) → t < c .owner → (w : Option Reached) → reach T m (stateOf T (start t)) ≡ w → taken w ≡ none
+    lower : (t : ℕ) → t < c .owner → (w : Option Reached) → reach T m (stateOf T (dueAt t 0)) ≡ w → taken w ≡ none
     lower t l none e = refl
     lower t l (some z) e =
-        let h : z .state .owner ≤ t = reach-low T m (bases T t) (stateOf T (start t)) z refl (under-bases T (bases T t) t refl) e in
+        let h : z .state .owner ≤ t = reach-low T m (bases T t) (stateOf T (dueAt t 0)) z refl (under-bases T (bases T t) t refl) e in
         rw (ne-eqb (c .owner) (z .state .owner) (λ q. omega arith))
 
     go : (up : ℕ) → base T (c .owner) ≡ up → taken (reach T m (stateOf T c)) ≡ none
     go zero e = ap taken (reach-end T m c (g .due) (g .may) e)
-    go (suc t) e = ap taken (reach-above T m c t (g .due) (g .may) e) ∙ lower t (omega (arith, base-below T (c .owner))) (reach T m (stateOf T (start t))) refl
+    go (suc t) e = ap taken (reach-above T m c t (g .due) (g .may) e) ∙ lower t (omega (arith, base-below T (c .owner))) (reach T m (stateOf T (dueAt t 0))) refl
 
 -- ---- a first row that was judged right
 
@@ -194,7 +193,7 @@ module _ (T : List ℕ) (old : Bool) (rows buffer : List ℕ) where
     free : (u : ℕ) → s .owner < u → piecesOf u gs ≡ []
 
   slices-empty : (count i : ℕ) (ts : List ℕ) → count ≤ i → slicesOf T [] ts ≡ slicesFrom T rows buffer count i ts
-  unfolding slicesOf slicesFrom sliceOf piecesOf groupOf group
+  unfolding slicesOf slicesFrom sliceOf piecesOf group
   slices-empty count i [] h = refl
   slices-empty count i (t ∷ ts) h =
       let z : count - i ≡ 0 = omega arith in
@@ -242,7 +241,7 @@ module _ (T : List ℕ) (old : Bool) (rows buffer : List ℕ) where
 
     split-up : (t : ℕ) (us : List ℕ) → s .above ≡ t ∷ us → us ≡ bases T t → t < s .owner → F .z .state .owner ≤ t → count - i ≡ suc k
         → Split count (begin T t us) i (suc k) gs → Split count s i (suc k) gs
-    unfolding begin slicesOf slicesFrom sliceOf groupOf
+    unfolding begin slicesOf slicesFrom sliceOf
     split-up t us p b l h n S =
         let e = group-above (omega arith) in
         let w : group T rows buffer (begin T t us) i (suc k) ≡ groupOf T rows buffer count t i = ap₂ (λ (x : State) (y : ℕ). group T rows buffer x i y) (begin-is T t us b) (sym n) in
@@ -309,16 +308,16 @@ module _ (T : List ℕ) (old : Bool) (rows buffer : List ℕ) where
 
   -- ---- the message
 
-  pub contents-are : (count type : ℕ) (gs : List Given) → judgeAll T old buffer (stateOf T (start type)) 0 (from 0 count) ≡ out gs
+  pub contents-are : (count type : ℕ) (gs : List Given) → judgeAll T old buffer (stateOf T (dueAt type 0)) 0 (from 0 count) ≡ out gs
       → encode (encodingAs old) (gathered T type gs) ≡ contentsOf T old rows buffer count type
-  unfolding encode gathered contentsOf stateOf slicesOf slicesFrom sliceOf groupOf
+  unfolding encode gathered contentsOf stateOf slicesOf slicesFrom sliceOf
   contents-are count type gs j = go (eqb (kind T type) 15) (eqb (kind T type) 14)
     where
-      S : Split count (stateOf T (start type)) 0 count gs
-      S = split count count (stateOf T (start type)) 0 gs refl (omega arith) j
+      S : Split count (stateOf T (dueAt type 0)) 0 count gs
+      S = split count count (stateOf T (dueAt type 0)) 0 gs refl (omega arith) j
 
       list-is : piecesOf type gs ≡ groupOf T rows buffer count type 0
-      list-is = S .mine ∙ ap (group T rows buffer (stateOf T (start type)) 0) (omega arith)
+      list-is = S .mine ∙ ap (group T rows buffer (stateOf T (dueAt type 0)) 0) (omega arith)
 
       slices-are : slicesOf T gs (chain T type) ≡ slicesFrom T rows buffer count 0 (chain T type)
       slices-are =

@@ -14,7 +14,7 @@ use Rattle.encoding.specs.Table.{base, upward, range, chain}
 use Rattle.encoding.specs.TableLaws.{chain-row}
 use Rattle.encoding.specs.Message.{encode, encapsulate}
 use Rattle.encoding.specs.Write.{Out, out, stop, next, above, Given, judgeAll, gathered, bounded, rowAt, rowsGiven}
-use Rattle.pieces.specs.Cursors.{start, stateOf}
+use Rattle.pieces.specs.Cursors.{dueAt, stateOf}
 use Rattle.pieces.specs.Judged.{verdictOf, verdictFrom}
 use Rattle.writer.specs.Slices.{encodingAs}
 use Rattle.writer.specs.Messages.{contentsOf, written}
@@ -32,9 +32,9 @@ module _ (T : List ℕ) (type : ℕ) (old : Bool) (count : ℕ) (rows buffer : L
 
   -- what the rows give
   abbrev judged : Out (List Given)
-  judged = judgeAll T old buffer (stateOf T (start type)) 0 (map (rowAt rows) (range 0 count))
+  judged = judgeAll T old buffer (stateOf T (dueAt type 0)) 0 (map (rowAt rows) (range 0 count))
 
-  verdict-is : verdictFrom T old rows buffer count (stateOf T (start type)) 0 ≡ verdictOf judged
+  verdict-is : verdictFrom T old rows buffer count (stateOf T (dueAt type 0)) 0 ≡ verdictOf judged
   unfolding verdictFrom
   verdict-is = let z : count - 0 ≡ count = omega arith in rw z
 
@@ -45,7 +45,7 @@ module _ (T : List ℕ) (type : ℕ) (old : Bool) (count : ℕ) (rows buffer : L
         let l : 12 * count ≤ length rows = omega arith in
         rw (le-leb (12 * count) (length rows) l, chain-row T type, begin-is T type (upward (chain T) (base T type)) refl)
 
-    pub written-wrong : (n p : ℕ) → verdictFrom T old rows buffer count (stateOf T (start type)) 0 ≡ stop n p → written T type old count rows buffer room ≡ stop n p
+    pub written-wrong : (n p : ℕ) → verdictFrom T old rows buffer count (stateOf T (dueAt type 0)) 0 ≡ stop n p → written T type old count rows buffer room ≡ stop n p
     unfolding verdictOf next
     written-wrong n p e = written-is ∙ go judged (sym verdict-is ∙ e)
       where
@@ -53,7 +53,7 @@ module _ (T : List ℕ) (type : ℕ) (old : Bool) (count : ℕ) (rows buffer : L
         go (out gs) q = let y : _≡_ {A = ℕ} 0 1 = cc in absurd (omega arith)
         go (stop m r) q = let a : m ≡ n = cc in let b : r ≡ p = cc in rw (a, b)
 
-    pub written-right : verdictFrom T old rows buffer count (stateOf T (start type)) 0 ≡ out tt
+    pub written-right : verdictFrom T old rows buffer count (stateOf T (dueAt type 0)) 0 ≡ out tt
         → written T type old count rows buffer room ≡ bounded room (encapsulate (encodingAs old) (contentsOf T old rows buffer count type))
     unfolding verdictOf next
     written-right e = written-is ∙ go judged refl (sym verdict-is ∙ e)

@@ -1,7 +1,7 @@
 // The whole message from its rows. Each function equals its definition on any table, rows, buffer and output.
-// One pass checks the rows and puts the message. On a second pass `judged` is true: the bytes of the rows were checked before and are not checked again.
-// `old` says that the message is of encoding 1.0.
-// slice.rt puts the rows of an owner and its slice, message.rt the slices of all owners. Each is given `begin`, where the table's type rows begin.
+// One pass checks the rows and measures the message (measure.rt), a second one puts it into the output: slice.rt the rows of an owner and its slice, message.rt the slices of all owners.
+// `old` says that the message is of encoding 1.0. Each function is given `begin`, where the table's type rows begin.
+pub mod measure;
 pub mod message;
 pub mod slice;
 
@@ -13,7 +13,7 @@ ghost use Rattle.encoding.specs.Write.{output};
 ghost use Rattle.shapes.specs.Shapes.{shapesOf};
 ghost use Rattle.writer.specs.Messages.{written, outcomeOf};
 
-// The end of the bytes put, the next row, whether an optional member was put, and the number of the refusal at that row or 0.
+// The end of the bytes measured or put, the next row, whether it has an optional member, and the number of the refusal at that row or 0.
 pub struct Laid {
     pub end: usize,
     pub row: usize,
@@ -21,7 +21,7 @@ pub struct Laid {
     pub fault: usize,
 }
 
-// The end of the bytes put if every row is right; or a refusal's number and place.
+// The end of the bytes measured or put, if every row is right; or a refusal's number and place.
 pub enum Put {
     Made(usize),
     Wrong(usize, usize),
@@ -33,72 +33,8 @@ pub enum Outcome {
     Stopped(usize, usize),
 }
 
-// Puts the message into a draft first, which checks the rows and gives its length.
-// A message that fits there is copied to the output; a longer one is put again, its parts not checked again.
-fn write_by_draft(
-    table: &[u8],
-    begin: usize,
-    shapes: &[u8; 256],
-    top: usize,
-    old: bool,
-    count: usize,
-    rows: &[u8],
-    buffer: &[u8],
-    draft: &mut [u8],
-    out: &mut [u8],
-) -> Outcome
-    requires { ⌜ begin ≡ typesAt (now table) ⌝ }
-    requires { ⌜ now shapes ≡ shapesOf (now table) ⌝ }
-    requires { ⌜ (top < 65536) × (count ≤ 4294967296) × (length (now buffer) ≤ 65536) ⌝ }
-    ensures { λ r. ⌜ (r ≡ outcomeOf (written (now (table .entry)) top old count (now (rows .entry)) (now (buffer .entry)) (length (now (out .entry))))) × (now (out .exit) ≡ output (written (now (table .entry)) top old count (now (rows .entry)) (now (buffer .entry)) (length (now (out .entry)))) (now (out .entry))) ⌝ }
-{
-    if rows.len() / 12 < count {
-        return Outcome::Stopped(20, count);
-    }
-    let put = message::put_message(
-        table,
-        begin,
-        shapes,
-        draft,
-        top,
-        old,
-        false,
-        count,
-        rows,
-        buffer,
-    );
-    match put {
-        Put::Wrong(number, place) => Outcome::Stopped(number, place),
-        Put::Made(n) => {
-            if 65536 < n {
-                return Outcome::Stopped(22, n);
-            }
-            if out.len() < n {
-                return Outcome::Stopped(22, n);
-            }
-            if n <= draft.len() {
-                wire::put_part(out, 0, draft, 0, n);
-                return Outcome::Made(n);
-            }
-            message::put_message(
-                table,
-                begin,
-                shapes,
-                out,
-                top,
-                old,
-                true,
-                count,
-                rows,
-                buffer,
-            );
-            Outcome::Made(n)
-        }
-    }
-}
-
 // Writes under a prepared table: checks the rows, each 20 then 21, then 22, and puts the message at the output's start.
-// The draft has 256 bytes if the buffer is short, else 1,024: a shorter one takes less time to clear.
+// The first pass checks and measures, the second puts: so the output is changed only after every check, and nothing is put twice.
 pub fn write_rows(
     table: &[u8],
     begin: usize,
@@ -115,32 +51,21 @@ pub fn write_rows(
     requires { ⌜ (top < 65536) × (count ≤ 4294967296) × (length (now buffer) ≤ 65536) ⌝ }
     ensures { λ r. ⌜ (r ≡ outcomeOf (written (now (table .entry)) top old count (now (rows .entry)) (now (buffer .entry)) (length (now (out .entry))))) × (now (out .exit) ≡ output (written (now (table .entry)) top old count (now (rows .entry)) (now (buffer .entry)) (length (now (out .entry)))) (now (out .entry))) ⌝ }
 {
-    if buffer.len() <= 128 {
-        let mut few = [0u8; 256];
-        return write_by_draft(
-            table,
-            begin,
-            shapes,
-            top,
-            old,
-            count,
-            rows,
-            buffer,
-            &mut few,
-            out,
-        );
+    if rows.len() / 12 < count {
+        return Outcome::Stopped(20, count);
     }
-    let mut more = [0u8; 1024];
-    write_by_draft(
-        table,
-        begin,
-        shapes,
-        top,
-        old,
-        count,
-        rows,
-        buffer,
-        &mut more,
-        out,
-    )
+    let measured = measure::measure(table, begin, shapes, top, old, count, rows, buffer);
+    match measured {
+        Put::Wrong(number, place) => Outcome::Stopped(number, place),
+        Put::Made(n) => {
+            if 65536 < n {
+                return Outcome::Stopped(22, n);
+            }
+            if out.len() < n {
+                return Outcome::Stopped(22, n);
+            }
+            message::put_message(table, begin, shapes, out, top, old, count, rows, buffer);
+            Outcome::Made(n)
+        }
+    }
 }

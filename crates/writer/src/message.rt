@@ -1,51 +1,54 @@
-// Checks the rows and puts the slices of a chain, and a message. `old` says that the encoding is 1.0.
+// Puts the members of a parameter list or the slices of a chain, and a message. The rows were checked before. `old` says that the encoding is 1.0.
 use crate::Put;
 use crate::slice;
 ghost use mathlib.Core.Path.{_≡_};
+ghost use mathlib.Core.Bool.{true};
 ghost use Prim.Native.Nat.{_≤_, _<_};
 ghost use lib.ListN.{length};
-ghost use Rattle.encoding.specs.Table.{typesAt, chain};
-ghost use Rattle.encoding.specs.Slice.{first};
-ghost use Rattle.encoding.specs.Message.{slicesBytes, encapsulate};
+ghost use lib.Dec.{eqb};
+ghost use Rattle.encoding.specs.Table.{typesAt, kind};
+ghost use Rattle.encoding.specs.Message.{encapsulate};
 ghost use Rattle.shapes.specs.Shapes.{shapesOf};
-ghost use Rattle.writer.specs.Slices.{encodingAs, slicesFrom};
-ghost use Rattle.writer.specs.Messages.{versionOf, contentsOf, AllPut};
+ghost use Rattle.pieces.specs.Puts.{Puts};
+ghost use Rattle.writer.specs.Slices.{encodingAs};
+ghost use Rattle.writer.specs.Messages.{versionOf, leadOf, partsOf, contentsOf, AllPut};
 
-// Checks the rows and puts the slices of row t and its bases.
-fn put_slices(
+// Puts the members of a parameter list t, or the slices of row t and its bases.
+fn put_parts(
     table: &[u8],
     begin: usize,
     shapes: &[u8; 256],
     out: &mut [u8],
     start: usize,
     t: usize,
+    list: bool,
     old: bool,
-    judged: bool,
     count: usize,
     rows: &[u8],
     buffer: &[u8],
 ) -> Put
     requires { ⌜ begin ≡ typesAt (now table) ⌝ }
     requires { ⌜ now shapes ≡ shapesOf (now table) ⌝ }
+    requires { ⌜ list ≡ eqb (kind (now table) t) 15 ⌝ }
     requires { ⌜ (start ≤ 7) × (t < 65536) × (count ≤ 4294967296) × (length (now buffer) ≤ 65536) ⌝ }
-    ensures { λ r. ⌜ AllPut (now (table .entry)) old (now (rows .entry)) (now (buffer .entry)) judged count t start (slicesBytes (encodingAs old) first (slicesFrom (now (table .entry)) (now (rows .entry)) (now (buffer .entry)) count 0 (chain (now (table .entry)) t))) (now (out .entry)) (now (out .exit)) r ⌝ }
+    ensures { λ r. ⌜ AllPut (now (table .entry)) old (now (rows .entry)) (now (buffer .entry)) true count t start (partsOf (now (table .entry)) old list (now (rows .entry)) (now (buffer .entry)) count t) (now (out .entry)) (now (out .exit)) r ⌝ }
 {
     let mut at = start;
     let mut o = t;
     let mut i = 0;
     loop {
         let up = table::chain::base(table, begin, o);
-        let d = slice::put_slice(
+        let d = slice::put_part(
             table,
             begin,
             shapes,
             out,
             at,
             o,
+            list,
             up == 0,
             i,
             old,
-            judged,
             count,
             rows,
             buffer,
@@ -65,93 +68,22 @@ fn put_slices(
     }
 }
 
-// Checks the rows and puts the data of an encapsulation: a parameter list, a class instance after its marker, or an exception, in 1.0 after its header byte.
-fn put_contents(
-    table: &[u8],
-    begin: usize,
-    shapes: &[u8; 256],
-    out: &mut [u8],
-    t: usize,
-    old: bool,
-    judged: bool,
-    count: usize,
-    rows: &[u8],
-    buffer: &[u8],
-) -> Put
-    requires { ⌜ begin ≡ typesAt (now table) ⌝ }
-    requires { ⌜ now shapes ≡ shapesOf (now table) ⌝ }
-    requires { ⌜ (t < 65536) × (count ≤ 4294967296) × (length (now buffer) ≤ 65536) ⌝ }
-    ensures { λ r. ⌜ AllPut (now (table .entry)) old (now (rows .entry)) (now (buffer .entry)) judged count t 6 (contentsOf (now (table .entry)) old (now (rows .entry)) (now (buffer .entry)) count t) (now (out .entry)) (now (out .exit)) r ⌝ }
+// Puts what comes before the members or slices of a type of kind k, and returns its end: the marker of a class instance, in 1.0 the header byte of an exception.
+fn put_lead(out: &mut [u8], k: usize, old: bool) -> usize
+    ensures { λ r. ⌜ Puts 6 (leadOf k old) (now (out .entry)) (now (out .exit)) r × (r ≤ 7) ⌝ }
 {
-    let k = table::kind(table, begin, t);
     if k == 15 {
-        let d = slice::put_rows(
-            table,
-            begin,
-            shapes,
-            out,
-            6,
-            t,
-            0,
-            old,
-            judged,
-            count,
-            rows,
-            buffer,
-        );
-        if d.fault != 0 {
-            return Put::Wrong(d.fault, d.row);
-        }
-        if d.row < count {
-            return Put::Wrong(20, d.row);
-        }
-        return Put::Made(d.end);
+        return 6;
     }
     if k == 14 {
         wire::put_number(out, 6, 1, 1);
-        return put_slices(
-            table,
-            begin,
-            shapes,
-            out,
-            7,
-            t,
-            old,
-            judged,
-            count,
-            rows,
-            buffer,
-        );
+        return 7;
     }
     if old {
         wire::put_number(out, 6, 1, 0);
-        return put_slices(
-            table,
-            begin,
-            shapes,
-            out,
-            7,
-            t,
-            old,
-            judged,
-            count,
-            rows,
-            buffer,
-        );
+        return 7;
     }
-    put_slices(
-        table,
-        begin,
-        shapes,
-        out,
-        6,
-        t,
-        old,
-        judged,
-        count,
-        rows,
-        buffer,
-    )
+    6
 }
 
 // The version's two bytes as a number: 1.0 or 1.1.
@@ -164,7 +96,7 @@ fn version(old: bool) -> usize
     257
 }
 
-// Checks the rows and puts the message: the data, then the size and the version before them.
+// Puts the message: the data, then the size and the version before them.
 pub fn put_message(
     table: &[u8],
     begin: usize,
@@ -172,7 +104,6 @@ pub fn put_message(
     out: &mut [u8],
     t: usize,
     old: bool,
-    judged: bool,
     count: usize,
     rows: &[u8],
     buffer: &[u8],
@@ -180,16 +111,19 @@ pub fn put_message(
     requires { ⌜ begin ≡ typesAt (now table) ⌝ }
     requires { ⌜ now shapes ≡ shapesOf (now table) ⌝ }
     requires { ⌜ (t < 65536) × (count ≤ 4294967296) × (length (now buffer) ≤ 65536) ⌝ }
-    ensures { λ r. ⌜ AllPut (now (table .entry)) old (now (rows .entry)) (now (buffer .entry)) judged count t 0 (encapsulate (encodingAs old) (contentsOf (now (table .entry)) old (now (rows .entry)) (now (buffer .entry)) count t)) (now (out .entry)) (now (out .exit)) r ⌝ }
+    ensures { λ r. ⌜ AllPut (now (table .entry)) old (now (rows .entry)) (now (buffer .entry)) true count t 0 (encapsulate (encodingAs old) (contentsOf (now (table .entry)) old (now (rows .entry)) (now (buffer .entry)) count t)) (now (out .entry)) (now (out .exit)) r ⌝ }
 {
-    let put = put_contents(
+    let k = table::kind(table, begin, t);
+    let start = put_lead(out, k, old);
+    let put = put_parts(
         table,
         begin,
         shapes,
         out,
+        start,
         t,
+        k == 15,
         old,
-        judged,
         count,
         rows,
         buffer,

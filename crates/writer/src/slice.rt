@@ -1,69 +1,148 @@
-// Checks and puts the rows of an owner, and its slice. `old` says that the encoding is 1.0: its slices are pairs of type ID and size with data.
+// Puts the rows of an owner, and its slice. The rows were checked before. `old` says that the encoding is 1.0: its slices are pairs of type ID and size with data.
 use crate::Laid;
-use pieces::Cursor;
-use pieces::Placed;
+use pieces::May;
 use pieces::piece;
-use pieces::state;
 ghost use mathlib.Core.Path.{_≡_};
-ghost use Prim.Native.Nat.{_+_, _≤_};
+ghost use mathlib.Core.Bool.{true};
+ghost use Prim.Native.Nat.{_+_, _≤_, _<_};
 ghost use lib.ListN.{length};
 ghost use Rattle.encoding.specs.Result.{pick};
 ghost use Rattle.encoding.specs.Number.{stringBytes};
-ghost use Rattle.encoding.specs.Table.{typesAt, nameOf};
+ghost use Rattle.encoding.specs.Table.{typesAt, membersAt, members, field, nameOf};
 ghost use Rattle.shapes.specs.Shapes.{shapesOf};
 ghost use Rattle.pieces.specs.Puts.{Puts};
-ghost use Rattle.writer.specs.Slices.{frontField, pairField, frontOf, RowsPut, DataPut, SlicePut};
+ghost use Rattle.pieces.specs.Cursors.{dueAt, mayAt};
+ghost use Rattle.writer.specs.Slices.{frontField, pairField, frontOf, endMark, RequiredsPut, RowsPut, PartPut};
 
-// Checks and puts the rows of owner o from row `first` on.
-pub fn put_rows(
+// Puts the rows of the required members of owner o, from row `from` on. Its member rows are the b rows from a on.
+// Rows whose parts follow one another in the buffer are put by one copy: `len` bytes from `place` on are still to be put.
+fn put_requireds(
     table: &[u8],
-    begin: usize,
-    shapes: &[u8; 256],
+    first: usize,
     out: &mut [u8],
     start: usize,
     o: usize,
-    first: usize,
+    a: usize,
+    b: usize,
+    from: usize,
     old: bool,
-    judged: bool,
     count: usize,
     rows: &[u8],
     buffer: &[u8],
 ) -> Laid
-    requires { ⌜ begin ≡ typesAt (now table) ⌝ }
-    requires { ⌜ now shapes ≡ shapesOf (now table) ⌝ }
-    requires { ⌜ (start ≤ 576460752303423488) × (first ≤ count) × (count ≤ 4294967296) × (length (now buffer) ≤ 65536) ⌝ }
-    ensures { λ r. ⌜ RowsPut (now (table .entry)) old (now (rows .entry)) (now (buffer .entry)) judged count o first start (now (out .entry)) (now (out .exit)) r ⌝ }
+    requires { ⌜ (first ≡ membersAt (now table)) × (first < 1048576) ⌝ }
+    requires { ⌜ (a ≡ field (now table) o 0) × (b ≡ field (now table) o 1) × (a < 65536) × (b < 65536) ⌝ }
+    requires { ⌜ (start ≤ 576460752303423488) × (from ≤ count) × (count ≤ 4294967296) × (length (now buffer) ≤ 65536) ⌝ }
+    ensures { λ r. ⌜ RequiredsPut (now (table .entry)) old (now (rows .entry)) (now (buffer .entry)) true count o from start (now (out .entry)) (now (out .exit)) r ⌝ }
 {
-    let mut from = Cursor {
-        owner: o,
-        passed: 0,
-        least: 0,
-    };
     let mut at = start;
-    let mut i = first;
+    let mut i = from;
+    let mut k = 0;
+    let mut place = 0;
+    let mut len = 0;
+    while k < b {
+        if table::mark_from(table, first, a + k) != 0 {
+            k += 1;
+            continue;
+        }
+        if count <= i {
+            return Laid {
+                end: at,
+                row: i,
+                optionals: false,
+                fault: 20,
+            };
+        }
+        let row = wire::rows::row_at(rows, i);
+        if row.member != a + k {
+            return Laid {
+                end: at,
+                row: i,
+                optionals: false,
+                fault: 20,
+            };
+        }
+        if !wire::fits(buffer.len(), row.place, row.len) {
+            return Laid {
+                end: at,
+                row: i,
+                optionals: false,
+                fault: 20,
+            };
+        }
+        if row.place == place + len {
+            len += row.len;
+            i += 1;
+            k += 1;
+            continue;
+        }
+        at = piece::put_content(out, at, place, len, buffer);
+        place = row.place;
+        len = row.len;
+        i += 1;
+        k += 1;
+    }
+    let end = piece::put_content(out, at, place, len, buffer);
+    Laid {
+        end: end,
+        row: i,
+        optionals: false,
+        fault: 0,
+    }
+}
+
+// Puts the rows of optional members of owner o, from row `from` on.
+fn put_optionals(
+    table: &[u8],
+    shapes: &[u8; 256],
+    first: usize,
+    all: usize,
+    out: &mut [u8],
+    start: usize,
+    o: usize,
+    a: usize,
+    b: usize,
+    from: usize,
+    old: bool,
+    count: usize,
+    rows: &[u8],
+    buffer: &[u8],
+) -> Laid
+    requires { ⌜ now shapes ≡ shapesOf (now table) ⌝ }
+    requires { ⌜ (first ≡ membersAt (now table)) × (first < 1048576) × (all ≡ members (now table)) ⌝ }
+    requires { ⌜ (a ≡ field (now table) o 0) × (b ≡ field (now table) o 1) × (a < 65536) × (b < 65536) ⌝ }
+    requires { ⌜ (start ≤ 864691128455135232) × (from ≤ count) × (count ≤ 4294967296) × (length (now buffer) ≤ 65536) ⌝ }
+    ensures { λ r. ⌜ RowsPut (now (table .entry)) old (now (rows .entry)) (now (buffer .entry)) true count (mayAt (now (table .entry)) o 0) from start (now (out .entry)) (now (out .exit)) r ⌝ }
+{
+    let mut at = start;
+    let mut i = from;
+    let mut least = 0;
     let mut optionals = false;
     while i < count {
-        let p = piece::put_row(
+        let p = piece::put_may(
             table,
-            begin,
             shapes,
+            first,
+            all,
             out,
             at,
-            from,
+            o,
+            a,
+            b,
+            least,
             old,
-            judged,
             rows,
             i,
             buffer,
         );
         match p {
-            Placed::Row(c, end, optional) => {
-                from = c;
+            May::Row(end, tag) => {
                 at = end;
-                optionals = optionals | optional;
+                least = tag + 1;
+                optionals = true;
                 i += 1;
             }
-            Placed::Stop => {
+            May::Stop => {
                 return Laid {
                     end: at,
                     row: i,
@@ -71,7 +150,7 @@ pub fn put_rows(
                     fault: 0,
                 };
             }
-            Placed::Wrong(number) => {
+            May::Wrong(number) => {
                 return Laid {
                     end: at,
                     row: i,
@@ -81,20 +160,69 @@ pub fn put_rows(
             }
         }
     }
-    if state::is_due(table, begin, from) {
-        return Laid {
-            end: at,
-            row: i,
-            optionals: optionals,
-            fault: 20,
-        };
-    }
     Laid {
         end: at,
         row: i,
         optionals: optionals,
         fault: 0,
     }
+}
+
+// Puts the rows of owner o from row `from` on.
+pub fn put_rows(
+    table: &[u8],
+    begin: usize,
+    shapes: &[u8; 256],
+    out: &mut [u8],
+    start: usize,
+    o: usize,
+    from: usize,
+    old: bool,
+    count: usize,
+    rows: &[u8],
+    buffer: &[u8],
+) -> Laid
+    requires { ⌜ begin ≡ typesAt (now table) ⌝ }
+    requires { ⌜ now shapes ≡ shapesOf (now table) ⌝ }
+    requires { ⌜ (start ≤ 576460752303423488) × (from ≤ count) × (count ≤ 4294967296) × (length (now buffer) ≤ 65536) ⌝ }
+    ensures { λ r. ⌜ RowsPut (now (table .entry)) old (now (rows .entry)) (now (buffer .entry)) true count (dueAt o 0) from start (now (out .entry)) (now (out .exit)) r ⌝ }
+{
+    let owner = table::type_row(table, begin, o);
+    let first = table::members_at(table, begin);
+    let all = table::members(table);
+    let d = put_requireds(
+        table,
+        first,
+        out,
+        start,
+        o,
+        owner.a,
+        owner.b,
+        from,
+        old,
+        count,
+        rows,
+        buffer,
+    );
+    if d.fault != 0 {
+        return d;
+    }
+    put_optionals(
+        table,
+        shapes,
+        first,
+        all,
+        out,
+        d.end,
+        o,
+        owner.a,
+        owner.b,
+        d.row,
+        old,
+        count,
+        rows,
+        buffer,
+    )
 }
 
 // How many bytes the type ID of owner o takes.
@@ -120,53 +248,16 @@ fn put_id(table: &[u8], begin: usize, out: &mut [u8], at: usize, o: usize) -> us
     at + k + n
 }
 
-// Checks the rows of owner o and puts a slice's data: the rows and, after optionals, byte 255.
-fn put_data(
-    table: &[u8],
-    begin: usize,
-    shapes: &[u8; 256],
-    out: &mut [u8],
-    start: usize,
-    o: usize,
-    first: usize,
-    old: bool,
-    judged: bool,
-    count: usize,
-    rows: &[u8],
-    buffer: &[u8],
-) -> Laid
-    requires { ⌜ begin ≡ typesAt (now table) ⌝ }
-    requires { ⌜ now shapes ≡ shapesOf (now table) ⌝ }
-    requires { ⌜ (start ≤ 576460752303423488) × (first ≤ count) × (count ≤ 4294967296) × (length (now buffer) ≤ 65536) ⌝ }
-    ensures { λ r. ⌜ DataPut (now (table .entry)) old (now (rows .entry)) (now (buffer .entry)) judged count o first start (now (out .entry)) (now (out .exit)) r ⌝ }
+// Puts byte 255 after the optionals of a slice, if it has any, and returns its end.
+fn put_end(out: &mut [u8], at: usize, optionals: bool) -> usize
+    requires { ⌜ at ≤ 864691128455135232 ⌝ }
+    ensures { λ r. ⌜ Puts at (endMark optionals) (now (out .entry)) (now (out .exit)) r × (r ≤ at + 1) ⌝ }
 {
-    let d = put_rows(
-        table,
-        begin,
-        shapes,
-        out,
-        start,
-        o,
-        first,
-        old,
-        judged,
-        count,
-        rows,
-        buffer,
-    );
-    if d.fault != 0 {
-        return d;
+    if optionals {
+        wire::put_number(out, at, 1, 255);
+        return at + 1;
     }
-    if d.optionals {
-        wire::put_number(out, d.end, 1, 255);
-        return Laid {
-            end: d.end + 1,
-            row: d.row,
-            optionals: true,
-            fault: 0,
-        };
-    }
-    d
+    at
 }
 
 // Puts the type ID of owner o and the size of data of n bytes, counting itself, and returns its end.
@@ -231,38 +322,48 @@ fn bare_len(old: bool) -> usize
     5
 }
 
-// Checks the rows of owner o and puts its slice: the data first, then what comes before them.
-pub fn put_slice(
+// How many bytes come before the data of owner o's slice; a parameter list has none.
+pub fn front_len(table: &[u8], begin: usize, o: usize, list: bool, old: bool) -> usize
+    requires { ⌜ begin ≡ typesAt (now table) ⌝ }
+    ensures { λ r. ⌜ (r ≡ pick list 0 (pick old 4 5 + length (stringBytes (nameOf (now (table .entry)) o)))) × (r ≤ 65545) ⌝ }
+{
+    if list {
+        return 0;
+    }
+    bare_len(old) + id_len(table, begin, o)
+}
+
+// Puts the slice of owner o: the data first, then what comes before them; of a parameter list the rows alone.
+pub fn put_part(
     table: &[u8],
     begin: usize,
     shapes: &[u8; 256],
     out: &mut [u8],
     at: usize,
     o: usize,
+    list: bool,
     last: bool,
-    first: usize,
+    from: usize,
     old: bool,
-    judged: bool,
     count: usize,
     rows: &[u8],
     buffer: &[u8],
 ) -> Laid
     requires { ⌜ begin ≡ typesAt (now table) ⌝ }
     requires { ⌜ now shapes ≡ shapesOf (now table) ⌝ }
-    requires { ⌜ (at ≤ 288230376151711744) × (first ≤ count) × (count ≤ 4294967296) × (length (now buffer) ≤ 65536) ⌝ }
-    ensures { λ r. ⌜ SlicePut (now (table .entry)) old (now (rows .entry)) (now (buffer .entry)) judged count last o first at (now (out .entry)) (now (out .exit)) r ⌝ }
+    requires { ⌜ (at ≤ 288230376151711744) × (from ≤ count) × (count ≤ 4294967296) × (length (now buffer) ≤ 65536) ⌝ }
+    ensures { λ r. ⌜ PartPut (now (table .entry)) old (now (rows .entry)) (now (buffer .entry)) true count list last o from at (now (out .entry)) (now (out .exit)) r ⌝ }
 {
-    let start = at + bare_len(old) + id_len(table, begin, o);
-    let d = put_data(
+    let start = at + front_len(table, begin, o, list, old);
+    let d = put_rows(
         table,
         begin,
         shapes,
         out,
         start,
         o,
-        first,
+        from,
         old,
-        judged,
         count,
         rows,
         buffer,
@@ -270,7 +371,15 @@ pub fn put_slice(
     if d.fault != 0 {
         return d;
     }
-    let n = d.end - start;
-    put_front_as(table, begin, out, at, o, old, d.optionals, last, n);
-    d
+    if list {
+        return d;
+    }
+    let e = put_end(out, d.end, d.optionals);
+    put_front_as(table, begin, out, at, o, old, d.optionals, last, e - start);
+    Laid {
+        end: e,
+        row: d.row,
+        optionals: d.optionals,
+        fault: 0,
+    }
 }

@@ -11,6 +11,6 @@ part-len-spec =
     (tie.spec
     (λ c. search (needs, part-past))  -- returns
     (λ c. search needs)  -- sub-if2
-    (λ c. (part-whole _ _ (c .if2 .taken), omega arith))  -- returns-2
+    (λ c. (search part-whole, omega arith))  -- returns-2
     (λ c. search needs)  -- sub-result
-    (λ c. (part-cut _ _ (c .before .if2 .left), omega arith)))  -- returns-3
+    (λ c. (search part-cut, omega arith)))  -- returns-3
