@@ -23,7 +23,8 @@ const ROUND: Duration = Duration::from_micros(50);
 const WHILE: Duration = Duration::from_millis(500);
 const LEAST_ROUNDS: usize = 20;
 
-/// A ratio above its bar is measured on for at most so many times as long: the least times only fall.
+/// A ratio that is above its bar by less than a tenth is measured on, for at most so many times as long: the least times
+/// only fall.
 const PATIENCE: u32 = 20;
 
 /// Bars, each held on the ratio as measured. A message is read in at most this part of the time of plain Rust: P2, the
@@ -666,7 +667,7 @@ fn compare(
     let most = bar.unwrap_or(f64::MAX);
     while rounds < LEAST_ROUNDS
         || start.elapsed() < WHILE
-        || least / other_least > most && start.elapsed() < WHILE * PATIENCE
+        || least / other_least > most && least / other_least < 1.1 * most && start.elapsed() < WHILE * PATIENCE
     {
         least = least.min(round(&mut call, calls));
         other_least = other_least.min(round(&mut other, other_calls));
