@@ -35,9 +35,9 @@ use Rattle.shapes.specs.Shapes.{formNumber, shapesOf, formIn}
 use Rattle.shapes.specs.ShapesLaws.{form-row}
 use Rattle.wire.specs.Put.{put, headerBits}
 use Rattle.wire.specs.PutLaws.{header-bits}
-use Rattle.pieces.specs.declared.Found.{Found}
-use Rattle.pieces.specs.declared.Found.the-variants.{At, Nothing}
-use Rattle.pieces.specs.Cursors.{requiredIn, Cursor, dueAt, mayAt, stateOf, mayMember, dueReached, mayReached, IsDue, Gone, IsMay, FoundIn}
+use Rattle.pieces.specs.declared.Optional.{Optional}
+use Rattle.pieces.specs.declared.Optional.the-variants.{Of, Nothing}
+use Rattle.pieces.specs.Cursors.{requiredIn, Cursor, dueAt, mayAt, stateOf, mayMember, dueReached, mayReached, IsDue, Gone, IsMay, OptionalIn}
 use Rattle.pieces.specs.Judged.{partForm, judgedRow}
 use Rattle.pieces.specs.Puts.{Puts}
 use Rattle.pieces.specs.PutsLaws.{puts-one, puts-none, puts-is, puts-measured, puts-number, puts-byte, puts-size, puts-then}
@@ -145,10 +145,10 @@ unfolding pieceAt takenOf hereOf stateOf
 piece-is T rows buffer i r er from z e o = rw (← er, e, eq-eqb (from .owner) (z .state .owner) (sym o))
 
 -- the tag of an optional member
-pub may-tag : (T : List ℕ) (o least m : ℕ) (f : Found) → FoundIn T o least m f → (t key : ℕ) → f ≡ At t key → key < 4294967296
+pub may-tag : (T : List ℕ) (o least m : ℕ) (f : Optional) → OptionalIn T o least m f → (t key : ℕ) → f ≡ Of t key → key < 4294967296
 may-tag T o least m f y t key q = go (rw q at y)
   where
-    go : FoundIn T o least m (At t key) → key < 4294967296
+    go : OptionalIn T o least m (Of t key) → key < 4294967296
     go z = z .small
 
 -- the length of a part that is right
@@ -206,11 +206,11 @@ module _ (T : List ℕ) (old : Bool) (rows buffer : List ℕ) (i : ℕ) (r : Row
               few = omega (arith, l .1);
             }
 
-  module _ (o least : ℕ) (f : Found) (y : FoundIn T o least (r .member) f) where
+  module _ (o least : ℕ) (f : Optional) (y : OptionalIn T o least (r .member) f) where
     pub may-gone : f ≡ Nothing → Gone T (mayAt T o least) (rowAt rows i .member)
     may-gone q = rw (← er) (rw q at y)
 
-  module _ (o least t key : ℕ) (f : Found) (w : FoundIn T o least (r .member) f) (q : f ≡ At t key) where
+  module _ (o least t key : ℕ) (f : Optional) (w : OptionalIn T o least (r .member) f) (q : f ≡ Of t key) where
     y : IsMay T o least (r .member) t key
     y = rw q at w
 

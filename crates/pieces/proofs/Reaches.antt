@@ -15,7 +15,7 @@ use borrow.Author.Tests.{le-leb, lt-leb, eq-eqb, ne-eqb}
 use Rattle.encoding.specs.Result.{pick}
 use Rattle.encoding.specs.Table.{field, mark, tag, trees, tyOf, memberTy, optionalMembers}
 use Rattle.encoding.specs.Write.{optionalRow, reachDue, reach}
-use Rattle.pieces.specs.Cursors.{requiredIn, dueIn, dueFrom, dueAt, mayAt, stateOf, mayMember, dueReached, mayReached, IsDue, Gone, IsMay}
+use Rattle.pieces.specs.Cursors.{requiredIn, dueFrom, dueAt, mayAt, stateOf, mayMember, dueReached, mayReached, IsDue, Gone, IsMay}
 use Rattle.pieces.specs.CursorsLaws.{due-more, due-none, may-outside, may-inside, reach-due, reach-may}
 
 -- ---- a required member

@@ -13,7 +13,7 @@
 --   IsDue            a member row is the required member that is due
 --   Gone             no member is due of the owner, and a member row is no optional that may come
 --   IsMay            a member row is an optional that may come, of a type row and tag
---   FoundIn          the code's answer to the optional member of a row, of the owner alone
+--   OptionalIn          the code's answer to the optional member of a row, of the owner alone
 use mathlib.Core.Path.{_≡_}
 use mathlib.Core.Bool.{true, false}
 use mathlib.Core.Option.{none, some}
@@ -23,8 +23,8 @@ use lib.Dec.{eqb}
 use Rattle.encoding.specs.Result.{pick}
 use Rattle.encoding.specs.Table.{field, mark, tag, range, Member, trees, tyOf, memberTy, requiredsIn, optionalMembers, base, upward, chain}
 use Rattle.encoding.specs.Write.{State, Reached, optionalRow, reach}
-use Rattle.pieces.specs.declared.Found.{Found}
-use Rattle.pieces.specs.declared.Found.the-variants.{At, Nothing}
+use Rattle.pieces.specs.declared.Optional.{Optional}
+use Rattle.pieces.specs.declared.Optional.the-variants.{Of, Nothing}
 
 -- among the k member rows from a on
 unfoldable pub requiredIn : List ℕ → ℕ → ℕ → ℕ
@@ -87,6 +87,6 @@ pub record IsMay (T : List ℕ) (o least m t key : ℕ) : Type 0 where
   pub tagged : key ≡ tag T m
   pub small : key < 4294967296
 
-abbrev pub FoundIn : List ℕ → ℕ → ℕ → ℕ → Found → Type 0
-FoundIn T o least m (At t key) = IsMay T o least m t key
-FoundIn T o least m Nothing = Gone T (mayAt T o least) m
+abbrev pub OptionalIn : List ℕ → ℕ → ℕ → ℕ → Optional → Type 0
+OptionalIn T o least m (Of t key) = IsMay T o least m t key
+OptionalIn T o least m Nothing = Gone T (mayAt T o least) m

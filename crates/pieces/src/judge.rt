@@ -1,8 +1,8 @@
 // Finds the member of a row, checks the row's bytes and measures its piece. `old` says that the encoding is 1.0, which has other enums and proxies.
 // `begin` is where the table's type rows begin, `first` where its member rows begin, `all` how many there are.
 use crate::Due;
-use crate::Found;
 use crate::May;
+use crate::Optional;
 use wire::rows::RowNumbers;
 ghost use mathlib.Core.Path.{_≡_};
 ghost use mathlib.Core.Bool.{false};
@@ -13,7 +13,7 @@ ghost use Rattle.encoding.specs.Table.{typesAt, membersAt, members, memberType,
 ghost use Rattle.encoding.specs.Old.{typeAs};
 ghost use Rattle.shapes.specs.Shapes.{shapesOf};
 ghost use Rattle.wire.specs.Row.{asRow};
-ghost use Rattle.pieces.specs.Cursors.{IsDue, FoundIn};
+ghost use Rattle.pieces.specs.Cursors.{IsDue, OptionalIn};
 ghost use Rattle.pieces.specs.Judged.{partForm};
 ghost use Rattle.pieces.specs.Pieces.{headerField, lengthField, DuePut, MayPut};
 
@@ -35,25 +35,25 @@ pub fn optional_at(
     b: usize,
     least: usize,
     m: usize,
-) -> Found
+) -> Optional
     requires { ⌜ (first ≡ membersAt (now table)) × (first < 1048576) × (all ≡ members (now table)) ⌝ }
     requires { ⌜ (a ≡ field (now table) o 0) × (b ≡ field (now table) o 1) × (a < 65536) × (b < 65536) ⌝ }
-    ensures { λ r. ⌜ FoundIn (now (table .entry)) o least m r ⌝ }
+    ensures { λ r. ⌜ OptionalIn (now (table .entry)) o least m r ⌝ }
 {
     if m < a {
-        return Found::Nothing;
+        return Optional::Nothing;
     }
     if a + b <= m {
-        return Found::Nothing;
+        return Optional::Nothing;
     }
     let member = table::member_row_from(table, first, m);
     if member.mark == 0 {
-        return Found::Nothing;
+        return Optional::Nothing;
     }
     if member.tag < least {
-        return Found::Nothing;
+        return Optional::Nothing;
     }
-    Found::At(type_of(table, all, m, member.of), member.tag)
+    Optional::Of(type_of(table, all, m, member.of), member.tag)
 }
 
 // 20 if a row's part lies outside the buffer, 21 if it is not exactly a value of type row t, else 0.
@@ -167,7 +167,7 @@ pub fn may(
     let row = wire::rows::row_at(rows, i);
     let f = optional_at(table, first, all, o, a, b, least, row.member);
     match f {
-        Found::At(t, tag) => {
+        Optional::Of(t, tag) => {
             let fault = part_form(table, begin, shapes, t, old, row, buffer);
             if fault != 0 {
                 return May::Wrong(fault);
@@ -176,6 +176,6 @@ pub fn may(
             let l = length_len(shapes::form(shapes, t), row.len);
             May::Row(at + h + l + row.len, tag)
         }
-        Found::Nothing => May::Stop,
+        Optional::Nothing => May::Stop,
     }
 }

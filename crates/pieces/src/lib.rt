@@ -18,7 +18,7 @@ pub enum May {
 }
 
 // An optional member of an owner: the row of its type and its tag; or there is none.
-pub enum Found {
-    At(usize, usize),
+pub enum Optional {
+    Of(usize, usize),
     Nothing,
 }

@@ -1,6 +1,6 @@
 // Puts the member of a row: its header, its length field, its bytes. The row was checked before; `old` says that it was for encoding 1.0.
-use crate::Found;
 use crate::May;
+use crate::Optional;
 use crate::judge;
 use crate::rows;
 use wire::rows::RowNumbers;
@@ -114,13 +114,13 @@ pub fn put_may(
     let row = wire::rows::row_at(rows, i);
     let f = judge::optional_at(table, first, all, o, a, b, least, row.member);
     match f {
-        Found::At(t, tag) => {
+        Optional::Of(t, tag) => {
             let form = shapes::form(shapes, t);
             let c = put_header(out, at, tag, wire::form_bits(form));
             let d = put_length(out, c, form, rows::part_len(row.place, row.len, buffer));
             let e = put_content(out, d, row.place, row.len, buffer);
             May::Row(e, tag)
         }
-        Found::Nothing => May::Stop,
+        Optional::Nothing => May::Stop,
     }
 }

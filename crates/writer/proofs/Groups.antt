@@ -12,7 +12,7 @@ use mathlib.Core.Path.{_≡_, refl, sym, ap, subst, _∙_}
 use mathlib.Core.Bool.{Bool, true, false, _||_, not}
 use mathlib.Core.Option.{none, some}
 use mathlib.Core.List.{List, [], _∷_, _++_, append-assoc}
-use Prim.Native.Nat.{ℕ, zero, suc, _+_, _-_, _*_, _≤_, _<_}
+use Prim.Native.Nat.{ℕ, zero, suc, _+_, _-_, _≤_, _<_}
 use native.Mathlib.Numerals.{add-one}
 use native.Mathlib.Omega.{arith}
 use lib.ListN.{length, take, drop, length-take, length-append}
@@ -32,13 +32,12 @@ use Rattle.pieces.specs.declared.May.{May}
 use Rattle.pieces.specs.declared.May.the-variants.{Row as MayRow, Stop, Wrong as MayWrong}
 use Rattle.pieces.specs.Cursors.{requiredIn, Cursor, dueFrom, dueAt, mayAt, stateOf, IsDue}
 use Rattle.pieces.specs.CursorsLaws.{due-more, due-none, due-skip}
-use Rattle.pieces.specs.Judged.{judgedRow, verdictFrom, verdictAbove, Gives}
+use Rattle.pieces.specs.Judged.{judgedRow, verdictFrom, verdictAbove}
 use Rattle.pieces.specs.JudgedLaws.{gives-then, verdict-right, verdict-wrong, verdict-due, leave-row, leave-end}
 use Rattle.pieces.specs.Puts.{Puts, Leaves}
 use Rattle.pieces.specs.PutsLaws.{leaves-begin, leaves-next, leaves-end}
 use Rattle.pieces.specs.Pieces.{pieceAt, grown, group, RowIs, RowLaid, DuePut, MayPut}
 use Rattle.pieces.specs.PiecesLaws.{required-bytes}
-use Rattle.pieces.proofs.Judges.{part-outside}
 use Rattle.pieces.proofs.Fields.{due-other, due-outside, due-given}
 use Rattle.writer.specs.Slices.{groupFrom, Grouping, Judges, RequiredsPut, RowsPut}
 use Rattle.writer.specs.Gathers.{gone-none}
