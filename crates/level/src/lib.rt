@@ -154,6 +154,7 @@ fn same(members: Members) -> Members
 
 // As `required` in encoding 1.1, for an owner that takes member rows `from` to `end` - 1. The table has `all` member rows, from `first` on. Members that may be any bytes are read without a call; if another one is required too, `required` begins anew.
 // It is called at one place and inlined there: so a parameter list of numbers is read without a call.
+// Wrong and ruled out: a required member that is declared after optional ones passed over.
 pub fn required_simple(
     table: &[u8],
     begin: usize,

@@ -129,6 +129,7 @@ fn bare_shape(k: usize) -> usize
 
 // How many bytes a simple optional takes, with its header; 0 if the next one is not simple. It is simple if its tag is below 30 and that of member row `row`, and its value any bytes of F1, F2, F4 or F8.
 // It is short enough to be inlined, so that most optionals of a parameter list take no call. The width comes from the row's shape, not from the header: so the next header is looked at without waiting for this one.
+// Wrong and ruled out: a long taken as four bytes.
 pub fn simple(
     table: &[u8],
     first: usize,
