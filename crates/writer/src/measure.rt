@@ -8,7 +8,7 @@ use pieces::judge;
 ghost use mathlib.Core.Path.{_≡_};
 ghost use mathlib.Core.Bool.{false};
 ghost use mathlib.Core.List.{[]};
-ghost use Prim.Native.Nat.{_+_, _≤_, _<_};
+ghost use Prim.Native.Nat.{_+_, _*_, _≤_, _<_};
 ghost use lib.ListN.{length};
 ghost use lib.Dec.{eqb};
 ghost use Rattle.encoding.specs.Table.{typesAt, membersAt, members, kind, field};
@@ -39,15 +39,14 @@ fn measure_requireds(
     requires { ⌜ now shapes ≡ shapesOf (now table) ⌝ }
     requires { ⌜ (first ≡ membersAt (now table)) × (first < 1048576) × (all ≡ members (now table)) ⌝ }
     requires { ⌜ (a ≡ field (now table) o 0) × (b ≡ field (now table) o 1) × (a < 65536) × (b < 65536) ⌝ }
-    requires { ⌜ (start ≤ 576460752303423488) × (from ≤ count) × (count ≤ 4294967296) × (length (now buffer) ≤ 65536) ⌝ }
+    requires { ⌜ (start ≤ 576460752303423488) × (from ≤ count) × (count ≤ 4294967296) × (length (now buffer) ≤ 65536) × (12 * count ≤ length (now rows)) ⌝ }
     ensures { λ r. ⌜ RequiredsPut (now (table .entry)) old (now (rows .entry)) (now (buffer .entry)) false count o from start [] [] r ⌝ }
 {
     let mut at = start;
     let mut i = from;
     let mut k = 0;
     while k < b {
-        let member = table::member_row_from(table, first, a + k);
-        if member.mark != 0 {
+        if table::mark_from(table, first, a + k) != 0 {
             k += 1;
             continue;
         }
@@ -68,7 +67,7 @@ fn measure_requireds(
             o,
             k,
             a + k,
-            member.of,
+            table::type_from(table, first, a + k),
             old,
             rows,
             i,
@@ -119,7 +118,7 @@ fn measure_optionals(
     requires { ⌜ now shapes ≡ shapesOf (now table) ⌝ }
     requires { ⌜ (first ≡ membersAt (now table)) × (first < 1048576) × (all ≡ members (now table)) ⌝ }
     requires { ⌜ (a ≡ field (now table) o 0) × (b ≡ field (now table) o 1) × (a < 65536) × (b < 65536) ⌝ }
-    requires { ⌜ (start ≤ 864691128455135232) × (from ≤ count) × (count ≤ 4294967296) × (length (now buffer) ≤ 65536) ⌝ }
+    requires { ⌜ (start ≤ 864691128455135232) × (from ≤ count) × (count ≤ 4294967296) × (length (now buffer) ≤ 65536) × (12 * count ≤ length (now rows)) ⌝ }
     ensures { λ r. ⌜ RowsPut (now (table .entry)) old (now (rows .entry)) (now (buffer .entry)) false count (mayAt (now (table .entry)) o 0) from start [] [] r ⌝ }
 {
     let mut at = start;
@@ -191,7 +190,7 @@ fn measure_rows(
 ) -> Laid
     requires { ⌜ begin ≡ typesAt (now table) ⌝ }
     requires { ⌜ now shapes ≡ shapesOf (now table) ⌝ }
-    requires { ⌜ (start ≤ 576460752303423488) × (from ≤ count) × (count ≤ 4294967296) × (length (now buffer) ≤ 65536) ⌝ }
+    requires { ⌜ (start ≤ 576460752303423488) × (from ≤ count) × (count ≤ 4294967296) × (length (now buffer) ≤ 65536) × (12 * count ≤ length (now rows)) ⌝ }
     ensures { λ r. ⌜ RowsPut (now (table .entry)) old (now (rows .entry)) (now (buffer .entry)) false count (dueAt o 0) from start [] [] r ⌝ }
 {
     let owner = table::type_row(table, begin, o);
@@ -261,7 +260,7 @@ fn measure_part(
 ) -> Laid
     requires { ⌜ begin ≡ typesAt (now table) ⌝ }
     requires { ⌜ now shapes ≡ shapesOf (now table) ⌝ }
-    requires { ⌜ (at ≤ 288230376151711744) × (from ≤ count) × (count ≤ 4294967296) × (length (now buffer) ≤ 65536) ⌝ }
+    requires { ⌜ (at ≤ 288230376151711744) × (from ≤ count) × (count ≤ 4294967296) × (length (now buffer) ≤ 65536) × (12 * count ≤ length (now rows)) ⌝ }
     ensures { λ r. ⌜ PartPut (now (table .entry)) old (now (rows .entry)) (now (buffer .entry)) false count list last o from at [] [] r ⌝ }
 {
     let start = at + slice::front_len(table, begin, o, list, old);
@@ -307,7 +306,7 @@ fn measure_parts(
     requires { ⌜ begin ≡ typesAt (now table) ⌝ }
     requires { ⌜ now shapes ≡ shapesOf (now table) ⌝ }
     requires { ⌜ list ≡ eqb (kind (now table) t) 15 ⌝ }
-    requires { ⌜ (start ≤ 7) × (t < 65536) × (count ≤ 4294967296) × (length (now buffer) ≤ 65536) ⌝ }
+    requires { ⌜ (start ≤ 7) × (t < 65536) × (count ≤ 4294967296) × (length (now buffer) ≤ 65536) × (12 * count ≤ length (now rows)) ⌝ }
     ensures { λ r. ⌜ AllPut (now (table .entry)) old (now (rows .entry)) (now (buffer .entry)) false count t start (partsOf (now (table .entry)) old list (now (rows .entry)) (now (buffer .entry)) count t) [] [] r ⌝ }
 {
     let mut at = start;
@@ -373,7 +372,7 @@ pub fn measure(
 ) -> Put
     requires { ⌜ begin ≡ typesAt (now table) ⌝ }
     requires { ⌜ now shapes ≡ shapesOf (now table) ⌝ }
-    requires { ⌜ (t < 65536) × (count ≤ 4294967296) × (length (now buffer) ≤ 65536) ⌝ }
+    requires { ⌜ (t < 65536) × (count ≤ 4294967296) × (length (now buffer) ≤ 65536) × (12 * count ≤ length (now rows)) ⌝ }
     ensures { λ r. ⌜ AllPut (now (table .entry)) old (now (rows .entry)) (now (buffer .entry)) false count t 0 (encapsulate (encodingAs old) (contentsOf (now (table .entry)) old (now (rows .entry)) (now (buffer .entry)) count t)) [] [] r ⌝ }
 {
     let k = table::kind(table, begin, t);

@@ -4,7 +4,7 @@ use pieces::May;
 use pieces::piece;
 ghost use mathlib.Core.Path.{_≡_};
 ghost use mathlib.Core.Bool.{true};
-ghost use Prim.Native.Nat.{_+_, _≤_, _<_};
+ghost use Prim.Native.Nat.{_+_, _*_, _≤_, _<_};
 ghost use lib.ListN.{length};
 ghost use Rattle.encoding.specs.Result.{pick};
 ghost use Rattle.encoding.specs.Number.{stringBytes};
@@ -32,7 +32,7 @@ fn put_requireds(
 ) -> Laid
     requires { ⌜ (first ≡ membersAt (now table)) × (first < 1048576) ⌝ }
     requires { ⌜ (a ≡ field (now table) o 0) × (b ≡ field (now table) o 1) × (a < 65536) × (b < 65536) ⌝ }
-    requires { ⌜ (start ≤ 576460752303423488) × (from ≤ count) × (count ≤ 4294967296) × (length (now buffer) ≤ 65536) ⌝ }
+    requires { ⌜ (start ≤ 576460752303423488) × (from ≤ count) × (count ≤ 4294967296) × (length (now buffer) ≤ 65536) × (12 * count ≤ length (now rows)) ⌝ }
     ensures { λ r. ⌜ RequiredsPut (now (table .entry)) old (now (rows .entry)) (now (buffer .entry)) true count o from start (now (out .entry)) (now (out .exit)) r ⌝ }
 {
     let mut at = start;
@@ -53,7 +53,7 @@ fn put_requireds(
                 fault: 20,
             };
         }
-        let row = wire::rows::row_at(rows, i);
+        let row = wire::rows::row_in(rows, i);
         if row.member != a + k {
             return Laid {
                 end: at,
@@ -111,7 +111,7 @@ fn put_optionals(
     requires { ⌜ now shapes ≡ shapesOf (now table) ⌝ }
     requires { ⌜ (first ≡ membersAt (now table)) × (first < 1048576) × (all ≡ members (now table)) ⌝ }
     requires { ⌜ (a ≡ field (now table) o 0) × (b ≡ field (now table) o 1) × (a < 65536) × (b < 65536) ⌝ }
-    requires { ⌜ (start ≤ 864691128455135232) × (from ≤ count) × (count ≤ 4294967296) × (length (now buffer) ≤ 65536) ⌝ }
+    requires { ⌜ (start ≤ 864691128455135232) × (from ≤ count) × (count ≤ 4294967296) × (length (now buffer) ≤ 65536) × (12 * count ≤ length (now rows)) ⌝ }
     ensures { λ r. ⌜ RowsPut (now (table .entry)) old (now (rows .entry)) (now (buffer .entry)) true count (mayAt (now (table .entry)) o 0) from start (now (out .entry)) (now (out .exit)) r ⌝ }
 {
     let mut at = start;
@@ -184,7 +184,7 @@ pub fn put_rows(
 ) -> Laid
     requires { ⌜ begin ≡ typesAt (now table) ⌝ }
     requires { ⌜ now shapes ≡ shapesOf (now table) ⌝ }
-    requires { ⌜ (start ≤ 576460752303423488) × (from ≤ count) × (count ≤ 4294967296) × (length (now buffer) ≤ 65536) ⌝ }
+    requires { ⌜ (start ≤ 576460752303423488) × (from ≤ count) × (count ≤ 4294967296) × (length (now buffer) ≤ 65536) × (12 * count ≤ length (now rows)) ⌝ }
     ensures { λ r. ⌜ RowsPut (now (table .entry)) old (now (rows .entry)) (now (buffer .entry)) true count (dueAt o 0) from start (now (out .entry)) (now (out .exit)) r ⌝ }
 {
     let owner = table::type_row(table, begin, o);
@@ -351,7 +351,7 @@ pub fn put_part(
 ) -> Laid
     requires { ⌜ begin ≡ typesAt (now table) ⌝ }
     requires { ⌜ now shapes ≡ shapesOf (now table) ⌝ }
-    requires { ⌜ (at ≤ 288230376151711744) × (from ≤ count) × (count ≤ 4294967296) × (length (now buffer) ≤ 65536) ⌝ }
+    requires { ⌜ (at ≤ 288230376151711744) × (from ≤ count) × (count ≤ 4294967296) × (length (now buffer) ≤ 65536) × (12 * count ≤ length (now rows)) ⌝ }
     ensures { λ r. ⌜ PartPut (now (table .entry)) old (now (rows .entry)) (now (buffer .entry)) true count list last o from at (now (out .entry)) (now (out .exit)) r ⌝ }
 {
     let start = at + front_len(table, begin, o, list, old);

@@ -21,7 +21,7 @@ measure-parts-spec =
     μ-loop
     (λ c. parting-begin _ _ _ _ _ _ _ _ _ _)  -- loop-holds
     (λ c κs. search needs)  -- base-requires
-    (λ c κs. (c .before .before .before .before .before .pre .0, (c .before .before .before .before .before .pre .1 .0, (omega (arith, c .before .loop .inv .few, c .before .loop .inv .within, c .before .loop .inv .below, c .before .before .before .before .before .pre .1 .1 .1 .0, c .before .before .before .before .before .pre .1 .1 .1 .1, c .before .before .before .before .before .pre .1 .1 .1 .2), c .before .loop .inv .within, c .before .before .before .before .before .pre .1 .1 .1 .2, c .before .before .before .before .before .pre .1 .1 .1 .3))))  -- measure-part-requires
+    (λ c κs. (c .before .before .before .before .before .pre .0, (c .before .before .before .before .before .pre .1 .0, (omega (arith, c .before .loop .inv .few, c .before .loop .inv .within, c .before .loop .inv .below, c .before .before .before .before .before .pre .1 .1 .1 .0, c .before .before .before .before .before .pre .1 .1 .1 .1, c .before .before .before .before .before .pre .1 .1 .1 .2), c .before .loop .inv .within, c .before .before .before .before .before .pre .1 .1 .1 .2, c .before .before .before .before .before .pre .1 .1 .1 .3, c .before .before .before .before .before .pre .1 .1 .1 .4))))  -- measure-part-requires
     (λ c. parting-wrong _ _ _ _ _ _ _ _ (c .before .before .before .before .before .before .before .before .args .list) _ _ _ _ _ (c .before .before .before .before .before .before .before .before .pre .1 .1 .0) (c .before .before .before .before .loop .inv) _ (c .before .before .before .base .ensures .0) _ _ (c .before .before .measure-part .ensures) (c .if1 .taken))  -- returns
     (λ c. parting-over _ _ _ _ _ _ _ _ (c .before .before .before .before .before .before .before .before .before .before .before .args .list) _ _ _ _ _ (c .before .before .before .before .before .before .before .before .before .before .before .pre .1 .1 .0) (c .before .before .before .before .before .before .before .loop .inv) _ (c .before .before .before .before .before .before .base .ensures .0) _ _ (c .before .before .before .before .before .measure-part .ensures) (c .before .before .before .if1 .left) (c .before .before .if2 .taken) (c .if3 .taken))  -- returns-2
     (λ c. parting-end _ _ _ _ _ _ _ _ (c .before .before .before .before .before .before .before .before .before .before .before .args .list) _ _ _ _ _ (c .before .before .before .before .before .before .before .before .before .before .before .pre .1 .1 .0) (c .before .before .before .before .before .before .before .loop .inv) _ (c .before .before .before .before .before .before .base .ensures .0) _ _ (c .before .before .before .before .before .measure-part .ensures) (c .before .before .before .if1 .left) (c .before .before .if2 .taken) (c .if3 .left))  -- returns-3

@@ -14,5 +14,5 @@ measure-rows-spec =
     (λ c κs. search needs)  -- members-requires
     (λ c κs. (c .before .before .before .before .before .before .pre .0, (c .before .before .before .before .before .before .pre .1 .0, ((c .before .members-at .ensures .0, c .before .members-at .ensures .1, c .members .ensures .0), ((c .before .before .type-row .ensures .a-is, c .before .before .type-row .ensures .b-is, c .before .before .type-row .ensures .a-small, c .before .before .type-row .ensures .b-small), c .before .before .before .before .before .before .pre .1 .1)))))  -- measure-requireds-requires
     (λ c. rows-refused _ _ _ _ _ _ _ _ _ _ _ _ (c .before .before .measure-requireds .ensures) (c .if1 .taken))  -- returns
-    (λ c κs. (c .before .before .before .before .before .before .before .before .before .pre .0, (c .before .before .before .before .before .before .before .before .before .pre .1 .0, ((c .before .before .before .before .members-at .ensures .0, c .before .before .before .before .members-at .ensures .1, c .before .before .before .members .ensures .0), ((c .before .before .before .before .before .type-row .ensures .a-is, c .before .before .before .before .before .type-row .ensures .b-is, c .before .before .before .before .before .type-row .ensures .a-small, c .before .before .before .before .before .type-row .ensures .b-small), (omega (arith, c .before .before .measure-requireds .ensures .right (c .if1 .left) .few, c .before .before .measure-requireds .ensures .right (c .if1 .left) .within, c .before .before .before .before .before .before .before .before .before .pre .1 .1 .0, c .before .before .before .before .before .before .before .before .before .pre .1 .1 .2), c .before .before .measure-requireds .ensures .right (c .if1 .left) .within, c .before .before .before .before .before .before .before .before .before .pre .1 .1 .2, c .before .before .before .before .before .before .before .before .before .pre .1 .1 .3))))))  -- measure-optionals-requires
+    (λ c κs. (c .before .before .before .before .before .before .before .before .before .pre .0, (c .before .before .before .before .before .before .before .before .before .pre .1 .0, ((c .before .before .before .before .members-at .ensures .0, c .before .before .before .before .members-at .ensures .1, c .before .before .before .members .ensures .0), ((c .before .before .before .before .before .type-row .ensures .a-is, c .before .before .before .before .before .type-row .ensures .b-is, c .before .before .before .before .before .type-row .ensures .a-small, c .before .before .before .before .before .type-row .ensures .b-small), (omega (arith, c .before .before .measure-requireds .ensures .right (c .if1 .left) .few, c .before .before .measure-requireds .ensures .right (c .if1 .left) .within, c .before .before .before .before .before .before .before .before .before .pre .1 .1 .0, c .before .before .before .before .before .before .before .before .before .pre .1 .1 .2), c .before .before .measure-requireds .ensures .right (c .if1 .left) .within, c .before .before .before .before .before .before .before .before .before .pre .1 .1 .2, c .before .before .before .before .before .before .before .before .before .pre .1 .1 .3, c .before .before .before .before .before .before .before .before .before .pre .1 .1 .4))))))  -- measure-optionals-requires
     (λ c. rows-joined _ _ _ _ _ _ _ _ _ _ _ _ (c .before .before .before .measure-requireds .ensures) (c .before .if1 .left) _ _ (c .measure-optionals .ensures)))  -- returns-2

@@ -22,7 +22,7 @@ put-parts-spec =
     μ-loop
     (λ c. (refl, parting-begin _ _ _ _ _ _ _ _ _ _))  -- loop-holds
     (λ c κs. search needs)  -- base-requires
-    (λ c κs. (c .before .before .before .before .before .before .before .pre .0, (c .before .before .before .before .before .before .before .pre .1 .0, (omega (arith, c .before .before .loop .inv .1 .few, c .before .before .loop .inv .1 .within, c .before .before .loop .inv .1 .below, c .before .before .before .before .before .before .before .pre .1 .1 .1 .0, c .before .before .before .before .before .before .before .pre .1 .1 .1 .1, c .before .before .before .before .before .before .before .pre .1 .1 .1 .2), c .before .before .loop .inv .1 .within, c .before .before .before .before .before .before .before .pre .1 .1 .1 .2, c .before .before .before .before .before .before .before .pre .1 .1 .1 .3))))  -- put-part-requires
+    (λ c κs. (c .before .before .before .before .before .before .before .pre .0, (c .before .before .before .before .before .before .before .pre .1 .0, (omega (arith, c .before .before .loop .inv .1 .few, c .before .before .loop .inv .1 .within, c .before .before .loop .inv .1 .below, c .before .before .before .before .before .before .before .pre .1 .1 .1 .0, c .before .before .before .before .before .before .before .pre .1 .1 .1 .1, c .before .before .before .before .before .before .before .pre .1 .1 .1 .2), c .before .before .loop .inv .1 .within, c .before .before .before .before .before .before .before .pre .1 .1 .1 .2, c .before .before .before .before .before .before .before .pre .1 .1 .1 .3, c .before .before .before .before .before .before .before .pre .1 .1 .1 .4))))  -- put-part-requires
     (λ c. search needs)  -- same-length
     (λ c. parting-wrong _ _ _ _ _ _ _ _ (c .before .before .before .before .before .before .before .before .before .before .before .before .args .list) _ _ _ _ _ (c .before .before .before .before .before .before .before .before .before .before .before .before .pre .1 .1 .0) (c .before .before .before .before .before .before .before .loop .inv .1) _ (c .before .before .before .before .before .before .base .ensures .0) _ _ (c .before .before .before .before .put-part .ensures) (c .if1 .taken))  -- returns
     (λ c. search needs)  -- same-length-2

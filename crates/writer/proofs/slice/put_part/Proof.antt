@@ -12,7 +12,7 @@ put-part-spec =
     (tie.spec
     (λ c κs. search needs)  -- front-len-requires
     (λ c. search needs)  -- add-start
-    (λ c κs. (c .before .before .before .before .before .before .pre .0, (c .before .before .before .before .before .before .pre .1 .0, (omega (arith, c .before .before .before .before .before .before .pre .1 .1 .0, c .before .front-len .ensures .1), c .before .before .before .before .before .before .pre .1 .1 .1, c .before .before .before .before .before .before .pre .1 .1 .2, c .before .before .before .before .before .before .pre .1 .1 .3))))  -- put-rows-requires
+    (λ c κs. (c .before .before .before .before .before .before .pre .0, (c .before .before .before .before .before .before .pre .1 .0, (omega (arith, c .before .before .before .before .before .before .pre .1 .1 .0, c .before .front-len .ensures .1), c .before .before .before .before .before .before .pre .1 .1 .1, c .before .before .before .before .before .before .pre .1 .1 .2, c .before .before .before .before .before .before .pre .1 .1 .3, c .before .before .before .before .before .before .pre .1 .1 .4))))  -- put-rows-requires
     (λ c. search needs)  -- same-length
     (λ c. part-refused _ _ _ _ _ _ (c .before .before .before .before .before .before .before .before .before .before .before .args .list) (c .before .before .before .before .before .before .before .before .before .before .before .args .last) _ _ _ _ (c .before .before .before .before .before .before .front-len .ensures .0) (c .before .before .before .before .before .before .front-len .ensures .1) _ _ _ (c .before .before .before .before .put-rows .ensures) (c .if1 .taken))  -- returns
     (λ c. search needs)  -- same-length-2
