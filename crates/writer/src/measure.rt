@@ -14,7 +14,7 @@ ghost use lib.Dec.{eqb};
 ghost use Rattle.encoding.specs.Table.{typesAt, membersAt, members, kind, field};
 ghost use Rattle.encoding.specs.Message.{encapsulate};
 ghost use Rattle.shapes.specs.Shapes.{shapesOf};
-ghost use Rattle.pieces.specs.Cursors.{dueAt, mayAt};
+ghost use Rattle.pieces.specs.Cursors.{mayAt};
 ghost use Rattle.writer.specs.Slices.{encodingAs, endMark, RequiredsPut, RowsPut, PartPut};
 ghost use Rattle.writer.specs.Messages.{leadOf, partsOf, contentsOf, AllPut};
 
@@ -175,64 +175,6 @@ fn measure_optionals(
     }
 }
 
-// Checks and measures the rows of owner o from row `from` on.
-fn measure_rows(
-    table: &[u8],
-    begin: usize,
-    shapes: &[u8; 256],
-    start: usize,
-    o: usize,
-    from: usize,
-    old: bool,
-    count: usize,
-    rows: &[u8],
-    buffer: &[u8],
-) -> Laid
-    requires { ⌜ begin ≡ typesAt (now table) ⌝ }
-    requires { ⌜ now shapes ≡ shapesOf (now table) ⌝ }
-    requires { ⌜ (start ≤ 576460752303423488) × (from ≤ count) × (count ≤ 4294967296) × (length (now buffer) ≤ 65536) × (12 * count ≤ length (now rows)) ⌝ }
-    ensures { λ r. ⌜ RowsPut (now (table .entry)) old (now (rows .entry)) (now (buffer .entry)) false count (dueAt o 0) from start [] [] r ⌝ }
-{
-    let owner = table::type_row(table, begin, o);
-    let first = table::members_at(table, begin);
-    let all = table::members(table);
-    let d = measure_requireds(
-        table,
-        begin,
-        shapes,
-        first,
-        all,
-        start,
-        o,
-        owner.a,
-        owner.b,
-        from,
-        old,
-        count,
-        rows,
-        buffer,
-    );
-    if d.fault != 0 {
-        return d;
-    }
-    measure_optionals(
-        table,
-        begin,
-        shapes,
-        first,
-        all,
-        d.end,
-        o,
-        owner.a,
-        owner.b,
-        d.row,
-        old,
-        count,
-        rows,
-        buffer,
-    )
-}
-
 // How many bytes the end marker takes, which a slice has after optionals.
 fn end_len(optionals: bool) -> usize
     ensures { λ r. ⌜ (r ≡ length (endMark optionals)) × (r ≤ 1) ⌝ }
@@ -263,14 +205,40 @@ fn measure_part(
     requires { ⌜ (at ≤ 288230376151711744) × (from ≤ count) × (count ≤ 4294967296) × (length (now buffer) ≤ 65536) × (12 * count ≤ length (now rows)) ⌝ }
     ensures { λ r. ⌜ PartPut (now (table .entry)) old (now (rows .entry)) (now (buffer .entry)) false count list last o from at [] [] r ⌝ }
 {
+    let owner = table::type_row(table, begin, o);
+    let first = table::members_at(table, begin);
+    let all = table::members(table);
     let start = at + slice::front_len(table, begin, o, list, old);
-    let d = measure_rows(
+    let required = measure_requireds(
         table,
         begin,
         shapes,
+        first,
+        all,
         start,
         o,
+        owner.a,
+        owner.b,
         from,
+        old,
+        count,
+        rows,
+        buffer,
+    );
+    if required.fault != 0 {
+        return required;
+    }
+    let d = measure_optionals(
+        table,
+        begin,
+        shapes,
+        first,
+        all,
+        required.end,
+        o,
+        owner.a,
+        owner.b,
+        required.row,
         old,
         count,
         rows,

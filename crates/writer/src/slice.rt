@@ -11,7 +11,7 @@ ghost use Rattle.encoding.specs.Number.{stringBytes};
 ghost use Rattle.encoding.specs.Table.{typesAt, membersAt, members, field, nameOf};
 ghost use Rattle.shapes.specs.Shapes.{shapesOf};
 ghost use Rattle.pieces.specs.Puts.{Puts};
-ghost use Rattle.pieces.specs.Cursors.{dueAt, mayAt};
+ghost use Rattle.pieces.specs.Cursors.{mayAt};
 ghost use Rattle.writer.specs.Slices.{frontField, pairField, frontOf, endMark, RequiredsPut, RowsPut, PartPut};
 
 // Puts the rows of the required members of owner o, from row `from` on. Its member rows are the b rows from a on.
@@ -168,63 +168,6 @@ fn put_optionals(
     }
 }
 
-// Puts the rows of owner o from row `from` on.
-pub fn put_rows(
-    table: &[u8],
-    begin: usize,
-    shapes: &[u8; 256],
-    out: &mut [u8],
-    start: usize,
-    o: usize,
-    from: usize,
-    old: bool,
-    count: usize,
-    rows: &[u8],
-    buffer: &[u8],
-) -> Laid
-    requires { ⌜ begin ≡ typesAt (now table) ⌝ }
-    requires { ⌜ now shapes ≡ shapesOf (now table) ⌝ }
-    requires { ⌜ (start ≤ 576460752303423488) × (from ≤ count) × (count ≤ 4294967296) × (length (now buffer) ≤ 65536) × (12 * count ≤ length (now rows)) ⌝ }
-    ensures { λ r. ⌜ RowsPut (now (table .entry)) old (now (rows .entry)) (now (buffer .entry)) true count (dueAt o 0) from start (now (out .entry)) (now (out .exit)) r ⌝ }
-{
-    let owner = table::type_row(table, begin, o);
-    let first = table::members_at(table, begin);
-    let all = table::members(table);
-    let d = put_requireds(
-        table,
-        first,
-        out,
-        start,
-        o,
-        owner.a,
-        owner.b,
-        from,
-        old,
-        count,
-        rows,
-        buffer,
-    );
-    if d.fault != 0 {
-        return d;
-    }
-    put_optionals(
-        table,
-        shapes,
-        first,
-        all,
-        out,
-        d.end,
-        o,
-        owner.a,
-        owner.b,
-        d.row,
-        old,
-        count,
-        rows,
-        buffer,
-    )
-}
-
 // How many bytes the type ID of owner o takes.
 pub fn id_len(table: &[u8], begin: usize, o: usize) -> usize
     requires { ⌜ begin ≡ typesAt (now table) ⌝ }
@@ -354,15 +297,38 @@ pub fn put_part(
     requires { ⌜ (at ≤ 288230376151711744) × (from ≤ count) × (count ≤ 4294967296) × (length (now buffer) ≤ 65536) × (12 * count ≤ length (now rows)) ⌝ }
     ensures { λ r. ⌜ PartPut (now (table .entry)) old (now (rows .entry)) (now (buffer .entry)) true count list last o from at (now (out .entry)) (now (out .exit)) r ⌝ }
 {
+    let owner = table::type_row(table, begin, o);
+    let first = table::members_at(table, begin);
+    let all = table::members(table);
     let start = at + front_len(table, begin, o, list, old);
-    let d = put_rows(
+    let required = put_requireds(
         table,
-        begin,
-        shapes,
+        first,
         out,
         start,
         o,
+        owner.a,
+        owner.b,
         from,
+        old,
+        count,
+        rows,
+        buffer,
+    );
+    if required.fault != 0 {
+        return required;
+    }
+    let d = put_optionals(
+        table,
+        shapes,
+        first,
+        all,
+        out,
+        required.end,
+        o,
+        owner.a,
+        owner.b,
+        required.row,
         old,
         count,
         rows,
