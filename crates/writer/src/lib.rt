@@ -21,6 +21,18 @@ pub struct Laid {
     pub fault: usize,
 }
 
+// The same, made of its fields.
+fn laid_of(end: usize, row: usize, optionals: bool, fault: usize) -> Laid
+    ensures { λ r. ⌜ r ≡ record { end = end; row = row; optionals = optionals; fault = fault } ⌝ }
+{
+    Laid {
+        end: end,
+        row: row,
+        optionals: optionals,
+        fault: fault,
+    }
+}
+
 // The end of the bytes measured or put, if every row is right; or a refusal's number and place.
 pub enum Put {
     Made(usize),

@@ -1,6 +1,7 @@
 // Checks the rows, each 20 then 21, and measures the message that they make: nothing is put. Each function answers what its counterpart that puts would answer of an empty output.
 use crate::Laid;
 use crate::Put;
+use crate::laid_of;
 use crate::slice;
 use pieces::Due;
 use pieces::May;
@@ -51,12 +52,7 @@ fn measure_requireds(
             continue;
         }
         if count <= i {
-            return Laid {
-                end: at,
-                row: i,
-                optionals: false,
-                fault: 20,
-            };
+            return laid_of(at, i, false, 20);
         }
         let d = judge::due(
             table,
@@ -80,21 +76,11 @@ fn measure_requireds(
                 k += 1;
             }
             Due::Wrong(number) => {
-                return Laid {
-                    end: at,
-                    row: i,
-                    optionals: false,
-                    fault: number,
-                };
+                return laid_of(at, i, false, number);
             }
         }
     }
-    Laid {
-        end: at,
-        row: i,
-        optionals: false,
-        fault: 0,
-    }
+    laid_of(at, i, false, 0)
 }
 
 // Checks and measures the rows of optional members of owner o, from row `from` on.
@@ -150,29 +136,14 @@ fn measure_optionals(
                 i += 1;
             }
             May::Stop => {
-                return Laid {
-                    end: at,
-                    row: i,
-                    optionals: optionals,
-                    fault: 0,
-                };
+                return laid_of(at, i, optionals, 0);
             }
             May::Wrong(number) => {
-                return Laid {
-                    end: at,
-                    row: i,
-                    optionals: optionals,
-                    fault: number,
-                };
+                return laid_of(at, i, optionals, number);
             }
         }
     }
-    Laid {
-        end: at,
-        row: i,
-        optionals: optionals,
-        fault: 0,
-    }
+    laid_of(at, i, optionals, 0)
 }
 
 // How many bytes the end marker takes, which a slice has after optionals.
@@ -250,12 +221,7 @@ fn measure_part(
     if list {
         return d;
     }
-    Laid {
-        end: d.end + end_len(d.optionals),
-        row: d.row,
-        optionals: d.optionals,
-        fault: 0,
-    }
+    laid_of(d.end + end_len(d.optionals), d.row, d.optionals, 0)
 }
 
 // Checks the rows and measures the members of a parameter list t, or the slices of row t and its bases.

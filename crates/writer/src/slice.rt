@@ -1,5 +1,6 @@
 // Puts the rows of an owner, and its slice. The rows were checked before. `old` says that the encoding is 1.0: its slices are pairs of type ID and size with data.
 use crate::Laid;
+use crate::laid_of;
 use pieces::May;
 use pieces::piece;
 ghost use mathlib.Core.Path.{_≡_};
@@ -46,29 +47,14 @@ fn put_requireds(
             continue;
         }
         if count <= i {
-            return Laid {
-                end: at,
-                row: i,
-                optionals: false,
-                fault: 20,
-            };
+            return laid_of(at, i, false, 20);
         }
         let row = wire::rows::row_in(rows, i);
         if row.member != a + k {
-            return Laid {
-                end: at,
-                row: i,
-                optionals: false,
-                fault: 20,
-            };
+            return laid_of(at, i, false, 20);
         }
         if !wire::fits(buffer.len(), row.place, row.len) {
-            return Laid {
-                end: at,
-                row: i,
-                optionals: false,
-                fault: 20,
-            };
+            return laid_of(at, i, false, 20);
         }
         if row.place == place + len {
             len += row.len;
@@ -83,12 +69,7 @@ fn put_requireds(
         k += 1;
     }
     let end = piece::put_content(out, at, place, len, buffer);
-    Laid {
-        end: end,
-        row: i,
-        optionals: false,
-        fault: 0,
-    }
+    laid_of(end, i, false, 0)
 }
 
 // Puts the rows of optional members of owner o, from row `from` on.
@@ -143,29 +124,14 @@ fn put_optionals(
                 i += 1;
             }
             May::Stop => {
-                return Laid {
-                    end: at,
-                    row: i,
-                    optionals: optionals,
-                    fault: 0,
-                };
+                return laid_of(at, i, optionals, 0);
             }
             May::Wrong(number) => {
-                return Laid {
-                    end: at,
-                    row: i,
-                    optionals: optionals,
-                    fault: number,
-                };
+                return laid_of(at, i, optionals, number);
             }
         }
     }
-    Laid {
-        end: at,
-        row: i,
-        optionals: optionals,
-        fault: 0,
-    }
+    laid_of(at, i, optionals, 0)
 }
 
 // How many bytes the type ID of owner o takes.
@@ -342,10 +308,5 @@ pub fn put_part(
     }
     let e = put_end(out, d.end, d.optionals);
     put_front_as(table, begin, out, at, o, old, d.optionals, last, e - start);
-    Laid {
-        end: e,
-        row: d.row,
-        optionals: d.optionals,
-        fault: 0,
-    }
+    laid_of(e, d.row, d.optionals, 0)
 }

@@ -22,4 +22,5 @@ measure-part-spec =
     (λ c. part-list _ _ _ _ _ _ (c .before .before .before .before .before .before .before .before .before .before .before .before .before .before .args .list) (c .before .before .before .before .before .before .before .before .before .before .before .before .before .before .args .last) _ _ _ _ (c .before .before .before .before .before .before .before .front-len .ensures .0) (c .before .before .before .before .before .before .before .front-len .ensures .1) _ _ _ (rows-joined _ _ _ _ _ _ _ _ _ _ _ _ (c .before .before .before .before .before .before .measure-requireds .ensures) (c .before .before .before .before .if1 .left) _ _ (c .before .before .before .measure-optionals .ensures)) (c .if3 .taken))  -- returns-3
     (λ c κs. search needs)  -- end-len-requires
     (λ c. let g = (rows-joined _ _ _ _ _ _ _ _ _ _ _ _ (c .before .before .before .before .before .before .before .before .measure-requireds .ensures) (c .before .before .before .before .before .before .if1 .left) _ _ (c .before .before .before .before .before .measure-optionals .ensures)) .right (c .before .before .before .if2 .left) in omega (arith, c .before .end-len .ensures .1, c .before .before .before .before .before .before .before .before .before .before .before .before .before .before .before .before .pre .1 .1 .0, c .before .before .before .before .before .before .before .before .before .before .before .before .before .before .before .before .pre .1 .1 .2, c .before .before .before .before .before .before .before .before .before .front-len .ensures .1, g .few, g .within))  -- add-end
-    (λ c. part-measured _ _ _ _ _ _ (c .before .before .before .before .before .before .before .before .before .before .before .before .before .before .before .before .args .list) (c .before .before .before .before .before .before .before .before .before .before .before .before .before .before .before .before .args .last) _ _ _ _ (c .before .before .before .before .before .before .before .before .before .front-len .ensures .0) (c .before .before .before .before .before .before .before .before .before .front-len .ensures .1) _ (rows-joined _ _ _ _ _ _ _ _ _ _ _ _ (c .before .before .before .before .before .before .before .before .measure-requireds .ensures) (c .before .before .before .before .before .before .if1 .left) _ _ (c .before .before .before .before .before .measure-optionals .ensures)) (c .before .before .if3 .left) (c .before .before .before .if2 .left) _ (c .before .end-len .ensures .0) (c .before .end-len .ensures .1)))  -- returns-4
+    (λ c κs. search needs)  -- laid-of-requires
+    (λ c. rw (c .laid-of .ensures) (part-measured _ _ _ _ _ _ (c .before .before .before .before .before .before .before .before .before .before .before .before .before .before .before .before .before .args .list) (c .before .before .before .before .before .before .before .before .before .before .before .before .before .before .before .before .before .args .last) _ _ _ _ (c .before .before .before .before .before .before .before .before .before .before .front-len .ensures .0) (c .before .before .before .before .before .before .before .before .before .before .front-len .ensures .1) _ (rows-joined _ _ _ _ _ _ _ _ _ _ _ _ (c .before .before .before .before .before .before .before .before .before .measure-requireds .ensures) (c .before .before .before .before .before .before .before .if1 .left) _ _ (c .before .before .before .before .before .before .measure-optionals .ensures)) (c .before .before .before .if3 .left) (c .before .before .before .before .if2 .left) _ (c .before .before .end-len .ensures .0) (c .before .before .end-len .ensures .1))))  -- returns-4

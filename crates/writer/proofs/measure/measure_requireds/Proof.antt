@@ -28,7 +28,8 @@ measure-requireds-spec =
     (λ c. omega arith)  -- add-k
     (λ c. omega arith)  -- loop-less
     (λ c. (omega arith, pass-over _ _ _ _ _ _ _ _ _ _ _ _ _ _ _ (c .before .before .before .loop .inv .1) _ _ _ (c .before .before .before .before .before .before .before .pre .1 .1 .1 .0 .0) (c .before .before .before .before .before .before .before .pre .1 .1 .1 .0 .1) (c .before .before .loop-test .taken) (c .before .mark-from .ensures) (c .if1 .taken)))  -- loop-again
-    (λ c. pass-due _ _ _ _ _ _ _ _ _ _ _ _ _ _ _ (c .before .before .before .before .loop .inv .1) _ (is-due _ _ _ _ _ _ (c .before .before .before .before .before .before .before .before .pre .1 .1 .1 .0 .0) (c .before .before .before .before .before .before .before .before .pre .1 .1 .1 .0 .1) (c .before .before .before .loop-test .taken) (c .before .before .mark-from .ensures) (c .before .if1 .left)) _ (c .if2 .taken))  -- returns
+    (λ c κs. search needs)  -- laid-of-requires
+    (λ c. rw (c .laid-of .ensures) (pass-due _ _ _ _ _ _ _ _ _ _ _ _ _ _ _ (c .before .before .before .before .before .loop .inv .1) _ (is-due _ _ _ _ _ _ (c .before .before .before .before .before .before .before .before .before .pre .1 .1 .1 .0 .0) (c .before .before .before .before .before .before .before .before .before .pre .1 .1 .1 .0 .1) (c .before .before .before .before .loop-test .taken) (c .before .before .before .mark-from .ensures) (c .before .before .if1 .left)) _ (c .before .if2 .taken)))  -- returns
     (λ c. omega arith)  -- add-due
     (λ c. omega arith)  -- add-type-from
     (λ c κs. search needs)  -- type-from-requires
@@ -39,5 +40,7 @@ measure-requireds-spec =
     (λ c. omega arith)  -- loop-less-2
     (λ c. (omega arith, pass-next _ _ _ _ _ _ _ _ _ _ _ _ _ _ (c .before .before .before .before .before .before .before .before .before .loop .inv .1) (c .before .before .before .before .before .if2 .left) _ _ (c .before .before .before .due .ensures) _ (c .before .d .given .1)))  -- loop-again-2
     (λ c. search needs)  -- enum-known-d-2
-    (λ c. pass-fault _ _ _ _ _ _ _ _ _ _ _ _ _ _ (c .before .before .before .before .before .before .before .before .before .loop .inv .1) (c .before .before .before .before .before .if2 .left) _ _ (c .before .before .before .due .ensures) _ (is-due _ _ _ _ _ _ (c .before .before .before .before .before .before .before .before .before .before .before .before .before .pre .1 .1 .1 .0 .0) (c .before .before .before .before .before .before .before .before .before .before .before .before .before .pre .1 .1 .1 .0 .1) (c .before .before .before .before .before .before .before .before .loop-test .taken) (c .before .before .before .before .before .before .before .mark-from .ensures) (c .before .before .before .before .before .before .if1 .left)) _ (c .before .d2 .given .1))  -- returns-2
-    (λ c. pass-end _ _ _ _ _ _ _ _ _ _ _ _ _ _ (c .before .loop .inv .1) _ (c .before .before .before .before .before .pre .1 .1 .1 .0 .1) (omega arith)))  -- returns-3
+    (λ c κs. search needs)  -- laid-of-requires-2
+    (λ c. rw (c .laid-of2 .ensures) (pass-fault _ _ _ _ _ _ _ _ _ _ _ _ _ _ (c .before .before .before .before .before .before .before .before .before .before .loop .inv .1) (c .before .before .before .before .before .before .if2 .left) _ _ (c .before .before .before .before .due .ensures) _ (is-due _ _ _ _ _ _ (c .before .before .before .before .before .before .before .before .before .before .before .before .before .before .pre .1 .1 .1 .0 .0) (c .before .before .before .before .before .before .before .before .before .before .before .before .before .before .pre .1 .1 .1 .0 .1) (c .before .before .before .before .before .before .before .before .before .loop-test .taken) (c .before .before .before .before .before .before .before .before .mark-from .ensures) (c .before .before .before .before .before .before .before .if1 .left)) _ (c .before .before .d2 .given .1)))  -- returns-2
+    (λ c κs. search needs)  -- laid-of-requires-3
+    (λ c. rw (c .laid-of3 .ensures) (pass-end _ _ _ _ _ _ _ _ _ _ _ _ _ _ (c .before .before .loop .inv .1) _ (c .before .before .before .before .before .before .pre .1 .1 .1 .0 .1) (omega arith))))  -- returns-3
