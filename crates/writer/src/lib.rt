@@ -13,6 +13,15 @@ ghost use Rattle.encoding.specs.Write.{output};
 ghost use Rattle.shapes.specs.Shapes.{shapesOf};
 ghost use Rattle.writer.specs.Messages.{written, outcomeOf};
 
+// An owner as each pass looks it up once: its member rows are the b rows from a on, `up` is its base row + 1 or 0, its name is the `long` bytes of the table from `name` on.
+pub struct Owner {
+    pub a: usize,
+    pub b: usize,
+    pub up: usize,
+    pub name: usize,
+    pub long: usize,
+}
+
 // The end of the bytes measured or put, the next row, whether it has an optional member, and the number of the refusal at that row or 0.
 pub struct Laid {
     pub end: usize,

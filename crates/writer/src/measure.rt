@@ -1,5 +1,6 @@
 // Checks the rows, each 20 then 21, and measures the message that they make: nothing is put. Each function answers what its counterpart that puts would answer of an empty output.
 use crate::Laid;
+use crate::Owner;
 use crate::Put;
 use crate::laid_of;
 use crate::slice;
@@ -16,7 +17,7 @@ ghost use Rattle.encoding.specs.Table.{typesAt, membersAt, members, kind, field
 ghost use Rattle.encoding.specs.Message.{encapsulate};
 ghost use Rattle.shapes.specs.Shapes.{shapesOf};
 ghost use Rattle.pieces.specs.Cursors.{mayAt};
-ghost use Rattle.writer.specs.Slices.{encodingAs, endMark, RequiredsPut, RowsPut, PartPut};
+ghost use Rattle.writer.specs.Slices.{IsOwner, encodingAs, endMark, RequiredsPut, RowsPut, PartPut};
 ghost use Rattle.writer.specs.Messages.{leadOf, partsOf, contentsOf, AllPut};
 
 // Checks and measures the rows of the required members of owner o, from row `from` on. Its member rows are the b rows from a on.
@@ -161,8 +162,11 @@ fn measure_part(
     table: &[u8],
     begin: usize,
     shapes: &[u8; 256],
+    first: usize,
+    all: usize,
     at: usize,
     o: usize,
+    owner: Owner,
     list: bool,
     last: bool,
     from: usize,
@@ -173,13 +177,12 @@ fn measure_part(
 ) -> Laid
     requires { ⌜ begin ≡ typesAt (now table) ⌝ }
     requires { ⌜ now shapes ≡ shapesOf (now table) ⌝ }
+    requires { ⌜ (first ≡ membersAt (now table)) × (first < 1048576) × (all ≡ members (now table)) ⌝ }
+    requires { ⌜ IsOwner (now table) o owner ⌝ }
     requires { ⌜ (at ≤ 288230376151711744) × (from ≤ count) × (count ≤ 4294967296) × (length (now buffer) ≤ 65536) × (12 * count ≤ length (now rows)) ⌝ }
     ensures { λ r. ⌜ PartPut (now (table .entry)) old (now (rows .entry)) (now (buffer .entry)) false count list last o from at [] [] r ⌝ }
 {
-    let owner = table::type_row(table, begin, o);
-    let first = table::members_at(table, begin);
-    let all = table::members(table);
-    let start = at + slice::front_len(table, begin, o, list, old);
+    let start = at + slice::front_len(table, o, owner, list, old);
     let required = measure_requireds(
         table,
         begin,
@@ -243,19 +246,25 @@ fn measure_parts(
     requires { ⌜ (start ≤ 7) × (t < 65536) × (count ≤ 4294967296) × (length (now buffer) ≤ 65536) × (12 * count ≤ length (now rows)) ⌝ }
     ensures { λ r. ⌜ AllPut (now (table .entry)) old (now (rows .entry)) (now (buffer .entry)) false count t start (partsOf (now (table .entry)) old list (now (rows .entry)) (now (buffer .entry)) count t) [] [] r ⌝ }
 {
+    let first = table::members_at(table, begin);
+    let all = table::members(table);
+    let labels = table::names_at(table, begin);
     let mut at = start;
     let mut o = t;
     let mut i = 0;
     loop {
-        let up = table::chain::base(table, begin, o);
+        let owner = slice::owner_at(table, begin, labels, o);
         let d = measure_part(
             table,
             begin,
             shapes,
+            first,
+            all,
             at,
             o,
+            owner,
             list,
-            up == 0,
+            owner.up == 0,
             i,
             old,
             count,
@@ -265,14 +274,14 @@ fn measure_parts(
         if d.fault != 0 {
             return Put::Wrong(d.fault, d.row);
         }
-        if up == 0 {
+        if owner.up == 0 {
             if d.row < count {
                 return Put::Wrong(20, d.row);
             }
             return Put::Made(d.end);
         }
         at = d.end;
-        o = up - 1;
+        o = owner.up - 1;
         i = d.row;
     }
 }
