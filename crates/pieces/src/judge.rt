@@ -7,7 +7,7 @@ use wire::rows::RowNumbers;
 ghost use mathlib.Core.Path.{_≡_};
 ghost use mathlib.Core.Bool.{false};
 ghost use mathlib.Core.List.{[]};
-ghost use Prim.Native.Nat.{_+_, _≤_, _<_};
+ghost use Prim.Native.Nat.{_+_, _*_, _≤_, _<_};
 ghost use lib.ListN.{length};
 ghost use Rattle.encoding.specs.Table.{typesAt, membersAt, members, memberType, memberTy, field, trees, tyOf};
 ghost use Rattle.encoding.specs.Old.{typeAs};
@@ -46,7 +46,7 @@ pub fn optional_at(
     if a + b <= m {
         return Optional::Nothing;
     }
-    let member = table::member_row_from(table, first, m);
+    let member = table::member_row_flat(table, first, m);
     if member.mark == 0 {
         return Optional::Nothing;
     }
@@ -125,10 +125,10 @@ pub fn due(
     requires { ⌜ begin ≡ typesAt (now table) ⌝ }
     requires { ⌜ now shapes ≡ shapesOf (now table) ⌝ }
     requires { ⌜ (all ≡ members (now table)) × (of ≡ memberType (now table) m) × IsDue (now table) o k m ⌝ }
-    requires { ⌜ (at ≤ 1152921504606846976) × (i < 4294967296) × (length (now buffer) ≤ 65536) ⌝ }
+    requires { ⌜ (at ≤ 1152921504606846976) × (12 * i + 12 ≤ length (now rows)) × (length (now buffer) ≤ 65536) ⌝ }
     ensures { λ r. ⌜ DuePut (now (table .entry)) old (now (rows .entry)) (now (buffer .entry)) false o k i at [] [] r ⌝ }
 {
-    let row = wire::rows::row_at(rows, i);
+    let row = wire::rows::row_in(rows, i);
     if row.member != m {
         return Due::Wrong(20);
     }
@@ -161,10 +161,10 @@ pub fn may(
     requires { ⌜ now shapes ≡ shapesOf (now table) ⌝ }
     requires { ⌜ (first ≡ membersAt (now table)) × (first < 1048576) × (all ≡ members (now table)) ⌝ }
     requires { ⌜ (a ≡ field (now table) o 0) × (b ≡ field (now table) o 1) × (a < 65536) × (b < 65536) ⌝ }
-    requires { ⌜ (at ≤ 1152921504606846976) × (i < 4294967296) × (length (now buffer) ≤ 65536) ⌝ }
+    requires { ⌜ (at ≤ 1152921504606846976) × (12 * i + 12 ≤ length (now rows)) × (length (now buffer) ≤ 65536) ⌝ }
     ensures { λ r. ⌜ MayPut (now (table .entry)) old (now (rows .entry)) (now (buffer .entry)) false o least i at [] [] r ⌝ }
 {
-    let row = wire::rows::row_at(rows, i);
+    let row = wire::rows::row_in(rows, i);
     let f = optional_at(table, first, all, o, a, b, least, row.member);
     match f {
         Optional::Of(t, tag) => {

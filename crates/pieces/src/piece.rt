@@ -6,7 +6,7 @@ use crate::rows;
 use wire::rows::RowNumbers;
 ghost use mathlib.Core.Path.{_≡_};
 ghost use mathlib.Core.Bool.{true};
-ghost use Prim.Native.Nat.{_+_, _≤_, _<_};
+ghost use Prim.Native.Nat.{_+_, _*_, _≤_, _<_};
 ghost use lib.ListN.{length, take, drop};
 ghost use Rattle.encoding.specs.Table.{membersAt, members, field};
 ghost use Rattle.encoding.specs.Write.{partOf};
@@ -108,10 +108,10 @@ pub fn put_may(
     requires { ⌜ now shapes ≡ shapesOf (now table) ⌝ }
     requires { ⌜ (first ≡ membersAt (now table)) × (first < 1048576) × (all ≡ members (now table)) ⌝ }
     requires { ⌜ (a ≡ field (now table) o 0) × (b ≡ field (now table) o 1) × (a < 65536) × (b < 65536) ⌝ }
-    requires { ⌜ (at ≤ 1152921504606846976) × (i < 4294967296) × (length (now buffer) ≤ 65536) ⌝ }
+    requires { ⌜ (at ≤ 1152921504606846976) × (12 * i + 12 ≤ length (now rows)) × (length (now buffer) ≤ 65536) ⌝ }
     ensures { λ r. ⌜ MayPut (now (table .entry)) old (now (rows .entry)) (now (buffer .entry)) true o least i at (now (out .entry)) (now (out .exit)) r ⌝ }
 {
-    let row = wire::rows::row_at(rows, i);
+    let row = wire::rows::row_in(rows, i);
     let f = judge::optional_at(table, first, all, o, a, b, least, row.member);
     match f {
         Optional::Of(t, tag) => {

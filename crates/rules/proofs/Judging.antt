@@ -413,7 +413,7 @@ any-same f g h (i ∷ l) = rw (h i, any-same f g h l)
 module _ (T : List ℕ) (t p a l : ℕ) (row : TypeRow) (r : Bool) (i : IsTypeRow T t row) (ep : p ≡ namesAt T) (ea : a ≡ min (p + row .d) (length T)) (el : l ≡ min (row .e) (length T - a)) where
   name-taken : take (a + l - a) (drop a T) ≡ nameOf T t
   name-taken =
-      let n = name-long T t p (row .d) ep (i .d-is) a (row .e) l ea (i .e-is) el in
+      let n = name-long T t a (row .e) l (name-least T t p (row .d) ep (i .d-is) a ea) (i .e-is) el in
       let z : a + l - a ≡ length (nameOf T t) = omega (arith, n) in
       rw (z, name-least T t p (row .d) ep (i .d-is) a ea, name-part T t)
 

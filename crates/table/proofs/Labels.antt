@@ -107,17 +107,17 @@ module _ (T : List ℕ) (t : ℕ) where
         go true e = omega (arith, leb-true)
         go false e = omega (arith, leb-false)
 
-    module _ (a k l : ℕ) (s : a ≡ min (p + f) (length T)) (ek : k ≡ field T t 4) (e : l ≡ min k (length T - a)) where
-      pub name-long : l ≡ length (nameOf T t)
-      name-long = omega (arith, length-name T t, name-least a s)
+  module _ (a k l : ℕ) (s : a ≡ nameStart T t) (ek : k ≡ field T t 4) (e : l ≡ min k (length T - a)) where
+    pub name-long : l ≡ length (nameOf T t)
+    name-long = omega (arith, length-name T t)
 
-      pub name-inside : nameStart T t + l ≤ length T
-      name-inside = omega (arith, name-least a s)
+    pub name-inside : a ≤ length T → nameStart T t + l ≤ length T
+    name-inside h = omega arith
 
-      pub named-part : (nm : List ℕ) (r : Bool) → r ≡ sameBytes nm (take (a + l - a) (drop a T)) → r ≡ sameBytes nm (nameOf T t)
-      named-part nm r h =
-          let z : a + l - a ≡ length (nameOf T t) = omega (arith, name-long) in
-          h ∙ rw (z, name-least a s, name-part T t)
+  pub named-part : (a l : ℕ) → a ≡ nameStart T t → l ≡ length (nameOf T t) → (nm : List ℕ) (r : Bool) → r ≡ sameBytes nm (take (a + l - a) (drop a T)) → r ≡ sameBytes nm (nameOf T t)
+  named-part a l s e nm r h =
+      let z : a + l - a ≡ length (nameOf T t) = omega arith in
+      h ∙ rw (z, s, name-part T t)
 
 -- ---- the search for a name
 

@@ -10,7 +10,7 @@
 --   row-shows, member-shows                the part that is one row; row-rest-shows, member-rest-shows the part from a row on
 --   kind-direct, kind-byte, field-direct   a kind, a field read at its place
 --   kind-is .. field-within                a field of a type row, read from a part that shows the row; field-past past the table's end
---   member-type-is .. tag-is               the same of a member row; mark-here: its mark, read at its place
+--   member-type-is .. tag-is               the same of a member row; type-here .. tag-here: read at its place in the table
 --   rows-few, rows-many                    how many rows have a tree
 --   member-row, no-member                  the row of a member's type
 use Prim.Native.Nat.{ℕ, _+_, _-_, _*_, _/_, _≤_, _<_}
@@ -190,7 +190,23 @@ member-row T m n r e h q = ap (tyOf T) q ∙ sym (member-whole T m (omega arith)
 pub no-member : (T : List ℕ) (m n : ℕ) → n ≡ members T → n ≤ m → tyOf T 256 ≡ memberTy T (trees T) m
 no-member T m n e h = ty-past T 256 (rows-below T) ∙ sym (member-none T m (trees T) (omega arith))
 
--- the mark, read from the table itself
-pub mark-here : (T : List ℕ) (m a r : ℕ) → a ≡ memberAt T m → r ≡ at T 1 (a + 2) → r ≡ mark T m
-unfolding mark
-mark-here T m a r ea e = e ∙ ap (λ (i : ℕ). at T 1 (i + 2)) ea
+-- a field of a member row, read from the table itself
+module _ (T : List ℕ) (m a r : ℕ) (ea : a ≡ memberAt T m) where
+  here : (k j : ℕ) → r ≡ at T k (a + j) → r ≡ at T k (memberAt T m + j)
+  here k j e = e ∙ ap (λ (i : ℕ). at T k (i + j)) ea
+
+  pub type-here : r ≡ at T 2 a → r ≡ memberType T m
+  unfolding memberType
+  type-here e = e ∙ ap (at T 2) ea
+
+  pub mark-here : r ≡ at T 1 (a + 2) → r ≡ mark T m
+  unfolding mark
+  mark-here e = here 1 2 e
+
+  pub member-spare-here : r ≡ at T 1 (a + 3) → r ≡ memberSpare T m
+  unfolding memberSpare
+  member-spare-here e = here 1 3 e
+
+  pub tag-here : r ≡ at T 4 (a + 4) → r ≡ tag T m
+  unfolding tag
+  tag-here e = here 4 4 e

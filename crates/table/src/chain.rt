@@ -1,25 +1,34 @@
 // A record's bases, and the member rows that a row takes.
 use crate::FoundMember;
+use crate::TypeRow;
 ghost use mathlib.Core.Path.{_≡_};
 ghost use Prim.Native.Nat.{_+_, _-_, _≤_, _<_};
 ghost use lib.ListN.{length};
 ghost use lib.Dec.{eqb};
 ghost use Rattle.encoding.specs.Table.{any, field, typesAt, membersAt, memberAt, takes, lookup, base, chain};
 ghost use Rattle.table.specs.Found.{memberFound};
+ghost use Rattle.table.specs.Rows.{IsTypeRow};
 ghost use Rattle.table.specs.Tags.{optionalFrom, firstRequired, hasOptional, behind};
 
-// The base row + 1, or 0 if row t has no base; a base that is not a smaller row is none. Here and below, `begin` is where the type rows begin.
-pub fn base(table: &[u8], begin: usize, t: usize) -> usize
-    requires { ⌜ begin ≡ typesAt (now table) ⌝ }
+// The base row + 1, or 0 if row t has no base; a base that is not a smaller row is none.
+pub fn base_of(table: &[u8], row: TypeRow, t: usize) -> usize
+    requires { ⌜ IsTypeRow (now table) t row ⌝ }
     ensures { λ r. ⌜ (r ≡ base (now (table .entry)) t) × (r ≤ t) ⌝ }
 {
-    let row = crate::type_row(table, begin, t);
     if crate::is_record(row.kind) {
         if row.c <= t {
             return row.c;
         }
     }
     0
+}
+
+// The same of a row that is looked up. Here and below, `begin` is where the type rows begin.
+pub fn base(table: &[u8], begin: usize, t: usize) -> usize
+    requires { ⌜ begin ≡ typesAt (now table) ⌝ }
+    ensures { λ r. ⌜ (r ≡ base (now (table .entry)) t) × (r ≤ t) ⌝ }
+{
+    base_of(table, crate::type_row(table, begin, t), t)
 }
 
 // Row top is row t or one of its bases.

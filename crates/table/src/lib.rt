@@ -409,6 +409,33 @@ pub fn mark_from(table: &[u8], first: usize, m: usize) -> usize
     wire::byte_at(table, member_at(table, first, m) + 2)
 }
 
+// The type of member row m, in the same way.
+pub fn type_from(table: &[u8], first: usize, m: usize) -> usize
+    requires { ⌜ first ≡ membersAt (now table) ⌝ }
+    requires { ⌜ (first < 1048576) × (m < 131072) ⌝ }
+    ensures { λ r. ⌜ r ≡ memberType (now (table .entry)) m ⌝ }
+{
+    wire::short_at(table, member_at(table, first, m))
+}
+
+// As `member_row_from`, without a call, so that the numbers of a loop stay in registers.
+pub fn member_row_flat(table: &[u8], first: usize, m: usize) -> MemberRow
+    requires { ⌜ first ≡ membersAt (now table) ⌝ }
+    requires { ⌜ (first < 1048576) × (m < 131072) ⌝ }
+    ensures { λ r. ⌜ IsMemberRow (now (table .entry)) m r ⌝ }
+{
+    if table.len() < member_at(table, first, m + 1) {
+        let start = member_at(table, first, m);
+        return MemberRow {
+            of: wire::short_at(table, start),
+            mark: wire::byte_at(table, start + 2),
+            spare: wire::byte_at(table, start + 3),
+            tag: wire::int_at(table, start + 4),
+        };
+    }
+    member_row_in(table, first, m)
+}
+
 // The greatest enumerator of an enum row: field a is its low half, b its high half.
 pub fn greatest(row: TypeRow) -> usize
     requires { ⌜ (row .a < 65536) × (row .b < 65536) ⌝ }

@@ -1,21 +1,40 @@
 // The names of records.
 use crate::Found;
+use crate::TypeRow;
 ghost use mathlib.Core.Path.{_≡_};
 ghost use Prim.Native.Nat.{_+_, _≤_, _<_};
 ghost use lib.ListN.{length};
 ghost use Rattle.encoding.specs.Result.{sameBytes};
-ghost use Rattle.encoding.specs.Table.{typesAt, nameOf, named};
+ghost use Rattle.encoding.specs.Table.{typesAt, namesAt, nameOf, named};
 ghost use Rattle.table.specs.Found.{foundOf};
 ghost use Rattle.table.specs.Names.{nameStart, isNamed};
+ghost use Rattle.table.specs.Rows.{IsTypeRow};
 
-// Where the name of row t begins, or the table's end if it begins past it. Here and below, `begin` is where the type rows begin.
+// Where the name of row t begins, or the table's end if it begins past it. The names begin at `labels`.
+pub fn start_of(table: &[u8], labels: usize, row: TypeRow, t: usize) -> usize
+    requires { ⌜ (labels ≡ namesAt (now table)) × (labels < 2097152) ⌝ }
+    requires { ⌜ IsTypeRow (now table) t row ⌝ }
+    ensures { λ r. ⌜ (r ≡ nameStart (now (table .entry)) t) × (r ≤ length (now (table .entry))) ⌝ }
+{
+    wire::least(labels + row.d, table.len())
+}
+
+// How many bytes of row t's name, which begins at `start`, lie within the table.
+pub fn length_of(table: &[u8], start: usize, row: TypeRow, t: usize) -> usize
+    requires { ⌜ (start ≡ nameStart (now table) t) × (start ≤ length (now table)) ⌝ }
+    requires { ⌜ IsTypeRow (now table) t row ⌝ }
+    ensures { λ r. ⌜ (r ≡ length (nameOf (now (table .entry)) t)) × (nameStart (now (table .entry)) t + r ≤ length (now (table .entry))) × (r < 65536) ⌝ }
+{
+    wire::least(row.e, table.len() - start)
+}
+
+// Where the name of row t begins, of a row that is looked up. Here and below, `begin` is where the type rows begin.
 pub fn name_start(table: &[u8], begin: usize, t: usize) -> usize
     requires { ⌜ begin ≡ typesAt (now table) ⌝ }
     ensures { λ r. ⌜ (r ≡ nameStart (now (table .entry)) t) × (r ≤ length (now (table .entry))) ⌝ }
 {
-    let row = crate::type_row(table, begin, t);
-    let start = crate::names_at(table, begin) + row.d;
-    wire::least(start, table.len())
+    let labels = crate::names_at(table, begin);
+    start_of(table, labels, crate::type_row(table, begin, t), t)
 }
 
 // How many bytes of row t's name lie within the table.
@@ -23,10 +42,9 @@ pub fn name_length(table: &[u8], begin: usize, t: usize) -> usize
     requires { ⌜ begin ≡ typesAt (now table) ⌝ }
     ensures { λ r. ⌜ (r ≡ length (nameOf (now (table .entry)) t)) × (nameStart (now (table .entry)) t + r ≤ length (now (table .entry))) × (r < 65536) ⌝ }
 {
+    let labels = crate::names_at(table, begin);
     let row = crate::type_row(table, begin, t);
-    let start = crate::names_at(table, begin) + row.d;
-    let a = wire::least(start, table.len());
-    wire::least(row.e, table.len() - a)
+    length_of(table, start_of(table, labels, row, t), row, t)
 }
 
 // Two strings have the same bytes. Eight bytes are compared at a time, the last eight once more where the length is no multiple of eight.
@@ -61,10 +79,10 @@ pub fn is_named(table: &[u8], begin: usize, t: usize, name: &[u8]) -> bool
     requires { ⌜ begin ≡ typesAt (now table) ⌝ }
     ensures { λ r. ⌜ r ≡ sameBytes (now (name .entry)) (nameOf (now (table .entry)) t) ⌝ }
 {
+    let labels = crate::names_at(table, begin);
     let row = crate::type_row(table, begin, t);
-    let start = crate::names_at(table, begin) + row.d;
-    let a = wire::least(start, table.len());
-    let e = a + wire::least(row.e, table.len() - a);
+    let a = start_of(table, labels, row, t);
+    let e = a + length_of(table, a, row, t);
     same(name, &table[a..e])
 }
 

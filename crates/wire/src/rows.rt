@@ -1,6 +1,6 @@
 // The one layout of a row: 12 bytes, its member row, a place and a length, four bytes each. The reader lists rows of this form, the view looks one up, the writer is given them.
 ghost use mathlib.Core.Path.{_≡_};
-ghost use Prim.Native.Nat.{_*_, _<_};
+ghost use Prim.Native.Nat.{_+_, _*_, _≤_, _<_};
 ghost use lib.ListN.{length};
 ghost use Rattle.encoding.specs.Message.{rowBytes};
 ghost use Rattle.encoding.specs.Write.{rowAt};
@@ -46,20 +46,27 @@ fn row_outside(rows: &[u8], i: usize) -> RowNumbers
     }
 }
 
-// Row i of a list. Its own 12 bytes are sliced once, so that the three reads need no further test.
-pub fn row_at(rows: &[u8], i: usize) -> RowNumbers
-    requires { ⌜ i < 4294967296 ⌝ }
+// Row i of a list, inside it. Its own 12 bytes are sliced once, so that the three reads need no further test.
+pub fn row_in(rows: &[u8], i: usize) -> RowNumbers
+    requires { ⌜ 12 * i + 12 ≤ length (now rows) ⌝ }
     ensures { λ r. ⌜ asRow r ≡ rowAt (now (rows .entry)) i ⌝ }
 {
     let a = 12 * i;
-    let e = a + 12;
-    if rows.len() < e {
-        return row_outside(rows, i);
-    }
-    let row = &rows[a..e];
+    let row = &rows[a..a + 12];
     RowNumbers {
         member: crate::int_at(row, 0),
         place: crate::int_at(row, 4),
         len: crate::int_at(row, 8),
     }
+}
+
+// Row i of a list.
+pub fn row_at(rows: &[u8], i: usize) -> RowNumbers
+    requires { ⌜ i < 4294967296 ⌝ }
+    ensures { λ r. ⌜ asRow r ≡ rowAt (now (rows .entry)) i ⌝ }
+{
+    if rows.len() < 12 * i + 12 {
+        return row_outside(rows, i);
+    }
+    row_in(rows, i)
 }

@@ -3,15 +3,15 @@
 --   still-wrong                  rows that are refused stay refused
 --   data-ended                   the rows of an owner, and the end marker after optionals
 --   end-..                       the end marker: its length, and what is put of it
---   pair-put, front-put          type ID and size; flags before them
---   old-put, new-put             the front, by the encoding
+--   flags-over, flags-put        the flags, by the encoding
+--   front-put, front-new         flags, type ID and size, one after another; in 1.1
 --   bare-old, bare-new           how many bytes of it are not the type ID's
 --   front-list, front-slice      how many bytes come before the data
 --   part-refused, part-list, part-slice   rows that are refused; those of a parameter list; a slice, the front put before the data
 --   part-measured                a slice where nothing is put
 use mathlib.Core.Path.{_≡_, refl, sym, ap, subst, _∙_}
 use mathlib.Core.Bool.{Bool, true, false}
-use mathlib.Core.List.{List, [], _∷_}
+use mathlib.Core.List.{List, [], _++_}
 use Prim.Native.Nat.{ℕ, _+_, _-_, _≤_, _<_}
 use native.Mathlib.Omega.{arith}
 use native.Mathlib.Nat.{add-zero}
@@ -26,7 +26,7 @@ use Rattle.writer.specs.declared.Laid.{Laid}
 use Rattle.pieces.specs.Cursors.{Cursor, dueAt}
 use Rattle.pieces.specs.Puts.{Puts}
 use Rattle.pieces.specs.PutsLaws.{puts-none, puts-is, puts-measured, puts-number, puts-byte, puts-then, puts-under}
-use Rattle.writer.specs.Slices.{groupOf, sliceOf, frontField, pairField, frontOf, sliceField, endMark, Judges, RowsPut, DataPut, SlicePut, PartPut}
+use Rattle.writer.specs.Slices.{groupOf, sliceOf, frontField, pairField, flagsOf, frontOf, sliceField, endMark, Judges, RowsPut, DataPut, SlicePut, PartPut}
 
 -- ---- the data
 
@@ -74,38 +74,42 @@ flags-small opt last = omega (arith, small opt 4 (omega arith), small last 32 (o
     small true w h = h
     small false w h = omega arith
 
+module _ (old opt last : Bool) (at : ℕ) (out : List ℕ) where
+  pub flags-over : old ≡ true → Puts at (flagsOf old opt last) out out at
+  flags-over q = rw q (puts-none at out)
+
+  pub flags-put : old ≡ false → (f : ℕ) (end : List ℕ) → f ≡ flagBits sliced true opt last → end ≡ put at (leBytes 1 f) out → Puts at (flagsOf old opt last) out end (at + 1)
+  flags-put q f end ef e = rw q (puts-byte (flagBits sliced true opt last) at out end (flags-small opt last) (rw (← ef) e))
+
 module _ (T : List ℕ) (o n : ℕ) where
   -- the type ID
   abbrev id : List ℕ
   id = stringBytes (nameOf T o)
-
-  pub pair-put : (at a : ℕ) (out mid end : List ℕ) → Puts at id out mid a → end ≡ put a (leBytes 4 (4 + n)) mid → Puts at (pairField T o n) out end (a + 4)
-  unfolding pairField
-  pair-put at a out mid end p g = puts-then at id out mid a p (leBytes 4 (4 + n)) end (a + 4) (puts-number 4 (4 + n) a mid end g)
 
   pair-length : length (pairField T o n) ≡ 4 + length id
   unfolding pairField
   pair-length = omega (arith, length-append id (leBytes 4 (4 + n)), length-leBytes 4 (4 + n))
 
   module _ (opt last : Bool) where
-    pub front-put : (at f a : ℕ) (out one end : List ℕ) → f ≡ flagBits sliced true opt last → one ≡ put at (leBytes 1 f) out → Puts (at + 1) (pairField T o n) one end a
-        → Puts at (frontField T o opt last n) out end a
-    unfolding frontField pairField
-    front-put at f a out one end ef e p =
-        puts-then at (flagBits sliced true opt last ∷ []) out one (at + 1) (puts-byte (flagBits sliced true opt last) at out one (flags-small opt last) (rw (← ef) e)) (pairField T o n) end a p
-
     front-length : length (frontField T o opt last n) ≡ 5 + length id
     unfolding frontField pairField
     front-length = omega (arith, pair-length)
 
-    module _ (old : Bool) (at : ℕ) (out end : List ℕ) (a : ℕ) where
-      pub old-put : old ≡ true → Puts at (pairField T o n) out end a → Puts at (frontOf T o old opt last n) out end a
-      unfolding frontOf
-      old-put q p = rw q p
+    front-is : (old : Bool) → flagsOf old opt last ++ (id ++ leBytes 4 (4 + n)) ≡ frontOf T o old opt last n
+    unfolding frontOf frontField pairField
+    front-is true = refl
+    front-is false = refl
 
-      pub new-put : old ≡ false → Puts at (frontField T o opt last n) out end a → Puts at (frontOf T o old opt last n) out end a
-      unfolding frontOf
-      new-put q p = rw q p
+    pub front-put : (old : Bool) (at a b : ℕ) (out one two end : List ℕ) → Puts at (flagsOf old opt last) out one a → Puts a id one two b → end ≡ put b (leBytes 4 (4 + n)) two
+        → Puts at (frontOf T o old opt last n) out end (b + 4)
+    front-put old at a b out one two end p q e =
+        puts-is at _ _ out end (b + 4) (front-is old)
+        (puts-then at (flagsOf old opt last) out one a p (id ++ leBytes 4 (4 + n)) end (b + 4)
+        (puts-then a id one two b q (leBytes 4 (4 + n)) end (b + 4) (puts-number 4 (4 + n) b two end e)))
+
+    pub front-new : (at a : ℕ) (out end : List ℕ) → Puts at (frontOf T o false opt last n) out end a → Puts at (frontField T o opt last n) out end a
+    unfolding frontOf
+    front-new at a out end p = p
 
     of-length : (old : Bool) → length (frontOf T o old opt last n) ≡ pick old 4 5 + length id
     unfolding frontOf

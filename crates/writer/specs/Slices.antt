@@ -4,7 +4,8 @@
 --   sliceOf                its slice
 --   slicesFrom             the slices of owners, one after another, from row i on
 --   encodingAs             1.0 if old, else 1.1 sliced
---   frontField, pairField  all that comes before a slice's data: flags, type ID, size; in 1.0 type ID and size. frontOf: by the encoding
+--   IsOwner                an owner as the code looks it up
+--   frontField, pairField  all that comes before a slice's data: flags, type ID, size; in 1.0 type ID and size. frontOf: by the encoding; flagsOf: the flags alone, which 1.0 has not
 --   endMark                the end marker, after optionals
 --   Grouping               what the loops over the rows of an owner keep; bytes of the buffer may wait to be put
 --   RowsLaid, DataLaid, SliceLaid   what is put of an owner's rows, of its slice's data, of its slice, and what the code answers of it
@@ -14,16 +15,18 @@
 use mathlib.Core.Path.{_≡_}
 use mathlib.Core.Bool.{Bool, true, false, _||_}
 use mathlib.Core.List.{List, [], _∷_, _++_}
-use Prim.Native.Nat.{ℕ, _+_, _-_, _*_, _≤_}
+use Prim.Native.Nat.{ℕ, _+_, _-_, _*_, _≤_, _<_}
 use lib.ListN.{length}
 use Rattle.encoding.specs.Result.{pick, concat}
 use Rattle.encoding.specs.Number.{leBytes, stringBytes}
-use Rattle.encoding.specs.Table.{nameOf, base}
+use Rattle.encoding.specs.Table.{field, nameOf, base}
 use Rattle.encoding.specs.Optional.{Piece, pieceBytes}
 use Rattle.encoding.specs.Slice.{sliced, Slice, known, anyOptional, dataBytes, flagBits}
 use Rattle.encoding.specs.Message.{Encoding, v10, v11}
 use Rattle.encoding.specs.Write.{stop}
+use Rattle.writer.specs.declared.Owner.{Owner}
 use Rattle.writer.specs.declared.Laid.{Laid}
+use Rattle.table.specs.Names.{nameStart}
 use Rattle.pieces.specs.Cursors.{Cursor, dueAt, mayAt, stateOf}
 use Rattle.pieces.specs.Judged.{verdictFrom, verdictAbove, Gives}
 use Rattle.pieces.specs.Puts.{Puts, Leaves}
@@ -46,11 +49,25 @@ slicesFrom T rows buffer count i [] = []
 slicesFrom T rows buffer count i (t ∷ ts) =
     sliceOf T rows buffer count t i ∷ slicesFrom T rows buffer count (i + length (groupOf T rows buffer count t i)) ts
 
+pub record IsOwner (T : List ℕ) (o : ℕ) (w : Owner) : Type 0 where
+  pub a-is : w .a ≡ field T o 0
+  pub b-is : w .b ≡ field T o 1
+  pub up-is : w .up ≡ base T o
+  pub name-is : w .name ≡ nameStart T o
+  pub long-is : w .long ≡ length (nameOf T o)
+  pub a-small : w .a < 65536
+  pub b-small : w .b < 65536
+  pub up-small : w .up ≤ o
+  pub long-small : w .long < 65536
+
 unfoldable pub frontField : List ℕ → ℕ → Bool → Bool → ℕ → List ℕ
 frontField T o optionals last n = flagBits sliced true optionals last ∷ (stringBytes (nameOf T o) ++ leBytes 4 (4 + n))
 
 unfoldable pub pairField : List ℕ → ℕ → ℕ → List ℕ
 pairField T o n = stringBytes (nameOf T o) ++ leBytes 4 (4 + n)
+
+abbrev pub flagsOf : Bool → Bool → Bool → List ℕ
+flagsOf old optionals last = pick old [] (flagBits sliced true optionals last ∷ [])
 
 unfoldable pub frontOf : List ℕ → ℕ → Bool → Bool → Bool → ℕ → List ℕ
 frontOf T o old optionals last n = pick old (pairField T o n) (frontField T o optionals last n)

@@ -13,12 +13,33 @@ ghost use Rattle.encoding.specs.Write.{output};
 ghost use Rattle.shapes.specs.Shapes.{shapesOf};
 ghost use Rattle.writer.specs.Messages.{written, outcomeOf};
 
+// An owner as each pass looks it up once: its member rows are the b rows from a on, `up` is its base row + 1 or 0, its name is the `long` bytes of the table from `name` on.
+pub struct Owner {
+    pub a: usize,
+    pub b: usize,
+    pub up: usize,
+    pub name: usize,
+    pub long: usize,
+}
+
 // The end of the bytes measured or put, the next row, whether it has an optional member, and the number of the refusal at that row or 0.
 pub struct Laid {
     pub end: usize,
     pub row: usize,
     pub optionals: bool,
     pub fault: usize,
+}
+
+// The same, made of its fields.
+fn laid_of(end: usize, row: usize, optionals: bool, fault: usize) -> Laid
+    ensures { λ r. ⌜ r ≡ record { end = end; row = row; optionals = optionals; fault = fault } ⌝ }
+{
+    Laid {
+        end: end,
+        row: row,
+        optionals: optionals,
+        fault: fault,
+    }
 }
 
 // The end of the bytes measured or put, if every row is right; or a refusal's number and place.

@@ -1,6 +1,8 @@
 // Checks the rows, each 20 then 21, and measures the message that they make: nothing is put. Each function answers what its counterpart that puts would answer of an empty output.
 use crate::Laid;
+use crate::Owner;
 use crate::Put;
+use crate::laid_of;
 use crate::slice;
 use pieces::Due;
 use pieces::May;
@@ -8,14 +10,14 @@ use pieces::judge;
 ghost use mathlib.Core.Path.{_≡_};
 ghost use mathlib.Core.Bool.{false};
 ghost use mathlib.Core.List.{[]};
-ghost use Prim.Native.Nat.{_+_, _≤_, _<_};
+ghost use Prim.Native.Nat.{_+_, _*_, _≤_, _<_};
 ghost use lib.ListN.{length};
 ghost use lib.Dec.{eqb};
 ghost use Rattle.encoding.specs.Table.{typesAt, membersAt, members, kind, field};
 ghost use Rattle.encoding.specs.Message.{encapsulate};
 ghost use Rattle.shapes.specs.Shapes.{shapesOf};
-ghost use Rattle.pieces.specs.Cursors.{dueAt, mayAt};
-ghost use Rattle.writer.specs.Slices.{encodingAs, endMark, RequiredsPut, RowsPut, PartPut};
+ghost use Rattle.pieces.specs.Cursors.{mayAt};
+ghost use Rattle.writer.specs.Slices.{IsOwner, encodingAs, endMark, RequiredsPut, RowsPut, PartPut};
 ghost use Rattle.writer.specs.Messages.{leadOf, partsOf, contentsOf, AllPut};
 
 // Checks and measures the rows of the required members of owner o, from row `from` on. Its member rows are the b rows from a on.
@@ -39,25 +41,19 @@ fn measure_requireds(
     requires { ⌜ now shapes ≡ shapesOf (now table) ⌝ }
     requires { ⌜ (first ≡ membersAt (now table)) × (first < 1048576) × (all ≡ members (now table)) ⌝ }
     requires { ⌜ (a ≡ field (now table) o 0) × (b ≡ field (now table) o 1) × (a < 65536) × (b < 65536) ⌝ }
-    requires { ⌜ (start ≤ 576460752303423488) × (from ≤ count) × (count ≤ 4294967296) × (length (now buffer) ≤ 65536) ⌝ }
+    requires { ⌜ (start ≤ 576460752303423488) × (from ≤ count) × (count ≤ 4294967296) × (length (now buffer) ≤ 65536) × (12 * count ≤ length (now rows)) ⌝ }
     ensures { λ r. ⌜ RequiredsPut (now (table .entry)) old (now (rows .entry)) (now (buffer .entry)) false count o from start [] [] r ⌝ }
 {
     let mut at = start;
     let mut i = from;
     let mut k = 0;
     while k < b {
-        let member = table::member_row_from(table, first, a + k);
-        if member.mark != 0 {
+        if table::mark_from(table, first, a + k) != 0 {
             k += 1;
             continue;
         }
         if count <= i {
-            return Laid {
-                end: at,
-                row: i,
-                optionals: false,
-                fault: 20,
-            };
+            return laid_of(at, i, false, 20);
         }
         let d = judge::due(
             table,
@@ -68,7 +64,7 @@ fn measure_requireds(
             o,
             k,
             a + k,
-            member.of,
+            table::type_from(table, first, a + k),
             old,
             rows,
             i,
@@ -81,21 +77,11 @@ fn measure_requireds(
                 k += 1;
             }
             Due::Wrong(number) => {
-                return Laid {
-                    end: at,
-                    row: i,
-                    optionals: false,
-                    fault: number,
-                };
+                return laid_of(at, i, false, number);
             }
         }
     }
-    Laid {
-        end: at,
-        row: i,
-        optionals: false,
-        fault: 0,
-    }
+    laid_of(at, i, false, 0)
 }
 
 // Checks and measures the rows of optional members of owner o, from row `from` on.
@@ -119,7 +105,7 @@ fn measure_optionals(
     requires { ⌜ now shapes ≡ shapesOf (now table) ⌝ }
     requires { ⌜ (first ≡ membersAt (now table)) × (first < 1048576) × (all ≡ members (now table)) ⌝ }
     requires { ⌜ (a ≡ field (now table) o 0) × (b ≡ field (now table) o 1) × (a < 65536) × (b < 65536) ⌝ }
-    requires { ⌜ (start ≤ 864691128455135232) × (from ≤ count) × (count ≤ 4294967296) × (length (now buffer) ≤ 65536) ⌝ }
+    requires { ⌜ (start ≤ 864691128455135232) × (from ≤ count) × (count ≤ 4294967296) × (length (now buffer) ≤ 65536) × (12 * count ≤ length (now rows)) ⌝ }
     ensures { λ r. ⌜ RowsPut (now (table .entry)) old (now (rows .entry)) (now (buffer .entry)) false count (mayAt (now (table .entry)) o 0) from start [] [] r ⌝ }
 {
     let mut at = start;
@@ -151,87 +137,14 @@ fn measure_optionals(
                 i += 1;
             }
             May::Stop => {
-                return Laid {
-                    end: at,
-                    row: i,
-                    optionals: optionals,
-                    fault: 0,
-                };
+                return laid_of(at, i, optionals, 0);
             }
             May::Wrong(number) => {
-                return Laid {
-                    end: at,
-                    row: i,
-                    optionals: optionals,
-                    fault: number,
-                };
+                return laid_of(at, i, optionals, number);
             }
         }
     }
-    Laid {
-        end: at,
-        row: i,
-        optionals: optionals,
-        fault: 0,
-    }
-}
-
-// Checks and measures the rows of owner o from row `from` on.
-fn measure_rows(
-    table: &[u8],
-    begin: usize,
-    shapes: &[u8; 256],
-    start: usize,
-    o: usize,
-    from: usize,
-    old: bool,
-    count: usize,
-    rows: &[u8],
-    buffer: &[u8],
-) -> Laid
-    requires { ⌜ begin ≡ typesAt (now table) ⌝ }
-    requires { ⌜ now shapes ≡ shapesOf (now table) ⌝ }
-    requires { ⌜ (start ≤ 576460752303423488) × (from ≤ count) × (count ≤ 4294967296) × (length (now buffer) ≤ 65536) ⌝ }
-    ensures { λ r. ⌜ RowsPut (now (table .entry)) old (now (rows .entry)) (now (buffer .entry)) false count (dueAt o 0) from start [] [] r ⌝ }
-{
-    let owner = table::type_row(table, begin, o);
-    let first = table::members_at(table, begin);
-    let all = table::members(table);
-    let d = measure_requireds(
-        table,
-        begin,
-        shapes,
-        first,
-        all,
-        start,
-        o,
-        owner.a,
-        owner.b,
-        from,
-        old,
-        count,
-        rows,
-        buffer,
-    );
-    if d.fault != 0 {
-        return d;
-    }
-    measure_optionals(
-        table,
-        begin,
-        shapes,
-        first,
-        all,
-        d.end,
-        o,
-        owner.a,
-        owner.b,
-        d.row,
-        old,
-        count,
-        rows,
-        buffer,
-    )
+    laid_of(at, i, optionals, 0)
 }
 
 // How many bytes the end marker takes, which a slice has after optionals.
@@ -249,8 +162,11 @@ fn measure_part(
     table: &[u8],
     begin: usize,
     shapes: &[u8; 256],
+    first: usize,
+    all: usize,
     at: usize,
     o: usize,
+    owner: Owner,
     list: bool,
     last: bool,
     from: usize,
@@ -261,17 +177,42 @@ fn measure_part(
 ) -> Laid
     requires { ⌜ begin ≡ typesAt (now table) ⌝ }
     requires { ⌜ now shapes ≡ shapesOf (now table) ⌝ }
-    requires { ⌜ (at ≤ 288230376151711744) × (from ≤ count) × (count ≤ 4294967296) × (length (now buffer) ≤ 65536) ⌝ }
+    requires { ⌜ (first ≡ membersAt (now table)) × (first < 1048576) × (all ≡ members (now table)) ⌝ }
+    requires { ⌜ IsOwner (now table) o owner ⌝ }
+    requires { ⌜ (at ≤ 288230376151711744) × (from ≤ count) × (count ≤ 4294967296) × (length (now buffer) ≤ 65536) × (12 * count ≤ length (now rows)) ⌝ }
     ensures { λ r. ⌜ PartPut (now (table .entry)) old (now (rows .entry)) (now (buffer .entry)) false count list last o from at [] [] r ⌝ }
 {
-    let start = at + slice::front_len(table, begin, o, list, old);
-    let d = measure_rows(
+    let start = at + slice::front_len(table, o, owner, list, old);
+    let required = measure_requireds(
         table,
         begin,
         shapes,
+        first,
+        all,
         start,
         o,
+        owner.a,
+        owner.b,
         from,
+        old,
+        count,
+        rows,
+        buffer,
+    );
+    if required.fault != 0 {
+        return required;
+    }
+    let d = measure_optionals(
+        table,
+        begin,
+        shapes,
+        first,
+        all,
+        required.end,
+        o,
+        owner.a,
+        owner.b,
+        required.row,
         old,
         count,
         rows,
@@ -283,12 +224,7 @@ fn measure_part(
     if list {
         return d;
     }
-    Laid {
-        end: d.end + end_len(d.optionals),
-        row: d.row,
-        optionals: d.optionals,
-        fault: 0,
-    }
+    laid_of(d.end + end_len(d.optionals), d.row, d.optionals, 0)
 }
 
 // Checks the rows and measures the members of a parameter list t, or the slices of row t and its bases.
@@ -307,22 +243,28 @@ fn measure_parts(
     requires { ⌜ begin ≡ typesAt (now table) ⌝ }
     requires { ⌜ now shapes ≡ shapesOf (now table) ⌝ }
     requires { ⌜ list ≡ eqb (kind (now table) t) 15 ⌝ }
-    requires { ⌜ (start ≤ 7) × (t < 65536) × (count ≤ 4294967296) × (length (now buffer) ≤ 65536) ⌝ }
+    requires { ⌜ (start ≤ 7) × (t < 65536) × (count ≤ 4294967296) × (length (now buffer) ≤ 65536) × (12 * count ≤ length (now rows)) ⌝ }
     ensures { λ r. ⌜ AllPut (now (table .entry)) old (now (rows .entry)) (now (buffer .entry)) false count t start (partsOf (now (table .entry)) old list (now (rows .entry)) (now (buffer .entry)) count t) [] [] r ⌝ }
 {
+    let first = table::members_at(table, begin);
+    let all = table::members(table);
+    let labels = table::names_at(table, begin);
     let mut at = start;
     let mut o = t;
     let mut i = 0;
     loop {
-        let up = table::chain::base(table, begin, o);
+        let owner = slice::owner_at(table, begin, labels, o);
         let d = measure_part(
             table,
             begin,
             shapes,
+            first,
+            all,
             at,
             o,
+            owner,
             list,
-            up == 0,
+            owner.up == 0,
             i,
             old,
             count,
@@ -332,14 +274,14 @@ fn measure_parts(
         if d.fault != 0 {
             return Put::Wrong(d.fault, d.row);
         }
-        if up == 0 {
+        if owner.up == 0 {
             if d.row < count {
                 return Put::Wrong(20, d.row);
             }
             return Put::Made(d.end);
         }
         at = d.end;
-        o = up - 1;
+        o = owner.up - 1;
         i = d.row;
     }
 }
@@ -373,7 +315,7 @@ pub fn measure(
 ) -> Put
     requires { ⌜ begin ≡ typesAt (now table) ⌝ }
     requires { ⌜ now shapes ≡ shapesOf (now table) ⌝ }
-    requires { ⌜ (t < 65536) × (count ≤ 4294967296) × (length (now buffer) ≤ 65536) ⌝ }
+    requires { ⌜ (t < 65536) × (count ≤ 4294967296) × (length (now buffer) ≤ 65536) × (12 * count ≤ length (now rows)) ⌝ }
     ensures { λ r. ⌜ AllPut (now (table .entry)) old (now (rows .entry)) (now (buffer .entry)) false count t 0 (encapsulate (encodingAs old) (contentsOf (now (table .entry)) old (now (rows .entry)) (now (buffer .entry)) count t)) [] [] r ⌝ }
 {
     let k = table::kind(table, begin, t);

@@ -3,7 +3,7 @@ use crate::Put;
 use crate::slice;
 ghost use mathlib.Core.Path.{_≡_};
 ghost use mathlib.Core.Bool.{true};
-ghost use Prim.Native.Nat.{_≤_, _<_};
+ghost use Prim.Native.Nat.{_*_, _≤_, _<_};
 ghost use lib.ListN.{length};
 ghost use lib.Dec.{eqb};
 ghost use Rattle.encoding.specs.Table.{typesAt, kind};
@@ -30,23 +30,28 @@ fn put_parts(
     requires { ⌜ begin ≡ typesAt (now table) ⌝ }
     requires { ⌜ now shapes ≡ shapesOf (now table) ⌝ }
     requires { ⌜ list ≡ eqb (kind (now table) t) 15 ⌝ }
-    requires { ⌜ (start ≤ 7) × (t < 65536) × (count ≤ 4294967296) × (length (now buffer) ≤ 65536) ⌝ }
+    requires { ⌜ (start ≤ 7) × (t < 65536) × (count ≤ 4294967296) × (length (now buffer) ≤ 65536) × (12 * count ≤ length (now rows)) ⌝ }
     ensures { λ r. ⌜ AllPut (now (table .entry)) old (now (rows .entry)) (now (buffer .entry)) true count t start (partsOf (now (table .entry)) old list (now (rows .entry)) (now (buffer .entry)) count t) (now (out .entry)) (now (out .exit)) r ⌝ }
 {
+    let first = table::members_at(table, begin);
+    let all = table::members(table);
+    let labels = table::names_at(table, begin);
     let mut at = start;
     let mut o = t;
     let mut i = 0;
     loop {
-        let up = table::chain::base(table, begin, o);
+        let owner = slice::owner_at(table, begin, labels, o);
         let d = slice::put_part(
             table,
-            begin,
             shapes,
+            first,
+            all,
             out,
             at,
             o,
+            owner,
             list,
-            up == 0,
+            owner.up == 0,
             i,
             old,
             count,
@@ -56,14 +61,14 @@ fn put_parts(
         if d.fault != 0 {
             return Put::Wrong(d.fault, d.row);
         }
-        if up == 0 {
+        if owner.up == 0 {
             if d.row < count {
                 return Put::Wrong(20, d.row);
             }
             return Put::Made(d.end);
         }
         at = d.end;
-        o = up - 1;
+        o = owner.up - 1;
         i = d.row;
     }
 }
@@ -110,7 +115,7 @@ pub fn put_message(
 ) -> Put
     requires { ⌜ begin ≡ typesAt (now table) ⌝ }
     requires { ⌜ now shapes ≡ shapesOf (now table) ⌝ }
-    requires { ⌜ (t < 65536) × (count ≤ 4294967296) × (length (now buffer) ≤ 65536) ⌝ }
+    requires { ⌜ (t < 65536) × (count ≤ 4294967296) × (length (now buffer) ≤ 65536) × (12 * count ≤ length (now rows)) ⌝ }
     ensures { λ r. ⌜ AllPut (now (table .entry)) old (now (rows .entry)) (now (buffer .entry)) true count t 0 (encapsulate (encodingAs old) (contentsOf (now (table .entry)) old (now (rows .entry)) (now (buffer .entry)) count t)) (now (out .entry)) (now (out .exit)) r ⌝ }
 {
     let k = table::kind(table, begin, t);

@@ -11,7 +11,7 @@ optional-at-spec =
     (λ c. search gone-below)  -- returns
     (λ c. search needs)  -- add-if2
     (λ c. search gone-past)  -- returns-2
-    (λ c κs. search needs)  -- member-row-from-requires
+    (λ c κs. search needs)  -- member-row-flat-requires
     (λ c. search gone-required)  -- returns-3
     (λ c. search gone-tag)  -- returns-4
     (λ c κs. search needs)  -- type-of-requires

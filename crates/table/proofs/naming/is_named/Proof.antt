@@ -8,12 +8,10 @@ pub is-named-spec : {M : Type 1} → statement M
 is-named-spec =
     tie.close
     (tie.spec
-    (λ c κs. search needs)  -- type-row-requires
     (λ c κs. search needs)  -- names-at-requires
-    (λ c. search needs)  -- add-start
-    (λ c κs. search needs)  -- least-requires
-    (λ c. search needs)  -- sub-least
-    (λ c κs. search needs)  -- least-requires-2
+    (λ c κs. search needs)  -- type-row-requires
+    (λ c κs. search needs)  -- start-of-requires
+    (λ c κs. search needs)  -- length-of-requires
     (λ c. search needs)  -- add-e
     (λ c. search needs)  -- sub-same
     (λ c. search needs)  -- part-same-start

@@ -15,5 +15,5 @@ measure-spec =
     (λ c κs. search needs)  -- kind-requires
     (λ c κs. search needs)  -- lead-len-requires
     (λ c. search needs)  -- add-measure-parts
-    (λ c κs. (c .before .before .before .before .before .pre .0, (c .before .before .before .before .before .pre .1 .0, (ap (λ (x : ℕ). eqb x 15) (c .before .kind .ensures .0), (omega (arith, c .lead-len .ensures .1), c .before .before .before .before .before .pre .1 .1 .0, c .before .before .before .before .before .pre .1 .1 .1, c .before .before .before .before .before .pre .1 .1 .2)))))  -- measure-parts-requires
+    (λ c κs. (c .before .before .before .before .before .pre .0, (c .before .before .before .before .before .pre .1 .0, (ap (λ (x : ℕ). eqb x 15) (c .before .kind .ensures .0), (omega (arith, c .lead-len .ensures .1), c .before .before .before .before .before .pre .1 .1 .0, c .before .before .before .before .before .pre .1 .1 .1, c .before .before .before .before .before .pre .1 .1 .2, c .before .before .before .before .before .pre .1 .1 .3)))))  -- measure-parts-requires
     (λ c. message-measured _ _ _ _ _ _ _ (c .before .before .kind .ensures .0) _ (c .before .lead-len .ensures .0) (c .measure-parts .result) (c .measure-parts .ensures)))  -- returns

@@ -13,7 +13,7 @@ put-message-spec =
     (tie.spec
     (λ c κs. search needs)  -- kind-requires
     (λ c κs. search needs)  -- put-lead-requires
-    (λ c κs. (c .before .before .before .before .before .before .before .before .before .before .pre .0, (c .before .before .before .before .before .before .before .before .before .before .pre .1 .0, (ap (λ (x : ℕ). eqb x 15) (c .before .before .before .before .before .kind .ensures .0), (c .before .before .before .put-lead .ensures .1, c .before .before .before .before .before .before .before .before .before .before .pre .1 .1 .0, c .before .before .before .before .before .before .before .before .before .before .pre .1 .1 .1, c .before .before .before .before .before .before .before .before .before .before .pre .1 .1 .2)))))  -- put-parts-requires
+    (λ c κs. (c .before .before .before .before .before .before .before .before .before .before .pre .0, (c .before .before .before .before .before .before .before .before .before .before .pre .1 .0, (ap (λ (x : ℕ). eqb x 15) (c .before .before .before .before .before .kind .ensures .0), (c .before .before .before .put-lead .ensures .1, c .before .before .before .before .before .before .before .before .before .before .pre .1 .1 .0, c .before .before .before .before .before .before .before .before .before .before .pre .1 .1 .1, c .before .before .before .before .before .before .before .before .before .before .pre .1 .1 .2, c .before .before .before .before .before .before .before .before .before .before .pre .1 .1 .3)))))  -- put-parts-requires
     (λ c. search needs)  -- enum-known-put
     (λ c κs. search needs)  -- put-number-requires
     (λ c κs. search needs)  -- version-requires

@@ -9,8 +9,6 @@ pub put-id-spec : {M : Type 1} → statement M
 put-id-spec =
     tie.close
     (tie.spec
-    (λ c κs. search needs)  -- name-length-requires
-    (λ c κs. search needs)  -- name-start-requires
     (λ c κs. search needs)  -- size-len-requires
     (λ c κs. search needs)  -- put-size-requires
     (λ c. search needs)  -- add-put-part

@@ -32,10 +32,13 @@ put-optionals-spec =
     (λ c. omega arith)  -- loop-less
     (λ c. (search needs, tags-next _ _ _ _ _ _ _ _ _ _ _ _ _ _ _ (c .before .before .before .before .before .before .before .before .loop .inv .1) (c .before .before .before .before .before .before .before .loop-test .taken) _ _ (c .before .before .before .before .before .put-may .ensures) _ _ (c .before .p .given .1)))  -- loop-again
     (λ c. search needs)  -- enum-told
+    (λ c κs. search needs)  -- laid-of-requires
     (λ c. search needs)  -- same-length
-    (λ c. tags-stop _ _ _ _ _ _ _ _ _ _ _ _ _ _ _ (c .before .before .before .before .before .before .before .loop .inv .1) (c .before .before .before .before .before .before .loop-test .taken) _ _ (c .before .before .before .before .put-may .ensures) (c .enum-told .given .1))  -- returns
+    (λ c. rw (c .laid-of .ensures) (tags-stop _ _ _ _ _ _ _ _ _ _ _ _ _ _ _ (c .before .before .before .before .before .before .before .before .loop .inv .1) (c .before .before .before .before .before .before .before .loop-test .taken) _ _ (c .before .before .before .before .before .put-may .ensures) (c .before .enum-told .given .1)))  -- returns
     (λ c. search needs)  -- enum-known-p-2
+    (λ c κs. search needs)  -- laid-of-requires-2
     (λ c. search needs)  -- same-length-2
-    (λ c. tags-wrong _ _ _ _ _ _ _ _ _ _ _ _ _ _ _ (c .before .before .before .before .before .before .before .before .loop .inv .1) (c .before .before .before .before .before .before .before .loop-test .taken) _ _ (c .before .before .before .before .before .put-may .ensures) _ (c .before .p2 .given .1))  -- returns-2
+    (λ c. rw (c .laid-of2 .ensures) (tags-wrong _ _ _ _ _ _ _ _ _ _ _ _ _ _ _ (c .before .before .before .before .before .before .before .before .before .loop .inv .1) (c .before .before .before .before .before .before .before .before .loop-test .taken) _ _ (c .before .before .before .before .before .before .put-may .ensures) _ (c .before .before .p2 .given .1)))  -- returns-2
+    (λ c κs. search needs)  -- laid-of-requires-3
     (λ c. search needs)  -- same-length-3
-    (λ c. tags-end _ _ _ _ _ _ _ _ _ _ _ _ _ _ _ (c .before .loop .inv .1) (c .loop-test .left)))  -- returns-3
+    (λ c. rw (c .laid-of3 .ensures) (tags-end _ _ _ _ _ _ _ _ _ _ _ _ _ _ _ (c .before .before .loop .inv .1) (c .before .loop-test .left))))  -- returns-3
