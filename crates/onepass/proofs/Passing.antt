@@ -5,19 +5,19 @@
 --   struct-passed                    a struct whose members passed
 --   record-rules, list-rules         the rules of the kinds 13 to 15
 --   record-least, record-most        the kind of a record is 13 to 15
---   Usual, usual-..                  the loop over the member rows of these kinds
+--   Usual, usual-..                  the loop over the member rows of these kinds; plain-.. those before the first optional one
 --   owner-passed, alone-passed, unnamed-passed   a row of each sort
 --   StructMembers, structs-..        the loop over the members of a struct, with their widths
 --   width-.., shape-..               the width and the shape of a struct, by those of its members
 --   Rows, rows-..                    the pass over the rows
 --   Blank, blank-..                  the array as it is cleared
 --   no-lists, few-types, pass-fine   the pass after the header
-use Prim.Native.Nat.{ℕ, _+_, _-_, _*_, _/_, _%_, _≤_, _<_, max}
+use Prim.Native.Nat.{ℕ, zero, suc, _+_, _-_, _*_, _/_, _%_, _≤_, _<_, min, max}
 use mathlib.Core.Path.{_≡_, refl, sym, ap, _∙_}
 use mathlib.Core.Bool.{Bool, true, false, _&&_, _||_, not, false≢true}
 use mathlib.Core.Logic.{⊎-elim}
 use mathlib.Core.List.{List}
-use native.Mathlib.Nat.{eq-or-lt-of-le}
+use native.Mathlib.Nat.{add-zero, sub-zero, eq-or-lt-of-le}
 use native.Mathlib.Omega.{arith}
 use lib.ListN.{length, getD, set, replicate, length-set, length-replicate, getD-replicate}
 use lib.Seq.{getD-set-same, getD-set-other, ext-getD}
@@ -36,7 +36,7 @@ use Rattle.rules.specs.declared.Finding.the-variants.{Fine}
 use Rattle.rules.proofs.Judging.{unused-enum, enum-plain, unused-seq, unused-two, unused-proxy, unused-exception, unused-class, enum-fine, struct-fine, list-fine, seq-fine, dict-fine, kind-enum, kind-struct, kind-seq, kind-dict, kind-list, kind-record, kind-plain, row-known, share-own, share-none, basic-kind, is-fine, Types, types-begin, types-basic, types-next, types-end, lists-without, Owner, owner-none, owner-begin, owner-end, usual-small, usual-next, type-of, Owners, owners-begin, owners-end, owners-next, owners-low, check-members}
 use Rattle.shapes.specs.Shapes.{narrow, widthOf, widthsFrom, structShape, shapeOf, plainShape, shapeAt, shapesOf, Shaped, widthIn}
 use Rattle.shapes.proofs.Filling.{seq-single, seq-other, dict-other, dict-not, row-of-struct, row-of-seq, row-of-dict, row-of-none, plain-none, width-part, Filling, filling-begin, filling-next, filling-end}
-use Rattle.onepass.specs.Passing.{RowPassed, UnnamedPassed, AlonePassed}
+use Rattle.onepass.specs.Passing.{RowPassed, UnnamedPassed, AlonePassed, PlainRows}
 
 -- ---- rows that take no member rows
 
@@ -211,6 +211,40 @@ module _ (T : List ℕ) (o left m above : ℕ) (inv : Usual T o left m above) wh
 
   pub usual-end : left ≤ 0 → Fine ≡ findingOf (ownerPass T o)
   usual-end h = owner-end T o (inv .own) left m above (inv .rows-left) h
+
+-- a required member row with tag 0, one number
+usual-required : (T : List ℕ) (o left m above : ℕ) → Usual T o left m above → 0 < left → above ≤ 1 → o < typeRows T
+    → (x : ℕ) → x ≡ at T 8 (memberAt T m) → noPart T o x ≡ false → Usual T o (left - 1) (m + 1) 1
+usual-required T o left m above inv h l low x ex part =
+    let below = part-there T o x false (sym part) refl in
+    let whole : x % 65536 ≡ x = omega (arith, below, rows-below T) in
+    usual-step T o left m above inv h (memberAt T m) x refl ex true (usual-small x above true (omega (arith, below, rows-below T))) refl
+    false (sym (ap (noPart T o) whole ∙ part)) refl 1 (omega (arith, below, rows-below T))
+
+-- these rows: none, one more, and the loop after them
+module _ (T : List ℕ) (o from : ℕ) where
+  pub plain-begin : PlainRows T o from 0
+  plain-begin = record { plain = λ j h. absurd (omega arith) }
+
+  pub plain-next : (k : ℕ) → PlainRows T o from k → (p x : ℕ) → p ≡ memberAt T (from + k) → x ≡ at T 8 p → (b : Bool) → b ≡ noPart T o x → b ≡ false → PlainRows T o from (k + 1)
+  plain-next k inv p x ep ex b eb fb = record {
+    plain = λ j h. let le : j ≤ k = omega arith in
+        ⊎-elim (λ z. rw z (ap (noPart T o) (sym (ex ∙ ap (at T 8) ep)) ∙ sym eb ∙ fb)) (λ l. inv .plain j l) (eq-or-lt-of-le le);
+  }
+
+  module _ (low : o < typeRows T) (n : ℕ) (inv : Usual T o n from 0) where
+    plain-steps : (k : ℕ) → k ≤ n → PlainRows T o from k → Usual T o (n - k) (from + k) (min k 1)
+    plain-steps zero h P = rw (sub-zero, add-zero) inv
+    plain-steps (suc k) h P =
+        go (n - suc k) (from + suc k) (min (suc k) 1) (omega arith) (omega arith) (omega arith)
+        (usual-required T o (n - k) (from + k) (min k 1) (plain-steps k (omega arith) (record { plain = λ j l. P .plain j (omega arith) })) (omega arith) (omega arith) low
+        _ refl (P .plain k (omega arith)))
+      where
+        go : (left m above : ℕ) → left ≡ n - k - 1 → m ≡ from + k + 1 → above ≡ 1 → Usual T o (n - k - 1) (from + k + 1) 1 → Usual T o left m above
+        go left m above e f g u = rw (e, f, g) u
+
+    pub usual-plain : (k : ℕ) → (k ≤ n) × PlainRows T o from k → (a : ℕ) → a ≡ min k 1 → Usual T o (n - k) (from + k) a
+    usual-plain k P a e = rw e (plain-steps k (P .0) (P .1))
 
 pub alone-passed : (T : List ℕ) (t : ℕ) (r : TypeRow) (x n : ℕ) (b : Bool) → (x < 256 → AlonePassed T t r x) → x < 256 → RowPassed T t r n b x
 alone-passed T t r x n b f l = f l .passed n .passed b

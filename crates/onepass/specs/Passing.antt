@@ -3,11 +3,13 @@
 --   RowPassed T t row n b x      row t and its member rows break no rule, and x is its shape; the rows before it take n member rows; b: one of them has its name
 --   UnnamedPassed T t row n x    the same for every b: a row without a name
 --   AlonePassed T t row x        the same for every n and b: a row that takes no member rows and has no name
+--   PlainRows T o from k         each of the k member rows from `from` on, as one number, is a row below o that may be a part
 use mathlib.Core.Path.{_≡_}
-use mathlib.Core.Bool.{Bool}
+use mathlib.Core.Bool.{Bool, false}
 use mathlib.Core.List.{List}
-use Prim.Native.Nat.{ℕ}
+use Prim.Native.Nat.{ℕ, _+_, _<_}
 use Rattle.encoding.specs.Result.{firstOf}
+use Rattle.encoding.specs.Table.{at, memberAt, noPart}
 use Rattle.table.specs.declared.TypeRow.{TypeRow}
 use Rattle.rules.specs.Checks.{findingOf, rowRules, ownerPass}
 use Rattle.rules.specs.declared.Finding.the-variants.{Fine}
@@ -23,3 +25,6 @@ pub record UnnamedPassed (T : List ℕ) (t : ℕ) (row : TypeRow) (n x : ℕ) : 
 
 pub record AlonePassed (T : List ℕ) (t : ℕ) (row : TypeRow) (x : ℕ) : Type 0 where
   pub passed : (n : ℕ) → UnnamedPassed T t row n x
+
+pub record PlainRows (T : List ℕ) (o from k : ℕ) : Type 0 where
+  pub plain : (j : ℕ) → j < k → noPart T o (at T 8 (memberAt T (from + j))) ≡ false

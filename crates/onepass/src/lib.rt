@@ -12,7 +12,7 @@ ghost use Rattle.table.specs.Rows.{IsTypeRow};
 ghost use Rattle.rules.specs.Checks.{findingOf, alikeFrom, recordRules, rowRules, rowsPass, ownerPass, ownersPass, OwnersThere};
 ghost use Rattle.rules.specs.declared.Finding.the-variants.{Fine};
 ghost use Rattle.shapes.specs.Shapes.{narrow, structShape, shapeAt, shapesOf, Shaped};
-ghost use Rattle.onepass.specs.Passing.{RowPassed, UnnamedPassed, AlonePassed};
+ghost use Rattle.onepass.specs.Passing.{RowPassed, UnnamedPassed, AlonePassed, PlainRows};
 
 // Both hold.
 fn both(a: bool, b: bool) -> bool
@@ -284,10 +284,31 @@ fn owner_rules(
     row.a == prior
 }
 
-// The member rows of row o, of kind 13 to 15, are usual, and their types lie below.
+// How many of the n member rows from row `from` on are required ones with tag 0 whose types lie below row o, up to the first other one. Read as one long, such a row is the number of its type.
+fn plain_members(table: &[u8], begin: usize, first: usize, o: usize, from: usize, n: usize) -> usize
+    requires { ⌜ begin ≡ typesAt (now table) ⌝ }
+    requires { ⌜ rowAt (now table) (o + 1) ≤ length (now table) ⌝ }
+    requires { ⌜ first ≡ membersAt (now table) ⌝ }
+    requires { ⌜ memberAt (now table) (from + n) ≤ length (now table) ⌝ }
+    ensures { λ r. ⌜ (r ≤ n) × PlainRows (now (table .entry)) o from r ⌝ }
+{
+    let mut k = 0;
+    while k < n {
+        let p = table::member_at(table, first, from + k);
+        let x = wire::long_in(table, p);
+        if rules::no_part(table, begin, o, x) {
+            return k;
+        }
+        k += 1;
+    }
+    k
+}
+
+// The member rows of row o, of kind 13 to 15, are usual, and their types lie below. Those before the first optional one are judged by a loop of their own, which is shorter.
 fn members(table: &[u8], begin: usize, first: usize, all: usize, o: usize, own: TypeRow) -> bool
     requires { ⌜ begin ≡ typesAt (now table) ⌝ }
     requires { ⌜ rowAt (now table) (o + 1) ≤ length (now table) ⌝ }
+    requires { ⌜ o < typeRows (now table) ⌝ }
     requires { ⌜ (first ≡ membersAt (now table)) × (all ≡ members (now table)) ⌝ }
     requires { ⌜ memberAt (now table) all ≤ length (now table) ⌝ }
     requires { ⌜ IsTypeRow (now table) o own ⌝ }
@@ -297,9 +318,10 @@ fn members(table: &[u8], begin: usize, first: usize, all: usize, o: usize, own: 
     if all < own.a + own.b {
         return false;
     }
-    let mut m = own.a;
-    let mut left = own.b;
-    let mut above = 0;
+    let k = plain_members(table, begin, first, o, own.a, own.b);
+    let mut m = own.a + k;
+    let mut left = own.b - k;
+    let mut above = wire::least(k, 1);
     while left > 0 {
         let p = table::member_at(table, first, m);
         let x = wire::long_in(table, p);

@@ -3,10 +3,11 @@
 --   Same, same-.., long-stop   the loops that compare two strings, eight bytes at a time, then the last eight or single ones
 --   name-least, name-long      where a name begins, and how many bytes it has; name-inside they lie within the table
 --   named-part                 the part of the table that is compared is the name
+--   whole-begin, whole-named   lent from the first byte on
 --   record-named ..            a row is a record of a name
 --   Naming, naming-..          the loop that looks for the record of a name
 use Prim.Native.Nat.{ℕ, zero, suc, _+_, _-_, _≤_, _<_, min}
-use mathlib.Core.Path.{_≡_, refl, sym, ap, _∙_}
+use mathlib.Core.Path.{_≡_, refl, sym, ap, ap₂, _∙_}
 use mathlib.Core.Bool.{Bool, true, false, _&&_}
 use mathlib.Core.List.{List}
 use native.Mathlib.Nat.{add-zero}
@@ -18,8 +19,9 @@ use lib.Dec.{eqb, leb}
 use borrow.Author.Tests.{leb-true, leb-false, eqb-true, eqb-false, eq-eqb}
 use Rattle.encoding.specs.Result.{pick, sameBytes}
 use Rattle.encoding.specs.ResultLaws.{sameBytes-ok}
-use Rattle.encoding.specs.Table.{at, types, namesAt, kind, field, isRecord, nameOf, range, search as find, named}
+use Rattle.encoding.specs.Table.{at, types, typesAt, namesAt, kind, field, isRecord, nameOf, range, search as find, named}
 use Rattle.wire.specs.At.{at-more}
+use Rattle.wire.specs.StepLaws.{rest-is}
 use Rattle.table.specs.Names.{nameStart, isNamed}
 use Rattle.table.specs.NamesLaws.{name-part, length-name}
 use Rattle.table.specs.Found.{foundOf}
@@ -118,6 +120,13 @@ module _ (T : List ℕ) (t : ℕ) where
   named-part a l s e nm r h =
       let z : a + l - a ≡ length (nameOf T t) = omega arith in
       h ∙ rw (z, s, name-part T t)
+
+-- a table and a name that are lent from their first byte on are lent whole
+pub whole-begin : (T : List ℕ) (n : ℕ) → n ≡ typesAt T → n ≡ typesAt (take (length T - 0) (drop 0 T))
+whole-begin T n e = e ∙ ap typesAt (sym (rest-is T 0))
+
+pub whole-named : (T nm : List ℕ) (t : ℕ) (r : Bool) → r ≡ sameBytes (take (length nm - 0) (drop 0 nm)) (nameOf (take (length T - 0) (drop 0 T)) t) → r ≡ sameBytes nm (nameOf T t)
+whole-named T nm t r e = e ∙ ap₂ (λ (x y : List ℕ). sameBytes x (nameOf y t)) (rest-is nm 0) (rest-is T 0)
 
 -- ---- the search for a name
 

@@ -74,13 +74,31 @@ pub fn same(a: &[u8], b: &[u8]) -> bool
     true
 }
 
-// The name of row t is this one.
-pub fn is_named(table: &[u8], begin: usize, t: usize, name: &[u8]) -> bool
+// The name of row t is this one. `is_named` calls it at two places where row t is not wholly inside the table, so that it is not inlined and `is_named` saves no registers.
+fn is_named_anywhere(table: &[u8], begin: usize, t: usize, name: &[u8]) -> bool
     requires { ⌜ begin ≡ typesAt (now table) ⌝ }
     ensures { λ r. ⌜ r ≡ sameBytes (now (name .entry)) (nameOf (now (table .entry)) t) ⌝ }
 {
     let labels = crate::names_at(table, begin);
     let row = crate::type_row(table, begin, t);
+    let a = start_of(table, labels, row, t);
+    let e = a + length_of(table, a, row, t);
+    same(name, &table[a..e])
+}
+
+// The same. `&table[0..]` in place of `table`, and so `name`: where and how long are passed in registers.
+pub fn is_named(table: &[u8], begin: usize, t: usize, name: &[u8]) -> bool
+    requires { ⌜ begin ≡ typesAt (now table) ⌝ }
+    ensures { λ r. ⌜ r ≡ sameBytes (now (name .entry)) (nameOf (now (table .entry)) t) ⌝ }
+{
+    if 65536 <= t {
+        return is_named_anywhere(&table[0..], begin, t, &name[0..]);
+    }
+    if table.len() < crate::row_at(table, begin, t + 1) {
+        return is_named_anywhere(&table[0..], begin, t, &name[0..]);
+    }
+    let labels = crate::names_at(table, begin);
+    let row = crate::type_row_in(table, begin, t);
     let a = start_of(table, labels, row, t);
     let e = a + length_of(table, a, row, t);
     same(name, &table[a..e])

@@ -5,11 +5,11 @@
 --   character-.., -cut     the character in front, by its first byte and whether those after it lie within their ranges
 --   Fronts, fronts         what its bytes say of all the bytes: no text, or text if what follows is
 --   marks, unset           bytes whose highest bits are not set are below 128
---   ascii-eight, -block    eight and thirty-two of these bytes
+--   ascii-two, -four       eight to sixteen and sixteen to thirty-two of these bytes
 --   crossed-.., ascii-..   bytes that are passed, and the loops that pass many
 --   text-..                the loop over characters; text-low bytes between two places that are all below 128
 --   few-.., tested-..      up to eight of these bytes; the loops that test many
---   string-..              a string by its counted bytes, a short one by one long; dropped-.. its content left out
+--   string-..              a string by its counted bytes, a short one by one long; dropped-.. its content left out; short-.. one with a size of one byte
 use mathlib.Core.Path.{_≡_, refl, sym, ap, ap₂, _∙_}
 use mathlib.Core.Bool.{Bool, true, false, _&&_, true≢false}
 use mathlib.Core.Option.{Option, none, some}
@@ -253,6 +253,13 @@ unset-byte x h e =
 no-bits : (x y : ℕ) → bitOr x y ≡ 0 → (x ≡ 0) × (y ≡ 0)
 no-bits x y e = let f = or-add-and x y in let g = and-le-l x y in let h = and-le-r x y in (omega arith, omega arith)
 
+-- two parts of k bytes each, the first and the last of n, that leave none out
+covered : {s : List ℕ} {i k n : ℕ} → n ≤ k + k → Ascii s i k → Ascii s (i + n - k) k → Ascii s i n
+covered {i = i} {k = k} h p q = record {
+  there = omega (arith, p .there, q .there);
+  below = λ m a l. below-or m (i + k) (λ b. p .below m a b) (λ b. q .below m (omega arith) (omega arith));
+}
+
 -- two parts, the second right after the first
 joined : {s : List ℕ} {i j k n : ℕ} → j ≡ i + k → Ascii s i k → Ascii s j n → Ascii s i (k + n)
 joined {i = i} {k = k} e p q = record {
@@ -277,19 +284,23 @@ module _ (s : List ℕ) (bytes : (j : ℕ) → getD s j 0 < 256) where
   ascii-long : (i x : ℕ) → i ≤ length s → 8 ≤ length s - i → x ≡ at s 8 i → bitAnd x (marks 8) ≡ 0 → Ascii s i 8
   ascii-long i x h l e m = record { there = omega arith; below = unset 8 0 i (ap (λ (y : ℕ). bitAnd y (marks 8)) (sym e) ∙ m) }
 
-  pub ascii-eight : (i x : ℕ) → i ≤ length s → 8 ≤ length s - i → x ≡ at s 8 i → eqb (bitAnd x (marks 8)) 0 ≡ true → Ascii s i 8
-  ascii-eight i x h l e m = ascii-long i x h l e (eqb-true _ _ m)
+  -- two longs that cover eight to sixteen bytes, no mark in any of them
+  pub ascii-two : (i n a b : ℕ) → 8 ≤ n → n ≤ 16 → i + n ≤ length s → a ≡ at s 8 i → b ≡ at s 8 (i + n - 8)
+      → eqb (bitOr (bitAnd a (marks 8)) (bitAnd b (marks 8))) 0 ≡ true → Ascii s i n
+  ascii-two i n a b h l w ea eb m =
+      let both = no-bits _ _ (eqb-true _ _ m) in
+      covered (omega arith) (ascii-long i a (omega arith) (omega arith) ea (both .0)) (ascii-long (i + n - 8) b (omega arith) (omega arith) eb (both .1))
 
-  -- four longs, no mark in any of them
-  pub ascii-block : (i a b c d : ℕ) → i ≤ length s → 32 ≤ length s - i → a ≡ at s 8 i → b ≡ at s 8 (i + 8) → c ≡ at s 8 (i + 16) → d ≡ at s 8 (i + 24)
-      → eqb (bitOr (bitOr (bitAnd a (marks 8)) (bitAnd b (marks 8))) (bitOr (bitAnd c (marks 8)) (bitAnd d (marks 8)))) 0 ≡ true → Ascii s i 32
-  ascii-block i a b c d h l ea eb ec ed m =
+  -- four longs that cover sixteen to thirty-two
+  pub ascii-four : (i n a b c d : ℕ) → 16 ≤ n → n ≤ 32 → i + n ≤ length s → a ≡ at s 8 i → b ≡ at s 8 (i + 8) → c ≡ at s 8 (i + n - 16) → d ≡ at s 8 (i + n - 8)
+      → eqb (bitOr (bitOr (bitAnd a (marks 8)) (bitAnd b (marks 8))) (bitOr (bitAnd c (marks 8)) (bitAnd d (marks 8)))) 0 ≡ true → Ascii s i n
+  ascii-four i n a b c d h l w ea eb ec ed m =
       let both = no-bits _ _ (eqb-true _ _ m) in
       let first = no-bits _ _ (both .0) in
       let last = no-bits _ _ (both .1) in
-      joined refl (ascii-long i a h (omega arith) ea (first .0))
-      (joined {n = 16} (omega arith) (ascii-long (i + 8) b (omega arith) (omega arith) eb (first .1))
-      (joined (omega arith) (ascii-long (i + 16) c (omega arith) (omega arith) ec (last .0)) (ascii-long (i + 24) d (omega arith) (omega arith) ed (last .1))))
+      covered (omega arith)
+      (joined refl (ascii-long i a (omega arith) (omega arith) ea (first .0)) (ascii-long (i + 8) b (omega arith) (omega arith) eb (first .1)))
+      (joined (omega arith) (ascii-long (i + n - 16) c (omega arith) (omega arith) ec (last .0)) (ascii-long (i + n - 8) d (omega arith) (omega arith) ed (last .1)))
 
 -- ---- what is passed
 
@@ -471,13 +482,16 @@ module _ (s : List ℕ) (r : Sized) (e : r ≡ bytesOf (extent vsize s)) where
       unfolding judged Content bytesOf
       string-isnt u = sym (ap bytesOf (string-counted s) ∙ rw (counted-bytes .1, is-text, u))
 
+-- a size of one byte, and its bytes
+short-counted : (s : List ℕ) (n : ℕ) → n ≡ at s 1 0 → n < 255 → n < length s → Is n (1 + n) ≡ bytesOf (extent vsize s)
+short-counted s n e l h = counted-whole s (Is n 1) (size-short s n e (omega arith) l) n 1 refl (omega arith)
+
 -- a size below 8 and its bytes, all below 128
 pub string-few : (s : List ℕ) → 8 ≤ length s → (n : ℕ) → n ≡ at s 1 0 → n < 8 → (t : Bool) → (t ≡ true → Ascii s 0 (1 + n)) → t ≡ true → Is n (1 + n) ≡ bytesOf (string s)
 string-few s h n e l t p u =
     let k : ℕ = 1 + n in
-    let counted : Is n k ≡ bytesOf (extent vsize s) = counted-whole s (Is n 1) (size-short s n e (omega arith) (omega arith)) n 1 refl (omega arith) in
     let low : Ascii s (k - n) (k - (k - n)) = record { there = omega arith; below = λ j a b. p u .below j (omega arith) (omega arith) } in
-    string-is s (Is n k) counted n k refl t (u ∙ text-low s (k - n) k (omega arith) (omega arith) t (λ v. low) u) u
+    string-is s (Is n k) (short-counted s n e (omega arith) (omega arith)) n k refl t (u ∙ text-low s (k - n) k (omega arith) (omega arith) t (λ v. low) u) u
 
 -- its content left out
 module _ (s : List ℕ) (r : Sized) (e : r ≡ bytesOf (string s)) where
@@ -488,3 +502,17 @@ module _ (s : List ℕ) (r : Sized) (e : r ≡ bytesOf (string s)) where
   pub dropped-bad : (f p : ℕ) → r ≡ Isnt f p → Fault f p ≡ stepOf (text s)
   unfolding text mapc made stepOf
   dropped-bad f p q = rw (bytes-isnt (string s) f p (sym q ∙ e))
+
+-- a string with a size of one byte, by its bytes
+module _ (s : List ℕ) (n : ℕ) (e : n ≡ at s 1 0) (small : n < 256) (more : n ≡ 255 → ⊥) (h : n < length s) (t : Bool) where
+  pub short-is : t ≡ isUtf8 (take (1 + n - 1) (drop 1 s)) → t ≡ true → Took (1 + n) ≡ stepOf (text s)
+  short-is g u =
+      let k : ℕ = 1 + n in
+      let z : 1 ≡ k - n = omega arith in
+      let judged-there : t ≡ isUtf8 (take (k - (k - n)) (drop (k - n) s)) = g ∙ ap (λ (i : ℕ). isUtf8 (take (k - i) (drop i s))) z in
+      dropped-took s (Is n k) (string-is s (Is n k) (short-counted s n e (omega arith) h) n k refl t judged-there u) n k refl
+
+  pub short-low : (t ≡ true → Ascii s 1 n) → t ≡ true → Took (1 + n) ≡ stepOf (text s)
+  short-low p u =
+      let low : Ascii s 1 (1 + n - 1) = record { there = omega arith; below = λ j a b. p u .below j a (omega arith) } in
+      short-is (u ∙ text-low s 1 (1 + n) (omega arith) (omega arith) t (λ v. low) u) u

@@ -10,6 +10,7 @@ ghost use Rattle.encoding.specs.Utf8.{isUtf8};
 ghost use Rattle.encoding.specs.Number.{string};
 ghost use Rattle.encoding.specs.Proxy.{text};
 ghost use Rattle.wire.specs.Steps.{stepOf, bytesOf};
+ghost use Rattle.wire.specs.declared.Step.the-variants.{Took};
 ghost use Rattle.text.specs.Characters.{inAll, secondBounds, firstCharacter, Ascii, Crossed};
 
 // The highest bit of each of eight bytes.
@@ -87,6 +88,26 @@ fn character(s: &[u8], i: usize) -> usize
     0
 }
 
+// Eight to sixteen bytes at a place are below 128: the first eight and the last eight, which may overlap.
+fn are_two_ascii(s: &[u8], i: usize, n: usize) -> bool
+    requires { ⌜ (8 ≤ n) × (n ≤ 16) ⌝ }
+    requires { ⌜ i + n ≤ length (now s) ⌝ }
+    ensures { λ r. ⌜ (r ≡ true → Ascii (now (s .entry)) i n) ⌝ }
+{
+    ((wire::long_in(s, i) & MARKS) | (wire::long_in(s, i + n - 8) & MARKS)) == 0
+}
+
+// Sixteen to thirty-two bytes: the first sixteen and the last sixteen.
+fn are_four_ascii(s: &[u8], i: usize, n: usize) -> bool
+    requires { ⌜ (16 ≤ n) × (n ≤ 32) ⌝ }
+    requires { ⌜ i + n ≤ length (now s) ⌝ }
+    ensures { λ r. ⌜ (r ≡ true → Ascii (now (s .entry)) i n) ⌝ }
+{
+    let a = (wire::long_in(s, i) & MARKS) | (wire::long_in(s, i + 8) & MARKS);
+    let b = (wire::long_in(s, i + n - 16) & MARKS) | (wire::long_in(s, i + n - 8) & MARKS);
+    (a | b) == 0
+}
+
 // Eight bytes at a place are there and below 128.
 fn is_ascii(s: &[u8], i: usize) -> bool
     requires { ⌜ i ≤ length (now s) ⌝ }
@@ -95,7 +116,7 @@ fn is_ascii(s: &[u8], i: usize) -> bool
     if s.len() - i < 8 {
         return false;
     }
-    (wire::long_in(s, i) & MARKS) == 0
+    are_two_ascii(s, i, 8)
 }
 
 // Thirty-two bytes at a place are there and below 128.
@@ -106,9 +127,7 @@ fn is_ascii_block(s: &[u8], i: usize) -> bool
     if s.len() - i < 32 {
         return false;
     }
-    let a = (wire::long_in(s, i) & MARKS) | (wire::long_in(s, i + 8) & MARKS);
-    let b = (wire::long_in(s, i + 16) & MARKS) | (wire::long_in(s, i + 24) & MARKS);
-    (a | b) == 0
+    are_four_ascii(s, i, 32)
 }
 
 // A place up to which the bytes are below 128, from a place on: they are passed many at a time, the last eight once more if fewer are left.
@@ -168,24 +187,7 @@ fn are_few_ascii(s: &[u8], i: usize, n: usize) -> bool
     (wire::long_in(s, i) & (MARKS >> (64 - 8 * n))) == 0
 }
 
-// Eight bytes or more between two places are below 128: eight at a time, the last eight whatever was tested of them.
-fn are_ascii_eights(s: &[u8], from: usize, to: usize) -> bool
-    requires { ⌜ from + 8 ≤ to ⌝ }
-    requires { ⌜ to ≤ length (now s) ⌝ }
-    ensures { λ r. ⌜ (r ≡ true → Ascii (now (s .entry)) from (to - from)) ⌝ }
-{
-    let mut i = from;
-    while 8 < to - i {
-        if is_ascii(s, i) {
-            i += 8;
-        } else {
-            return false;
-        }
-    }
-    is_ascii(s, to - 8)
-}
-
-// The same of thirty-two bytes or more, thirty-two at a time.
+// Thirty-two bytes or more between two places are below 128: thirty-two at a time, the last thirty-two whatever was tested of them.
 fn are_ascii_blocks(s: &[u8], from: usize, to: usize) -> bool
     requires { ⌜ from + 32 ≤ to ⌝ }
     requires { ⌜ to ≤ length (now s) ⌝ }
@@ -193,13 +195,13 @@ fn are_ascii_blocks(s: &[u8], from: usize, to: usize) -> bool
 {
     let mut i = from;
     while 32 < to - i {
-        if is_ascii_block(s, i) {
+        if are_four_ascii(s, i, 32) {
             i += 32;
         } else {
             return false;
         }
     }
-    is_ascii_block(s, to - 32)
+    are_four_ascii(s, to - 32, 32)
 }
 
 // More than eight bytes between two places are below 128.
@@ -208,13 +210,26 @@ fn are_many_ascii(s: &[u8], from: usize, to: usize) -> bool
     requires { ⌜ to ≤ length (now s) ⌝ }
     ensures { λ r. ⌜ (r ≡ true → Ascii (now (s .entry)) from (to - from)) ⌝ }
 {
-    if to - from < 32 {
-        return are_ascii_eights(s, from, to);
+    let n = to - from;
+    if n <= 16 {
+        return are_two_ascii(s, from, n);
+    }
+    if n <= 32 {
+        return are_four_ascii(s, from, n);
     }
     are_ascii_blocks(s, from, to)
 }
 
-// The bytes between two places are text: all below 128, or character by character. `all_characters` is called from two places so that it is not laid into the short way.
+// The bytes between two places are text, character by character.
+fn are_characters(s: &[u8], from: usize, to: usize) -> bool
+    requires { ⌜ from ≤ to ⌝ }
+    requires { ⌜ to ≤ length (now s) ⌝ }
+    ensures { λ r. ⌜ r ≡ isUtf8 (take (to - from) (drop from (now (s .entry)))) ⌝ }
+{
+    all_characters(&s[from..to])
+}
+
+// The bytes between two places are text: all below 128, or character by character. `are_characters` is called from two places so that it is not inlined into the short way.
 pub fn is_utf8(s: &[u8], from: usize, to: usize) -> bool
     requires { ⌜ from ≤ to ⌝ }
     requires { ⌜ to ≤ length (now s) ⌝ }
@@ -225,12 +240,12 @@ pub fn is_utf8(s: &[u8], from: usize, to: usize) -> bool
         if are_few_ascii(s, from, n) {
             return true;
         }
-        return all_characters(&s[from..to]);
+        return are_characters(s, from, to);
     }
     if are_many_ascii(s, from, to) {
         return true;
     }
-    all_characters(&s[from..to])
+    are_characters(s, from, to)
 }
 
 // A string: 4 or 7 at its size, then 24 there if its bytes are no text. Every string is read here: of values, type IDs, identities, facets, adapters and optionals.
@@ -268,4 +283,44 @@ pub fn read_text(s: &[u8]) -> Step
         Sized::Is(n, k) => Step::Took(k),
         Sized::Isnt(e, p) => Step::Fault(e, p),
     }
+}
+
+// Up to thirty-two bytes at a place are below 128; no where there are more, or fewer than eight and the slice ends within eight.
+fn are_some_ascii(s: &[u8], i: usize, n: usize) -> bool
+    requires { ⌜ i + n ≤ length (now s) ⌝ }
+    ensures { λ r. ⌜ (r ≡ true → Ascii (now (s .entry)) i n) ⌝ }
+{
+    if n < 8 {
+        return are_few_ascii(s, i, n);
+    }
+    if n <= 16 {
+        return are_two_ascii(s, i, n);
+    }
+    if n <= 32 {
+        return are_four_ascii(s, i, n);
+    }
+    false
+}
+
+// How many bytes a string takes, if its size is one byte; 0 if it has a longer size or is refused. A number, so that the answer stays in a register.
+pub fn short_text(s: &[u8]) -> usize
+    ensures { λ r. ⌜ (0 < r → Took r ≡ stepOf (text (now (s .entry)))) ⌝ }
+{
+    if s.len() < 1 {
+        return 0;
+    }
+    let n = wire::byte_at(s, 0);
+    if n == 255 {
+        return 0;
+    }
+    if s.len() <= n {
+        return 0;
+    }
+    if are_some_ascii(s, 1, n) {
+        return 1 + n;
+    }
+    if is_utf8(s, 1, 1 + n) {
+        return 1 + n;
+    }
+    0
 }

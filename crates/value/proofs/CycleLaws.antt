@@ -13,7 +13,7 @@
 --   entry-begin, -next, -fault, -done                        the loop over pairs
 --   key-end, pair-none, -wide, -took, -bad                   an entry: its key, then its value
 --   value-took-fits .. pairs-bad-fits                        what they take, and where they refuse, does not wrap
---   value-row                                                a row of the table
+--   value-row, row-again                                     a row of the table
 --   exact-took, -bad                                         exactly one value
 use mathlib.Core.Path.{_≡_, refl, sym, ap, _∙_}
 use mathlib.Core.Bool.{Bool, true, false, not, false≢true}
@@ -85,7 +85,7 @@ unfolding value asOld
 seq-as true X = refl
 seq-as false X = refl
 
-dict-as : (old : Bool) (K W : Ty) → value (typeAs old (dict K W)) ≡ (size >>= λ n. times n (entry (typeAs old K) (typeAs old W)))
+pub dict-as : (old : Bool) (K W : Ty) → value (typeAs old (dict K W)) ≡ (size >>= λ n. times n (entry (typeAs old K) (typeAs old W)))
 unfolding value asOld entry
 dict-as true K W = refl
 dict-as false K W = refl
@@ -262,7 +262,7 @@ module _ (old : Bool) (T shapes : List ℕ) (f : shapes ≡ shapesOf T) where
 
   -- by what the shapes say of a part
   module _ (t e : ℕ) where
-    below-takes : (w : ℕ) → w ≡ widthBelow shapes t e → 0 < w → (s : List ℕ) → w ≤ length s → value (typeAs old (partTy T t e)) s ≡ ok tt w
+    pub below-takes : (w : ℕ) → w ≡ widthBelow shapes t e → 0 < w → (s : List ℕ) → w ≤ length s → value (typeAs old (partTy T t e)) s ≡ ok tt w
     below-takes w g h s k = go (leb t e) refl g
       where
         go : (b : Bool) → leb t e ≡ b → w ≡ pick b 0 (widthIn shapes e) → value (typeAs old (partTy T t e)) s ≡ ok tt w
@@ -334,7 +334,7 @@ times-takes p w takes (suc n) xs h =
     ∙ ap (ok tt) (omega arith)
 
 -- bytes that are there after n others
-after-those : (s : List ℕ) (n w : ℕ) → w ≤ length s - n → w ≤ length (take (length s - n) (drop n s))
+pub after-those : (s : List ℕ) (n w : ℕ) → w ≤ length s - n → w ≤ length (take (length s - n) (drop n s))
 after-those s n w h = rw rest-is (omega (arith, length-drop n s))
 
 module _ (old : Bool) (s : List ℕ) (r : Sized) (e : r ≡ sizedOf (size s)) where
@@ -459,6 +459,10 @@ pairs-bad-fits i K W = bad-fits (times i (entry K W)) (held-times i (entry K W) 
 pub value-row : (old : Bool) (T : List ℕ) (n t : ℕ) (s : List ℕ) (r : Step) → n ≡ typeRows T → r ≡ stepOf (value (typeAs old (partTy T n t)) s) → r ≡ stepOf (value (typeAs old (tyOf T t)) s)
 unfolding tyOf trees partTy
 value-row old T n t s r e d = rw (← e) d
+
+-- an answer that is rebuilt
+pub row-again : (old : Bool) (T : List ℕ) (n t : ℕ) (s : List ℕ) (r v : Step) → n ≡ typeRows T → v ≡ stepOf (value (typeAs old (partTy T n t)) s) → r ≡ v → r ≡ stepOf (value (typeAs old (tyOf T t)) s)
+row-again old T n t s r v e d q = q ∙ value-row old T n t s v e d
 
 module _ (X : Ty) (s : List ℕ) (r : Step) (e : r ≡ stepOf (value X s)) where
   pub exact-took : (n : ℕ) → r ≡ Took n → eqb n (length s) ≡ exact X s

@@ -3,3 +3,4 @@ pub mod PlainLaws
 pub mod BoolLaws
 pub mod Room
 pub mod CycleLaws
+pub mod QuickLaws

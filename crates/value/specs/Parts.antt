@@ -4,14 +4,16 @@
 --   typesAs old ts   the types of a struct's members as an encoding has them
 --   enumNumber old a   the number of an enumerator, before it is judged
 --   entry k v      one entry of a dictionary
+--   textEntry w    one of a string and w bytes of any content; textDict w a dictionary of these
 --   AreBools s i k   the k bytes at i are there, each 0 or 1
 use mathlib.Core.Bool.{Bool, true, false}
 use mathlib.Core.List.{List}
 use Prim.Native.Nat.{ℕ, _+_, _≤_, _<_}
 use lib.ListN.{length, getD}
 use lib.Dec.{leb}
-use Rattle.encoding.specs.Result.{Parser, pick, _>>=_}
+use Rattle.encoding.specs.Result.{Parser, pick, _>>=_, skip, times}
 use Rattle.encoding.specs.Number.{size, number}
+use Rattle.encoding.specs.Proxy.{text}
 use Rattle.encoding.specs.Types.{Allowed, most, Ty, Tys}
 use Rattle.encoding.specs.Value.{enumWidth, value}
 use Rattle.encoding.specs.Old.{asOlds}
@@ -34,6 +36,13 @@ enumNumber false a = size
 -- a key, then a value
 unfoldable pub entry : Ty → Ty → Parser (Unit {0})
 entry k v = value k >>= λ _. value v
+
+-- a string, then w bytes of any content
+unfoldable pub textEntry : ℕ → Parser (Unit {0})
+textEntry w = text >>= λ _. skip w
+
+unfoldable pub textDict : ℕ → Parser (Unit {0})
+textDict w = size >>= λ n. times n (textEntry w)
 
 -- the k bytes at i are bools
 pub record AreBools (s : List ℕ) (i k : ℕ) : Type 0 where

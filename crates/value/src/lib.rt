@@ -1,10 +1,11 @@
-// What a value of a table's type takes, on any bytes and any table. plain.rt has the values without parts.
+// What a value of a table's type takes, on any bytes and any table. plain.rt has the values without parts, quick.rt those that are read without the cycle.
 //
 // The readers of values, structs, sequences and dictionaries are one cycle of calls. Each has a bound: a type is one of the rows
 // below it, any other row is broken. The bound falls with each part. `part` is small enough to be inlined into the loops that call it;
 // `value`, called from several places, is not.
 // Each is given `begin`, where the type rows begin, and `old`: whether the value is in encoding 1.0, which has other enums and proxies.
 mod plain;
+mod quick;
 
 ghost use mathlib.Core.Path.{_≡_};
 ghost use Rattle.encoding.specs.Result.{times};
@@ -328,7 +329,7 @@ fn pair(
     }
 }
 
-// A value of row t of the table; a row that has no tree is refused by 4 here.
+// A value of row t of the table; a row that has no tree is refused by 4 here. The row's shape says what is tried first: no sequence of values of a width has 10.
 pub fn read_value(
     table: &[u8],
     begin: usize,
@@ -341,14 +342,23 @@ pub fn read_value(
     requires { ⌜ now shapes ≡ shapesOf (now table) ⌝ }
     ensures { λ r. ⌜ r ≡ stepOf (value (typeAs old (tyOf (now (table .entry)) t)) (now (s .entry))) ⌝ }
 {
-    let step = value(table, begin, shapes, table::rows(table), t, s, old);
-    match step {
-        Step::Took(n) => Step::Took(n),
-        Step::Fault(f, p) => Step::Fault(f, p),
+    let rows = table::rows(table);
+    if shapes::shape(shapes, t) == 10 {
+        let m = quick::dictionary(table, begin, shapes, rows, t, s);
+        if 0 < m {
+            return Step::Took(m);
+        }
+    } else {
+        let n = quick::sequence(table, begin, shapes, rows, t, s);
+        if 0 < n {
+            return Step::Took(n);
+        }
     }
+    same(value(table, begin, shapes, rows, t, s, old))
 }
 
 // The same; one that may be any bytes, a string, a bool and an enum of 1.1 without a list are taken without a call.
+// The last lines are those of `read_value`: a call of it would pass the answer through memory.
 pub fn read_member(
     table: &[u8],
     begin: usize,
@@ -379,7 +389,19 @@ pub fn read_member(
             return plain::upto(table::greatest(row), s, old);
         }
     }
-    read_value(table, begin, shapes, t, s, old)
+    let rows = table::rows(table);
+    if shapes::shape(shapes, t) == 10 {
+        let m = quick::dictionary(table, begin, shapes, rows, t, s);
+        if 0 < m {
+            return Step::Took(m);
+        }
+    } else {
+        let n = quick::sequence(table, begin, shapes, rows, t, s);
+        if 0 < n {
+            return Step::Took(n);
+        }
+    }
+    same(value(table, begin, shapes, rows, t, s, old))
 }
 
 // The bytes are exactly one value of row t.

@@ -17,6 +17,6 @@ row-shape-spec =
     (λ c h. alone-passed _ _ _ _ _ _ (c .alone-row .ensures) h)  -- returns-3
     (λ c κs. search needs)  -- owner-rules-requires
     (λ c h. absurd (omega arith))  -- returns-4
-    (λ c κs. (search needs, (search needs, (search needs, (search needs, (c .before .before .before .before .before .before .before .before .before .pre .1 .1 .1 .1 .1 .1 .1 .1, c .before .owner-rules .ensures .1 (not-false _ (c .if4 .left))))))))  -- members-requires
+    (λ c κs. (search needs, (search needs, (search needs, (search needs, (search needs, (c .before .before .before .before .before .before .before .before .before .pre .1 .1 .1 .1 .1 .1 .1 .1, c .before .owner-rules .ensures .1 (not-false _ (c .if4 .left)))))))))  -- members-requires
     (λ c h. absurd (omega arith))  -- returns-5
     (λ c h. owner-passed _ _ _ _ _ (c .before .before .before .before .before .before .before .before .before .before .before .pre .1 .1 .1 .1 .0) (c .before .before .before .before .before .before .before .before .before .before .before .pre .1 .1 .1 .1 .1 .1 .1 .1) _ (c .before .before .before .owner-rules .ensures .0) (c .before .before .before .owner-rules .ensures .1) (c .before .before .if4 .left) _ (c .before .members .ensures) (c .if5 .left)))  -- returns-6

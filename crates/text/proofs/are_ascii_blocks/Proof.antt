@@ -23,11 +23,11 @@ are-ascii-blocks-spec =
     μ-loop
     (λ c. tested-none _ _ _ (omega arith) (omega arith))  -- loop-holds
     (λ c. search needs)  -- sub-loop
-    (λ c κs. search needs)  -- is-ascii-block-requires
+    (λ c κs. search needs)  -- are-four-ascii-requires
     (λ c. search needs)  -- add-i
     (λ c. search needs)  -- loop-less
     (λ c. search tested-turn)  -- loop-again
     (λ c e. absurd (true≢false (sym e)))  -- returns
-    (λ c. search needs)  -- sub-is-ascii-block
-    (λ c κs. search needs)  -- is-ascii-block-requires-2
+    (λ c. search needs)  -- sub-are-four-ascii
+    (λ c κs. search needs)  -- are-four-ascii-requires-2
     (λ c. search tested-last))  -- returns-2

@@ -1,9 +1,7 @@
--- A long without the highest bit of any byte.
+-- The eight bytes, if they are there.
 use mathlib.Core.Path.{sym}
 use mathlib.Core.Bool.{true≢false}
-use native.Mathlib.Omega.{arith}
 use borrow.Author.Needs.{needs}
-use Rattle.text.proofs.Laws.{ascii-eight}
 use Rattle.text.proofs.is_ascii.Statement.{statement}
 use Rattle.text.proofs.is_ascii.Tie as tie
 
@@ -13,5 +11,5 @@ is-ascii-spec =
     (tie.spec
     (λ c. search needs)  -- sub-if1
     (λ c e. absurd (true≢false (sym e)))  -- returns
-    (λ c κs. search needs)  -- long-in-requires
-    (λ c. ascii-eight _ (λ j. omega (arith, c .before .before .shared-slice-known .given j)) _ _ (omega arith) (omega arith) (c .long-in .ensures)))  -- returns-2
+    (λ c κs. search needs)  -- are-two-ascii-requires
+    (λ c. search needs))  -- returns-2

@@ -1,9 +1,7 @@
--- Four longs without the highest bit of any byte.
+-- The thirty-two bytes, if they are there.
 use mathlib.Core.Path.{sym}
 use mathlib.Core.Bool.{true≢false}
-use native.Mathlib.Omega.{arith}
 use borrow.Author.Needs.{needs}
-use Rattle.text.proofs.Laws.{ascii-block}
 use Rattle.text.proofs.is_ascii_block.Statement.{statement}
 use Rattle.text.proofs.is_ascii_block.Tie as tie
 
@@ -13,11 +11,5 @@ is-ascii-block-spec =
     (tie.spec
     (λ c. search needs)  -- sub-if1
     (λ c e. absurd (true≢false (sym e)))  -- returns
-    (λ c κs. search needs)  -- long-in-requires
-    (λ c. search needs)  -- add-long-in
-    (λ c κs. search needs)  -- long-in-requires-2
-    (λ c. search needs)  -- add-long-in-2
-    (λ c κs. search needs)  -- long-in-requires-3
-    (λ c. search needs)  -- add-long-in-3
-    (λ c κs. search needs)  -- long-in-requires-4
-    (λ c. ascii-block _ (λ j. omega (arith, c .before .before .before .before .before .shared-slice-known .given j)) _ _ _ _ _ (omega arith) (omega arith) (c .before .before .before .long-in .ensures) (c .before .before .long-in2 .ensures) (c .before .long-in3 .ensures) (c .long-in4 .ensures)))  -- returns-2
+    (λ c κs. search needs)  -- are-four-ascii-requires
+    (λ c. search needs))  -- returns-2

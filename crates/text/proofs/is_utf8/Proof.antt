@@ -11,15 +11,9 @@ is-utf8-spec =
     (λ c. search needs)  -- sub-n
     (λ c κs. search needs)  -- are-few-ascii-requires
     (λ c. search text-low)  -- returns
-    (λ c. search needs)  -- sub-all-characters
-    (λ c. search needs)  -- part-all-characters-start
-    (λ c. search needs)  -- part-all-characters-end
-    (λ c κs. search needs)  -- all-characters-requires
+    (λ c κs. search needs)  -- are-characters-requires
     (λ c. search needs)  -- returns-2
     (λ c κs. search needs)  -- are-many-ascii-requires
     (λ c. search text-low)  -- returns-3
-    (λ c. search needs)  -- sub-all-characters-2
-    (λ c. search needs)  -- part-all-characters-start-2
-    (λ c. search needs)  -- part-all-characters-end-2
-    (λ c κs. search needs)  -- all-characters-requires-2
+    (λ c κs. search needs)  -- are-characters-requires-2
     (λ c. search needs))  -- returns-4

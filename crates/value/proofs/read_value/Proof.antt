@@ -1,6 +1,7 @@
--- A row of the table: a value of that row, among the rows that have a tree.
+-- A row of the table: what is read quickly, or a value of that row, among the rows that have a tree.
 use borrow.Author.Needs.{needs}
-use Rattle.value.proofs.CycleLaws.{again-took, again-bad, value-row}
+use Rattle.value.proofs.CycleLaws.{row-again}
+use Rattle.value.proofs.QuickLaws.{quick-took}
 use Rattle.value.proofs.read_value.Statement.{statement}
 use Rattle.value.proofs.read_value.Tie as tie
 
@@ -9,8 +10,11 @@ read-value-spec =
     tie.close
     (tie.spec
     (λ c κs. search needs)  -- rows-requires
+    (λ c κs. search needs)  -- shape-requires
+    (λ c κs. search needs)  -- dictionary-requires
+    (λ c. search quick-took)  -- returns
+    (λ c κs. search needs)  -- sequence-requires
+    (λ c. search quick-took)  -- returns-2
     (λ c κs. search needs)  -- value-requires
-    (λ c. search needs)  -- enum-known-step
-    (λ c. search needs)  -- enum-known-step-2
-    (λ c. search (again-took, value-row))  -- returns
-    (λ c. search (again-bad, value-row)))  -- returns-2
+    (λ c κs. search needs)  -- same-requires
+    (λ c. search row-again))  -- returns-3
