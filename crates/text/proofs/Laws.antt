@@ -250,7 +250,7 @@ unset-byte x h e =
     let f : bitAnd x 128 ≡ bitAnd 1 1 * 2 ^ 7 + bitAnd (x - 128) 0 = ap (λ (y : ℕ). bitAnd y 128) p ∙ and-block 7 1 1 (x - 128) 0 (omega arith) (omega arith) in
     absurd (omega (arith, and-self 1))
 
-no-bits : (x y : ℕ) → bitOr x y ≡ 0 → (x ≡ 0) × (y ≡ 0)
+pub no-bits : (x y : ℕ) → bitOr x y ≡ 0 → (x ≡ 0) × (y ≡ 0)
 no-bits x y e = let f = or-add-and x y in let g = and-le-l x y in let h = and-le-r x y in (omega arith, omega arith)
 
 -- two parts of k bytes each, the first and the last of n, that leave none out

@@ -1,8 +1,8 @@
--- Bools judged eight at a time. Assumes nothing.
+-- Bools judged thirty-two and eight at a time. Assumes nothing.
 --
 --   aboves                    the bits above the lowest of each of k bytes; lows: none of them is set, so each byte is 0 or 1
---   bools-eight               eight bytes by one long
---   bools-none, bools-turn    the loop over eights
+--   bools-eight, bools-block  eight bytes by one long, thirty-two by four
+--   bools-none, bools-turn    the loops over blocks and eights
 --   bools-begin               bools that were judged together are read, and the others are left
 use mathlib.Core.Path.{_≡_, refl, sym, ap, ap₂, _∙_}
 use mathlib.Core.Bool.{Bool, true}
@@ -12,7 +12,7 @@ use native.Mathlib.Nat.{add-zero, zero-add}
 use native.Mathlib.Omega.{arith}
 use lib.ListN.{length, take, drop, getD, length-drop}
 use lib.Dec.{eqb}
-use lib.Bits.{bitAnd, and-block, and-high}
+use lib.Bits.{bitAnd, bitOr, and-block, and-high}
 use borrow.Author.Tests.{eqb-true}
 use Rattle.encoding.specs.Result.{times}
 use Rattle.encoding.specs.Number.{bool}
@@ -24,6 +24,7 @@ use Rattle.wire.specs.declared.Step.{Step}
 use Rattle.wire.specs.declared.Step.the-variants.{Took}
 use Rattle.wire.specs.Steps.{stepOf}
 use Rattle.wire.specs.StepLaws.{rest-is, Left, turns-begin, turns-next}
+use Rattle.text.proofs.Laws.{no-bits}
 use Rattle.value.specs.Parts.{AreBools}
 use Rattle.value.proofs.PlainLaws.{bool-whole}
 
@@ -56,14 +57,29 @@ module _ (s : List ℕ) (bytes : (j : ℕ) → getD s j 0 < 256) where
   pub bools-eight : (i x : ℕ) → i + 8 ≤ length s → x ≡ at s 8 i → eqb (bitAnd x (aboves 8)) 0 ≡ true → AreBools s i 8
   bools-eight i x h e m = record { there = h; below = lows 8 i (ap (λ (y : ℕ). bitAnd y (aboves 8)) (sym e) ∙ eqb-true _ _ m) }
 
--- ---- the loop over eights
+  -- four longs, joined
+  pub bools-block : (i a b c d : ℕ) → i + 32 ≤ length s → a ≡ at s 8 i → b ≡ at s 8 (i + 8) → c ≡ at s 8 (i + 16) → d ≡ at s 8 (i + 24)
+      → eqb (bitOr (bitOr (bitAnd a (aboves 8)) (bitAnd b (aboves 8))) (bitOr (bitAnd c (aboves 8)) (bitAnd d (aboves 8)))) 0 ≡ true → AreBools s i 32
+  bools-block i a b c d h ea eb ec ed m =
+      let P = no-bits _ _ (eqb-true _ _ m) in
+      let A = no-bits _ _ (P .0) in
+      let C = no-bits _ _ (P .1) in
+      let low : (p x : ℕ) → x ≡ at s 8 p → bitAnd x (aboves 8) ≡ 0 → (j : ℕ) → p ≤ j → j < p + 8 → getD s j 0 < 2 = λ p x e z. lows 8 p (ap (λ (y : ℕ). bitAnd y (aboves 8)) (sym e) ∙ z) in
+      record {
+        there = h;
+        below = λ j g l. below-or j (i + 16)
+            (λ u. below-or j (i + 8) (λ v. low i a ea (A .0) j g v) (λ v. low (i + 8) b eb (A .1) j v (omega arith)))
+            (λ u. below-or j (i + 24) (λ v. low (i + 16) c ec (C .0) j u (omega arith)) (λ v. low (i + 24) d ed (C .1) j v (omega arith)));
+      }
+
+-- ---- the loops over blocks and eights
 
 module _ (s : List ℕ) where
   pub bools-none : AreBools s 0 0
   bools-none = record { there = omega arith; below = λ j h l. absurd (omega arith) }
 
-  pub bools-turn : (i : ℕ) → AreBools s 0 i → (r : Bool) → (r ≡ true → AreBools s i 8) → r ≡ true → AreBools s 0 (i + 8)
-  bools-turn i p r q t =
+  pub bools-turn : (i k : ℕ) → AreBools s 0 i → (r : Bool) → (r ≡ true → AreBools s i k) → r ≡ true → AreBools s 0 (i + k)
+  bools-turn i k p r q t =
       record { there = omega (arith, q t .there); below = λ j h l. below-or j i (λ b. p .below j h (omega arith)) (λ b. q t .below j b (omega arith)) }
 
   -- ---- those left

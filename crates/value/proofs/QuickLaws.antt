@@ -3,7 +3,6 @@
 --   text-fits, pair-there             a string with a size of one byte, then bytes of any content
 --   pairs-begin, -fits, -next, -done  the loop over such pairs
 --   dict-there                        a size and such pairs
---   items-room, sized-items-room      what as many items take does not wrap
 --   row-there, row-inside             a row that is there
 --   wide-seq, dict-wide               a sequence and a dictionary by their row
 --   quick-took                        what a quick reader took
@@ -11,7 +10,6 @@ use mathlib.Core.Path.{_≡_, refl, sym, ap, _∙_}
 use mathlib.Core.Bool.{Bool, true, false, not}
 use mathlib.Core.List.{List}
 use Prim.Native.Nat.{ℕ, zero, suc, _+_, _-_, _*_, _^_, _≤_, _<_}
-use native.Mathlib.Nat.{mul-le-mul-right}
 use native.Mathlib.Omega.{arith}
 use lib.ListN.{length, take, drop}
 use mir.Syntax.{w64}
@@ -29,8 +27,9 @@ use Rattle.encoding.specs.ValueLaws.{held-text}
 use Rattle.encoding.specs.Old.{typeAs}
 use Rattle.wire.specs.declared.Step.{Step}
 use Rattle.wire.specs.declared.Step.the-variants.{Took}
+use Rattle.wire.specs.declared.Sized.{Sized}
 use Rattle.wire.specs.declared.Sized.the-variants.{Is}
-use Rattle.wire.specs.Steps.{stepOf}
+use Rattle.wire.specs.Steps.{stepOf, sizedOf}
 use Rattle.wire.specs.StepLaws.{step-took, took-held, then-took, with-took, Left, turns-begin, turns-next, turns-done}
 use Rattle.wire.proofs.Laws.{size-short}
 use Rattle.wire.proofs.Sums.{took-fits}
@@ -119,18 +118,6 @@ module _ (old : Bool) (T shapes : List ℕ) (f : shapes ≡ shapesOf T) (t k v :
 
 -- ---- a value by its row
 
-module _ (n : ℕ) (small : n < 256) (w : ℕ) (narrow : w < 256) where
-  items-below : n * w < 65536
-  items-below =
-      let most : n * w ≤ 255 * w = mul-le-mul-right w (omega arith) in
-      omega arith
-
-  pub items-room : Fits w64 (n * w)
-  items-room = record { fits = omega (arith, items-below) }
-
-  pub sized-items-room : Fits w64 (1 + n * w)
-  sized-items-room = record { fits = omega (arith, items-below) }
-
 -- row t is there
 abbrev pub There : List ℕ → ℕ → ℕ → Type 0
 There T rows t = (t < rows) × (rowAt T (t + 1) ≤ length T)
@@ -145,13 +132,11 @@ module _ (T shapes : List ℕ) (f : shapes ≡ shapesOf T) (rows t : ℕ) (er : 
   pub row-inside : rowAt T (t + 1) ≤ length T
   row-inside = inside-table .1
 
-  module _ (row : TypeRow) (i : IsTypeRow T t row) (s : List ℕ) (n : ℕ) (en : n ≡ at s 1 0) (small : n < 256) (more : n ≡ 255 → ⊥) where
-    pub wide-seq : row .kind ≡ 10 → (w : ℕ) → w ≡ widthBelow shapes t (row .a) → (w ≡ 0 → ⊥) → n * w < length s
-        → (old : Bool) → Took (1 + n * w) ≡ stepOf (value (typeAs old (tyOf T t)) s)
-    wide-seq k w ew h m old =
-        value-row old T rows t s (Took (1 + n * w)) er
-        (as-seq old T rows t s (inside-table .0) (row .kind) (i .kind-is) (Took (1 + n * w)) k
-        (seq-wide old s (Is n 1) (size-short s n en (omega arith) (omega (arith, more))) n 1 refl T shapes f t (row .a) (i .a-is) w ew (omega (arith, h)) (omega arith)))
+  pub wide-seq : (row : TypeRow) → IsTypeRow T t row → row .kind ≡ 10 → (w : ℕ) → w ≡ widthBelow shapes t (row .a) → (w ≡ 0 → ⊥)
+      → (s : List ℕ) (z : Sized) → z ≡ sizedOf (size s) → (n k : ℕ) → z ≡ Is n k → n * w ≤ length s - k → (old : Bool) → Took (k + n * w) ≡ stepOf (value (typeAs old (tyOf T t)) s)
+  wide-seq row i e w ew h s z ez n k q l old =
+      value-row old T rows t s (Took (k + n * w)) er
+      (as-seq old T rows t s (inside-table .0) (row .kind) (i .kind-is) (Took (k + n * w)) e (seq-wide old s z ez n k q T shapes f t (row .a) (i .a-is) w ew (omega (arith, h)) l))
 
   pub dict-wide : (row : TypeRow) → IsTypeRow T t row → row .kind ≡ 11 → (x : Bool) → x ≡ isTextBelow shapes t (row .a) → not x ≡ false
       → (w : ℕ) → w ≡ widthBelow shapes t (row .b) → (w ≡ 0 → ⊥) → (s : List ℕ) (r : ℕ) → (0 < r → Took r ≡ stepOf (textDict w s)) → 0 < r

@@ -49,12 +49,38 @@ fn eight_bools(s: &[u8], i: usize) -> bool
     (wire::long_in(s, i) & ABOVE_ONE) == 0
 }
 
+// So are the thirty-two.
+fn block_of_bools(s: &[u8], i: usize) -> bool
+    requires { ⌜ i + 32 ≤ length (now s) ⌝ }
+    ensures { λ r. ⌜ (r ≡ true → AreBools (now (s .entry)) i 32) ⌝ }
+{
+    let a = (wire::long_in(s, i) & ABOVE_ONE) | (wire::long_in(s, i + 8) & ABOVE_ONE);
+    let b = (wire::long_in(s, i + 16) & ABOVE_ONE) | (wire::long_in(s, i + 24) & ABOVE_ONE);
+    (a | b) == 0
+}
+
+// So many of the first `most` bytes, which are there, are bools: whole blocks of thirty-two, up to one that holds a wrong byte.
+fn bool_blocks(s: &[u8], most: usize) -> usize
+    requires { ⌜ most ≤ length (now s) ⌝ }
+    ensures { λ r. ⌜ (r ≤ most) × AreBools (now (s .entry)) 0 r ⌝ }
+{
+    let mut at: usize = 0;
+    while 32 <= most - at {
+        if block_of_bools(s, at) {
+            at += 32;
+        } else {
+            return at;
+        }
+    }
+    at
+}
+
 // So many of the first n bytes are there and bools: all but the last few, or those before the eight that hold a wrong one.
 fn bool_eights(s: &[u8], n: usize) -> usize
     ensures { λ r. ⌜ (r ≤ n) × AreBools (now (s .entry)) 0 r ⌝ }
 {
     let most = wire::least(n, s.len());
-    let mut at: usize = 0;
+    let mut at = bool_blocks(s, most);
     while 8 <= most - at {
         if eight_bools(s, at) {
             at += 8;
@@ -65,7 +91,7 @@ fn bool_eights(s: &[u8], n: usize) -> usize
     at
 }
 
-// n bools: eight at a time, and one by one those that the eights leave, among them the first that is wrong.
+// n bools: thirty-two and eight at a time, and one by one those that the eights leave, among them the first that is wrong.
 // Wrong and ruled out: a byte of 2 among eight that is taken; 8 at the first byte of the eight.
 pub fn bools(s: &[u8], n: usize) -> Step
     ensures { λ r. ⌜ r ≡ stepOf (times n bool (now (s .entry))) ⌝ }

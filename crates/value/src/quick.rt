@@ -1,4 +1,4 @@
-// Values that are read without a call of the cycle: a sequence of values that may be any bytes, and a dictionary of strings and such values, each with a size of one byte.
+// Values that are read without a call of the cycle: a sequence of values that may be any bytes, and a dictionary of strings and such values, strings and dictionary with sizes of one byte.
 // Each function answers a number, so that the answer stays in a register; it answers 0 if the value is another one or refused, and the value is then read anew.
 ghost use mathlib.Core.Path.{_≡_};
 ghost use mathlib.Core.Bool.{Bool, true};
@@ -12,6 +12,7 @@ ghost use Rattle.wire.specs.Steps.{stepOf};
 ghost use Rattle.wire.specs.declared.Step.the-variants.{Took};
 ghost use Rattle.shapes.specs.Shapes.{shapesOf};
 ghost use Rattle.value.specs.Parts.{textEntry, textDict};
+use wire::Sized;
 
 // How many bytes a string and w bytes of any content take.
 fn text_pair(s: &[u8], w: usize) -> usize
@@ -92,17 +93,19 @@ pub fn sequence(
         return 0;
     }
     let w = shapes::width_below(shapes, t, row.a);
-    let n = wire::byte_at(s, 0);
     if w == 0 {
         return 0;
     }
-    if n == 255 {
-        return 0;
+    let z = wire::read_size(s);
+    match z {
+        Sized::Is(n, k) => {
+            if n * w <= s.len() - k {
+                return k + n * w;
+            }
+            0
+        }
+        Sized::Isnt(f, p) => 0,
     }
-    if s.len() <= n * w {
-        return 0;
-    }
-    1 + n * w
 }
 
 // How many bytes a value of dictionary row t takes. It is called from two places so that it is not inlined.

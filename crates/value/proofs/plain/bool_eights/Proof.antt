@@ -2,7 +2,7 @@
 use Prim.Native.Nat.{_-_, _≤_}
 use borrow.Author.Needs.{needs}
 use Rattle.value.specs.Parts.{AreBools}
-use Rattle.value.proofs.BoolLaws.{bools-none, bools-turn}
+use Rattle.value.proofs.BoolLaws.{bools-turn}
 use Rattle.value.proofs.plain.bool_eights.Statement.{statement}
 use Rattle.value.proofs.plain.bool_eights.Tie as tie
 
@@ -19,7 +19,8 @@ bool-eights-spec =
     Inv-loop
     μ-loop
     (λ c κs. search needs)  -- least-requires
-    (λ c. search (needs, bools-none))  -- loop-holds
+    (λ c κs. search needs)  -- bool-blocks-requires
+    (λ c. search needs)  -- loop-holds
     (λ c. search needs)  -- sub-loop
     (λ c κs. search needs)  -- eight-bools-requires
     (λ c. search needs)  -- add-at
