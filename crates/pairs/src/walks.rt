@@ -56,16 +56,21 @@ fn entered(meant: Meant, n: usize, s: &[u8]) -> Opening
     requires { ⌜ n ≤ length (now s) ⌝ }
     ensures { λ r. ⌜ r ≡ enterAs n meant (declared 4 4 (drop n (now (s .entry)))) ⌝ }
 {
-    let step = wire::read_declared(&s[n..], 4, 4);
     match meant {
-        Meant::Unknown => match step {
-            Step::Took(k) => Opening::Skip(n + k),
-            Step::Fault(c, p) => Opening::Bad(c, n + p),
-        },
-        Meant::Row(t) => match step {
-            Step::Took(k) => Opening::Data(t, n + 4, n + k),
-            Step::Fault(c, p) => Opening::Bad(c, n + p),
-        },
+        Meant::Unknown => {
+            let step = wire::read_declared(&s[n..], 4, 4);
+            match step {
+                Step::Took(k) => Opening::Skip(n + k),
+                Step::Fault(c, p) => Opening::Bad(c, n + p),
+            }
+        }
+        Meant::Row(t) => {
+            let step = wire::read_declared(&s[n..], 4, 4);
+            match step {
+                Step::Took(k) => Opening::Data(t, n + 4, n + k),
+                Step::Fault(c, p) => Opening::Bad(c, n + p),
+            }
+        }
         Meant::Never(c) => Opening::Bad(c, 0),
     }
 }
