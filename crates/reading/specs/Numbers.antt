@@ -6,9 +6,11 @@
 --   fiveNumbers t g n o s           first known type, format, rows, optionals skipped, slices skipped, 32 bits each
 --   fiveBytes r                     those of an accepted message; none of a refusal
 --   withNumbers r lent              the bytes lent for the numbers after the call
+--   FewSkipped w                    an accepted walk skips at most 65,536 optionals
+use mathlib.Core.Path.{_≡_}
 use mathlib.Core.Bool.{_||_, not}
 use mathlib.Core.List.{List, [], _++_}
-use Prim.Native.Nat.{ℕ}
+use Prim.Native.Nat.{ℕ, _≤_}
 use lib.ListN.{length, drop}
 use lib.Dec.{eqb, leb}
 use Rattle.encoding.specs.Result.{pick}
@@ -16,6 +18,8 @@ use Rattle.encoding.specs.Number.{leBytes}
 use Rattle.encoding.specs.Message.{Answer, refused, reading}
 use Rattle.encoding.specs.declared.Reading.{Reading}
 use Rattle.encoding.specs.declared.Reading.the-variants.{Accepted, Refused}
+use Rattle.slices.specs.declared.Walk.{Walk}
+use Rattle.slices.specs.declared.Walk.the-variants.{Done}
 
 -- a refused message needs no bytes
 unfoldable pub withinNumbers : ℕ → ℕ → Answer → Answer
@@ -38,3 +42,6 @@ fiveBytes (Refused c p) = []
 -- bytes beyond the numbers stay
 unfoldable pub withNumbers : Reading → List ℕ → List ℕ
 withNumbers r lent = fiveBytes r ++ drop (length (fiveBytes r)) lent
+
+pub record FewSkipped (w : Walk) : Type 0 where
+  pub few : (t g n o s e : ℕ) → w ≡ Done t g n o s e → o ≤ 65536

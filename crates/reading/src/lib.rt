@@ -10,7 +10,7 @@ ghost use Rattle.prepare.specs.declared.Prepared.the-variants.{Ready};
 ghost use Rattle.shapes.specs.Shapes.{shapesOf};
 ghost use Rattle.reader.specs.OldUse.{OldUse};
 ghost use Rattle.reading.specs.Told.{Lent, Walked, Listed, low, toldOf, rowCount};
-ghost use Rattle.reading.specs.Numbers.{readingNumbered, shortOf, fiveNumbers, withNumbers};
+ghost use Rattle.reading.specs.Numbers.{readingNumbered, shortOf, fiveNumbers, withNumbers, FewSkipped};
 use encoding::Reading;
 use prepare::Prepared;
 use slices::Walk;
@@ -284,13 +284,28 @@ fn put_numbers(a: Reading, numbers: &mut [u8])
     }
 }
 
+// The same walk, which skips few optionals. Their number is compared with the most that four bytes hold: without this it would be loaded together with the slices skipped, right after the walk stored both one by one, which waits for the stores.
+fn few_skipped(w: Walk) -> Walk
+    requires { ⌜ FewSkipped w ⌝ }
+    ensures { λ r. ⌜ r ≡ w ⌝ }
+{
+    match w {
+        Walk::Done(first, format, n, optionals, slices, end) => {
+            let skipped = wire::least(optionals, 4294967295);
+            Walk::Done(first, format, n, skipped, slices, end)
+        }
+        Walk::Stop(c, p) => Walk::Stop(c, p),
+    }
+}
+
 // The answer of a walk, with its five numbers put.
 fn numbered(w: Walk, k: usize, numbers: &mut [u8]) -> Reading
     requires { ⌜ 20 ≤ length (now numbers) ⌝ }
+    requires { ⌜ FewSkipped w ⌝ }
     ensures { λ r. ⌜ r ≡ toldOf k w ⌝ }
     ensures { λ r. ⌜ now (numbers .exit) ≡ withNumbers r (now (numbers .entry)) ⌝ }
 {
-    let a = told(w, k);
+    let a = told(few_skipped(w), k);
     put_numbers(a, numbers);
     a
 }

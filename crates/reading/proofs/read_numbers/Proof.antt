@@ -1,7 +1,7 @@
 -- Too few bytes for the numbers: the answer alone, and no lent byte changes. Else one read, and its numbers put. Assumes nothing.
 use borrow.Author.Needs.{needs}
 use Rattle.reading.proofs.Telling.{told-listed}
-use Rattle.reading.proofs.Numbering.{few-told, few-listed, few-numbered, enough-told, enough-listed, enough-numbered}
+use Rattle.reading.proofs.Numbering.{skipped-few, few-told, few-listed, few-numbered, enough-told, enough-listed, enough-numbered}
 use Rattle.reading.proofs.read_numbers.Statement.{statement}
 use Rattle.reading.proofs.read_numbers.Tie as tie
 
@@ -26,17 +26,17 @@ read-numbers-spec =
     returns
     (λ c κs. search needs)  -- most-rows-requires
     (λ c κs. search needs)  -- walk-few-requires
-    (λ c κs. search needs)  -- numbered-requires
+    (λ c κs. (search needs, search skipped-few))  -- numbered-requires
     (λ c. search needs)  -- same-length
     (λ c. search needs)  -- same-length-2
     returns-2
     (λ c κs. search needs)  -- walk-some-requires
-    (λ c κs. search needs)  -- numbered-requires-2
+    (λ c κs. (search needs, search skipped-few))  -- numbered-requires-2
     (λ c. search needs)  -- same-length-3
     (λ c. search needs)  -- same-length-4
     returns-3
     (λ c κs. search needs)  -- walk-more-requires
-    (λ c κs. search needs)  -- numbered-requires-3
+    (λ c κs. (search needs, search skipped-few))  -- numbered-requires-3
     (λ c. search needs)  -- same-length-5
     (λ c. search needs)  -- same-length-6
     returns-4)
