@@ -2,4 +2,4 @@
 pub mod Parts
 pub mod Nexts
 pub mod Requireds
-pub mod Simples
+pub mod Plain

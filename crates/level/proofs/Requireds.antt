@@ -1,6 +1,5 @@
 -- The loop over an owner's rows that reads its required members and puts a row for each. Assumes nothing.
 --
---   Due            what holds at its head: the answer and the list at the end follow from the rows that are left
 --   due-begin      at the start
 --   due-past, due-run   after an optional row, and after those that follow it
 --   due-next       after a required member that was read
@@ -42,30 +41,9 @@ use Rattle.level.specs.declared.Members.the-variants.{Read, Refused}
 use Rattle.level.specs.Fill.{fill}
 use Rattle.optional.specs.Answers.{typeRow}
 use Rattle.level.specs.Answers.{membersOf}
+use Rattle.level.specs.Due.{Later, Due}
 use Rattle.level.specs.RequiredLaws.{memberAt, Ahead, ahead-begin, ahead-past, ahead-next, required-past, required-next, none-as, requireds-as, piece-row}
 use Rattle.optional.proofs.Lookups.{row-type}
-
--- the pieces still to come, where all are accepted, and what they make of the list as it is
-record Later (T : List ℕ) (t at : ℕ) (s : List ℕ) (ms : List Member) (pos k : ℕ) (last out : List ℕ) : Type 0 where
-  pieces : List Piece
-  taken : ℕ
-  read : requireds ms (drop pos s) ≡ ok pieces taken
-  made : last ≡ fill k (pieceRows T t (at + pos) pieces) out
-
-pub record Due (old : Bool) (T : List ℕ) (t at count : ℕ) (s out₀ : List ℕ) (m end pos k next : ℕ) (out : List ℕ) : Type 0 where
-  pub seen : ℕ
-  pub inside : pos ≤ length s
-  pub within : m ≤ end
-  pub few : end < 131072
-  pub ends : end ≡ field T t 0 + field T t 1
-  pub most : next ≤ end
-  pub start : optionalStart T t ≡ min next (firstOptional T (field T t 0 + field T t 1) m (end - m))
-  pub low : k + (end - m) < count + 65536
-  pub same : length out ≡ length out₀
-  pub ahead : Ahead T t seen (range m (end - m))
-  pub says : membersOf count (optionalStart T t) (requireds (membersAs old (Table.requiredMembers T t)) s) ≡ membersOf k (optionalStart T t) (shift pos (requireds (membersAs old (requiredsIn T (trees T) seen (range m (end - m)))) (drop pos s)))
-  gives : (ps : List Piece) (n : ℕ) → requireds (membersAs old (Table.requiredMembers T t)) s ≡ ok ps n
-      → Later T t at s (membersAs old (requiredsIn T (trees T) seen (range m (end - m)))) pos k (fill count (pieceRows T t at ps) out₀) out
 
 shift-none : {A : Type 0} (r : Res A) → r ≡ shift 0 r
 unfolding shift

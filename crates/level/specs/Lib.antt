@@ -5,3 +5,4 @@ pub mod Answers
 pub mod AnswersLaws
 pub mod TagLaws
 pub mod RequiredLaws
+pub mod Due

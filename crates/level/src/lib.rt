@@ -8,6 +8,7 @@ ghost use Prim.Native.Nat.{ℕ, _+_, _*_, _^_, _≤_, _<_};
 ghost use lib.ListN.{length};
 ghost use Rattle.encoding.specs.Result.{ok};
 ghost use Rattle.encoding.specs.Table.{members, typesAt, membersAt, memberAt, field, tyOf, requiredMembers};
+ghost use Rattle.table.specs.Rows.{Whole};
 ghost use Rattle.encoding.specs.Value.{value};
 ghost use Rattle.encoding.specs.Old.{typeAs, membersAs};
 ghost use Rattle.encoding.specs.Optional.{Piece, requireds};
@@ -18,6 +19,8 @@ ghost use Rattle.wire.specs.declared.Step.the-variants.{Took};
 ghost use Rattle.shapes.specs.Shapes.{shapesOf};
 ghost use Rattle.table.specs.Tags.{optionalStart};
 ghost use Rattle.level.specs.Fill.{fill};
+ghost use Rattle.level.specs.FillLaws.{Covered};
+ghost use Rattle.level.specs.Due.{Due};
 ghost use Rattle.level.specs.Answers.{membersOf, Simple};
 use wire::Step;
 
@@ -25,6 +28,13 @@ use wire::Step;
 pub enum Members {
     Read(usize, usize, usize),
     Refused(usize, usize),
+}
+
+// How far required members were read that may be any bytes: the bytes taken, the rows there are, and the first row that was not read.
+pub struct Begun {
+    pub bytes: usize,
+    pub count: usize,
+    pub row: usize,
 }
 
 // A known optional: its member row, its tag, where its bytes begin, the bytes taken. A skipped one: its tag, the bytes taken. Or a refusal's number and place.
@@ -142,24 +152,10 @@ fn simple(table: &[u8], first: usize, shapes: &[u8; 256], m: usize, left: usize)
     w
 }
 
-// The same answer, taken apart and put together again, so that its numbers stay in registers.
-fn same(members: Members) -> Members
-    ensures { λ r. ⌜ r ≡ members ⌝ }
-{
-    match members {
-        Members::Read(n, k, i) => Members::Read(n, k, i),
-        Members::Refused(c, p) => Members::Refused(c, p),
-    }
-}
-
-// As `required` in encoding 1.1, for an owner that takes member rows `from` to `end` - 1. The table has `all` member rows, from `first` on. Members that may be any bytes are read without a call; if another one is required too, `required` begins anew.
-// It is called at one place and inlined there: so a parameter list of numbers is read without a call.
-// Wrong and ruled out: a required member that is declared after optional ones passed over.
-pub fn required_simple(
+// Reads the required members of owner t, which takes member rows `from` to `end` - 1, as far as they may be any bytes; puts a row for each, from row `count` on; `at` is the place of the first. No call is in its loop.
+pub fn simples(
     table: &[u8],
-    begin: usize,
     first: usize,
-    all: usize,
     shapes: &[u8; 256],
     t: usize,
     from: usize,
@@ -168,24 +164,16 @@ pub fn required_simple(
     at: usize,
     count: usize,
     out: &mut [u8],
-) -> Members
-    requires { ⌜ begin ≡ typesAt (now table) ⌝ }
-    requires { ⌜ (first ≡ membersAt (now table)) × (first < 1048576) ⌝ }
-    requires { ⌜ all ≡ members (now table) ⌝ }
+) -> Begun
+    requires { ⌜ first ≡ membersAt (now table) ⌝ }
     requires { ⌜ (from ≡ field (now table) t 0) × (end ≡ field (now table) t 0 + field (now table) t 1) ⌝ }
     requires { ⌜ (from < 65536) × (end < from + 65536) ⌝ }
+    requires { ⌜ (0 < end → Whole (now table) end) ⌝ }
     requires { ⌜ now shapes ≡ shapesOf (now table) ⌝ }
     requires { ⌜ (at + length (now s) < 2 ^ 63) × (count < 2 ^ 63) ⌝ }
-    ensures { λ r. ⌜ r ≡ membersOf count (optionalStart (now (table .entry)) t) (requireds (membersAs false (requiredMembers (now (table .entry)) t)) (now (s .entry))) ⌝ }
-    ensures { λ _. ⌜ length (now (out .exit)) ≡ length (now (out .entry)) ⌝ }
-    ensures { λ _. ⌜ ((ps : List Piece) (n : ℕ) → requireds (membersAs false (requiredMembers (now (table .entry)) t)) (now (s .entry)) ≡ ok ps n → now (out .exit) ≡ fill count (pieceRows (now (table .entry)) t at ps) (now (out .entry))) ⌝ }
+    ensures { λ r. ⌜ Due false (now (table .entry)) t at count (now (s .entry)) (now (out .entry)) (r .row) end (r .bytes) (r .count) end (now (out .exit)) ⌝ }
+    ensures { λ r. ⌜ Covered count (r .count) (now (out .exit)) (now (out .entry)) ⌝ }
 {
-    if all < end {
-        return same(required(table, begin, shapes, t, s, at, count, out, false));
-    }
-    if table.len() < table::member_at(table, first, end) {
-        return same(required(table, begin, shapes, t, s, at, count, out, false));
-    }
     let mut m = from;
     let mut pos = 0;
     let mut k = count;
@@ -199,8 +187,60 @@ pub fn required_simple(
         pos += w;
         m += 1;
     }
+    Begun {
+        bytes: pos,
+        count: k,
+        row: m,
+    }
+}
+
+// The same answer, taken apart and put together again, so that its numbers stay in registers.
+fn same(members: Members) -> Members
+    ensures { λ r. ⌜ r ≡ members ⌝ }
+{
+    match members {
+        Members::Read(n, k, i) => Members::Read(n, k, i),
+        Members::Refused(c, p) => Members::Refused(c, p),
+    }
+}
+
+// As `required` in encoding 1.1, for an owner that takes member rows `from` to `end` - 1. Members that may be any bytes are read without a call; if another one is required too, `required` begins anew. `limit` is `end`, or 0 if those rows are not all inside the table; its member rows begin at `first`.
+// It is called at one place and inlined there: so a parameter list of numbers is read without a call.
+// Wrong and ruled out: a required member that is declared after optional ones passed over.
+pub fn required_simple(
+    table: &[u8],
+    begin: usize,
+    first: usize,
+    limit: usize,
+    shapes: &[u8; 256],
+    t: usize,
+    from: usize,
+    end: usize,
+    s: &[u8],
+    at: usize,
+    count: usize,
+    out: &mut [u8],
+) -> Members
+    requires { ⌜ begin ≡ typesAt (now table) ⌝ }
+    requires { ⌜ (first ≡ membersAt (now table)) × (first < 1048576) ⌝ }
+    requires { ⌜ (0 < limit → Whole (now table) limit) × (limit ≤ end) ⌝ }
+    requires { ⌜ (from ≡ field (now table) t 0) × (end ≡ field (now table) t 0 + field (now table) t 1) ⌝ }
+    requires { ⌜ (from < 65536) × (end < from + 65536) ⌝ }
+    requires { ⌜ now shapes ≡ shapesOf (now table) ⌝ }
+    requires { ⌜ (at + length (now s) < 2 ^ 63) × (count < 2 ^ 63) ⌝ }
+    ensures { λ r. ⌜ r ≡ membersOf count (optionalStart (now (table .entry)) t) (requireds (membersAs false (requiredMembers (now (table .entry)) t)) (now (s .entry))) ⌝ }
+    ensures { λ _. ⌜ length (now (out .exit)) ≡ length (now (out .entry)) ⌝ }
+    ensures { λ _. ⌜ ((ps : List Piece) (n : ℕ) → requireds (membersAs false (requiredMembers (now (table .entry)) t)) (now (s .entry)) ≡ ok ps n → now (out .exit) ≡ fill count (pieceRows (now (table .entry)) t at ps) (now (out .entry))) ⌝ }
+{
+    if limit < end {
+        return same(required(table, begin, shapes, t, s, at, count, out, false));
+    }
+    let r = simples(table, first, shapes, t, from, end, s, at, count, out);
+    let bytes = r.bytes;
+    let k = r.count;
+    let m = r.row;
     if table::chain::required_from(table, first, m, end) == end {
-        return Members::Read(pos, k, m);
+        return Members::Read(bytes, k, m);
     }
     same(required(table, begin, shapes, t, s, at, count, out, false))
 }

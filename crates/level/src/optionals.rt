@@ -1,20 +1,33 @@
 // The next optional of an owner.
 ghost use mathlib.Core.Path.{_≡_};
-ghost use Prim.Native.Nat.{_/_, _≤_, _<_};
+ghost use Prim.Native.Nat.{_≤_, _<_};
 ghost use Rattle.encoding.specs.Result.{bytes, inside};
 ghost use Rattle.encoding.specs.Value.{value};
-ghost use Rattle.encoding.specs.Table.{at as number-at, typesAt, members, membersAt, tyOf};
+ghost use Rattle.encoding.specs.Table.{typesAt, membersAt, tyOf};
 ghost use Rattle.encoding.specs.Optional.{part, nextOptional};
 ghost use Rattle.shapes.specs.Shapes.{shapesOf};
+ghost use Rattle.table.specs.Rows.{Whole};
 ghost use Rattle.table.specs.Tags.{optionalFrom};
 ghost use Rattle.optional.specs.Forms.{formNamed};
 ghost use Rattle.wire.specs.Steps.{bytesOf};
-ghost use Rattle.level.specs.declared.Optional.the-variants.{Known};
-ghost use Rattle.level.specs.Answers.{Tagged, bareShape, optionalAnswer};
+ghost use Rattle.level.specs.Answers.{Tagged, Bare, bareShape, optionalAnswer};
 use crate::Optional;
 use optional::Head;
 use wire::Sized;
 use wire::Step;
+
+// A simple optional: its tag, and the bytes that it takes with its header; 0 bytes if there is none.
+pub struct Plain {
+    pub tag: usize,
+    pub bytes: usize,
+}
+
+// No simple optional.
+fn none() -> Plain
+    ensures { λ r. ⌜ r .bytes ≡ 0 ⌝ }
+{
+    Plain { tag: 0, bytes: 0 }
+}
 
 // A value of type row t in the declared bytes of the form of number f, which it uses up: how many bytes it has, and the bytes taken.
 // A string with its own size is read once; a value that may be any bytes needs as many as its type has.
@@ -91,17 +104,13 @@ pub fn optional(
     }
 }
 
-// The row of the type of member row `row`, before `end`, if it is optional and has this tag; else 65,536. Here and below, the table has `all` member rows, from `first` on.
-fn tagged(table: &[u8], first: usize, all: usize, end: usize, row: usize, tag: usize) -> usize
-    requires { ⌜ (first ≡ membersAt (now table)) × (first < 1048576) ⌝ }
-    requires { ⌜ all ≡ members (now table) ⌝ }
-    requires { ⌜ end ≤ 131072 ⌝ }
+// The row of the type of member row `row`, before `limit`, if it is optional and has this tag; else 65,536. Here and below, look-ups end at `end`; the rows before `limit`, which is `end` or before it, lie inside the table, whose member rows begin at `first`.
+fn tagged(table: &[u8], first: usize, limit: usize, end: usize, row: usize, tag: usize) -> usize
+    requires { ⌜ first ≡ membersAt (now table) ⌝ }
+    requires { ⌜ (0 < limit → Whole (now table) limit) × (limit ≤ end) ⌝ }
     ensures { λ r. ⌜ (r < 65536 → Tagged (now (table .entry)) end row tag r) ⌝ }
 {
-    if end <= row {
-        return 65536;
-    }
-    if table.len() < table::member_at(table, first, row + 1) {
+    if limit <= row {
         return 65536;
     }
     let member = table::member_row_in(table, first, row);
@@ -111,7 +120,7 @@ fn tagged(table: &[u8], first: usize, all: usize, end: usize, row: usize, tag: u
     if tag != member.tag {
         return 65536;
     }
-    optional::type_of(all, row, member.of)
+    member.of
 }
 
 // The shape of the types whose values are any bytes of F1, F2, F4 or F8, by the type bits k; no shape for other bits.
@@ -127,45 +136,44 @@ fn bare_shape(k: usize) -> usize
     }
 }
 
-// How many bytes a simple optional takes, with its header; 0 if the next one is not simple. It is simple if its tag is below 30 and that of member row `row`, and its value any bytes of F1, F2, F4 or F8.
+// The next optional, if it is simple: if its tag is below 30 and that of member row `row`, and its value any bytes of F1, F2, F4 or F8.
 // It is short enough to be inlined, so that most optionals of a parameter list take no call. The width comes from the row's shape, not from the header: so the next header is looked at without waiting for this one.
 // Wrong and ruled out: a long taken as four bytes.
 pub fn simple(
     table: &[u8],
     first: usize,
-    all: usize,
+    limit: usize,
     shapes: &[u8; 256],
     end: usize,
     row: usize,
     least: usize,
     s: &[u8],
-) -> usize
-    requires { ⌜ (first ≡ membersAt (now table)) × (first < 1048576) ⌝ }
-    requires { ⌜ all ≡ members (now table) ⌝ }
+) -> Plain
+    requires { ⌜ first ≡ membersAt (now table) ⌝ }
+    requires { ⌜ (0 < limit → Whole (now table) limit) × (limit ≤ end) ⌝ }
     requires { ⌜ now shapes ≡ shapesOf (now table) ⌝ }
-    requires { ⌜ end ≤ 131072 ⌝ }
-    ensures { λ r. ⌜ (0 < r → Known row (number-at (now (s .entry)) 1 0 / 8) 1 r ≡ optionalAnswer (optionalFrom (now (table .entry)) end row) (nextOptional (optionalFrom (now (table .entry)) end row) least (now (s .entry)))) ⌝ }
+    ensures { λ r. ⌜ Bare (now (table .entry)) end row least (now (s .entry)) (r .tag) (r .bytes) ⌝ }
 {
     let h = wire::byte_at(s, 0);
     let tag = wire::tag_bits(h);
     let k = wire::type_bits(h);
     if 30 <= tag {
-        return 0;
+        return none();
     }
     if tag < least {
-        return 0;
+        return none();
     }
-    let t = tagged(table, first, all, end, row, tag);
+    let t = tagged(table, first, limit, end, row, tag);
     if 65536 <= t {
-        return 0;
+        return none();
     }
     let x = shapes::shape(shapes, t);
     if x != bare_shape(k) {
-        return 0;
+        return none();
     }
     let w = x - 10;
     if s.len() <= w {
-        return 0;
+        return none();
     }
-    1 + w
+    Plain { tag, bytes: 1 + w }
 }

@@ -28,9 +28,9 @@ use Rattle.level.specs.Fill.{fill}
 use Rattle.slices.specs.declared.Walk.{Walk}
 use Rattle.slices.specs.declared.Walk.the-variants.{Done, Stop}
 use Rattle.slices.specs.Walks.{pairRows, pairWalk}
-use Rattle.slices.specs.Left.{WalkEnd}
+use Rattle.slices.specs.Left.{WalkEnd, Ends}
 use Rattle.slices.specs.MemberLaws.{required-few}
-use Rattle.slices.proofs.Endings.{Ends, ends-refused, ends-listed, ends-answer, ends-list, Small, types-below, field-below}
+use Rattle.slices.proofs.Endings.{ends-refused, ends-listed, ends-answer, ends-list, Small, types-below, field-below}
 use Rattle.pairs.specs.declared.Turn.{Turn}
 use Rattle.pairs.specs.declared.Turn.the-variants.{Passed, Known, Wrong}
 use Rattle.pairs.specs.Pairs.{dueOf, rowOf, sliceTurn, turnOf, turnRows, firstBy, onward, firstFrom, rowsFrom, left}

@@ -1,13 +1,13 @@
 -- The walk over a parameter list: what holds at the head of its loop, and what each step makes of it. Assumes nothing.
 --
 --   list-asks, list-at, list-place    places that fit
---   next-simple                a simple optional, with its tag as it was read
+--   next-simple                a simple optional
 --   told-both                  two results of one answer are the same
---   Listing, list-begin        what holds at the loop's head, and that it does at first
+--   list-begin                 what holds at the loop's head does at first
 --   listing-..                 what each step makes of it
 --   simple-..                  what a simple optional makes of it
---   listing-again, listing-join   the second loop begins where the first one ended, and both are one
---   done-.., stopped-.., refused-..   the answer and the lent list are those of the walk: at the end, where an optional is refused, where a required member is
+--   listing-again, listing-ends   the second loop begins where the first one ended, and both are one
+--   read-.., refused-..        the answer and the lent list are those of the walk: of the optionals, or where a required member is refused
 use mathlib.Core.Path.{_≡_, refl, sym, ap, ap₂, _∙_}
 use mathlib.Core.Bool.{false}
 use mathlib.Core.Option.{none, some}
@@ -26,13 +26,13 @@ use Rattle.encoding.specs.Optional.{Piece, requireds, nextOptional}
 use Rattle.encoding.specs.Message.{rowBytes, pieceRows, parameters}
 use Rattle.wire.specs.Put.{put}
 use Rattle.wire.specs.StepLaws.{rest-is}
-use Rattle.table.specs.Tags.{optionalFrom, optionalStart, Passed}
+use Rattle.table.specs.Tags.{optionalFrom, optionalStart}
 use Rattle.table.specs.Tags
 use Rattle.table.specs.TagsLaws.{passed-none, passed-still, passed-behind}
 use Rattle.table.proofs.Chains.{passing-begin, passing-end}
 use Rattle.level.specs.Fill.{fill}
 use Rattle.level.specs.TagLaws.{passed-answer, member-tag, member-begun, member-within}
-use Rattle.level.specs.Answers.{membersOf, optionalAnswer}
+use Rattle.level.specs.Answers.{membersOf, Bare, optionalAnswer}
 use Rattle.level.specs.AnswersLaws.{KnownRead, known-read, skipped-read, wrong-read, known-within, known-start, known-tag, skipped-some, skipped-within, skipped-tag, wrong-within, members-read, members-start, members-refused, members-within, refused-within}
 use Rattle.level.specs.declared.Members.{Members}
 use Rattle.level.specs.declared.Members.the-variants.{Read, Refused}
@@ -41,10 +41,12 @@ use Rattle.level.specs.declared.Optional.the-variants.{Known, Skipped, Wrong}
 use Rattle.slices.specs.declared.Walk.{Walk}
 use Rattle.slices.specs.declared.Walk.the-variants.{Done, Stop}
 use Rattle.slices.specs.Walks.{listWalk}
-use Rattle.slices.specs.Left.{WalkEnd, listed, refused, answerOf, optionalsFrom, finish, listClose, listing}
+use Rattle.slices.specs.Left.{WalkEnd, listed, refused, answerOf, Ends, optionalsFrom, finish, listClose, listing}
 use Rattle.slices.specs.LeftLaws.{parameters-required, parameters-refused, finish-end, finish-wrong, finish-known, finish-skipped}
 use Rattle.slices.specs.MemberLaws.{required-few, optional-two}
-use Rattle.slices.proofs.Endings.{Ends, ends-same, ends-refused, ends-listed, ends-answer, ends-list, Small, field-below}
+use Rattle.slices.proofs.Endings.{ends-same, ends-refused, ends-listed, ends-answer, ends-list}
+use Rattle.reader.specs.Takes.{Takes}
+use Rattle.reader.specs.Listing.{Listing}
 
 -- ---- the whole walk
 
@@ -82,18 +84,10 @@ not-end m at h = go (drop at m) (omega (arith, length-drop at m))
     go [] h = absurd (omega arith)
     go (x ∷ l) h = refl
 
-pub record Listing (T : List ℕ) (top : ℕ) (m : List ℕ) (whole : WalkEnd) (stop at least row k o : ℕ) (out : List ℕ) : Type 0 where
-  pub small : Small T
-  pub room : length m < 2 ^ 63
-  pub inside : at ≤ length m
-  pub few : 2 * k ≤ 131072 + at
-  pub fewer : o ≤ at
-  pub passed : Passed T top stop row least
-  pub rest : whole ≡ listing T top m at least k o out
-
 -- an optional that was read without a call
-pub next-simple : (x : Optional) (row n b tag a : ℕ) → (0 < n → Known row (a / 8) 1 n ≡ x) → (n ≡ 0 → ⊥) → b ≡ a → tag ≡ b / 8 → Known row tag 1 n ≡ x
-next-simple x row n b tag a known z eb et = rw (et, eb) (known (omega (arith, z)))
+pub next-simple : (T : List ℕ) (stop row least : ℕ) (s : List ℕ) (n tag : ℕ) → Bare T stop row least s tag n → (n ≡ 0 → ⊥)
+    → Known row tag 1 n ≡ optionalAnswer (optionalFrom T stop row) (nextOptional (optionalFrom T stop row) least s)
+next-simple T stop row least s n tag B z = B .known (omega (arith, z))
 
 -- what is left fits
 pub list-asks : (m : List ℕ) (start : ℕ) → start ≤ length m → length m < 2 ^ 63 → start + length (take (length m - start) (drop start m)) < 2 ^ 63
@@ -139,28 +133,24 @@ told-both ms x y e h = sym e ∙ h
 
 -- at the first optional
 pub list-begin : (T : List ℕ) (top : ℕ) (m : List ℕ) (start n j i : ℕ) (out : List ℕ) → Read n j i ≡ membersOf 0 (optionalStart T top) (requireds (Table.requiredMembers T top) (take (length m - start) (drop start m)))
-    → (stop : ℕ) → stop ≡ Table.field T top 0 + Table.field T top 1 → start ≤ length m → Small T → length m < 2 ^ 63
+    → (from stop : ℕ) → Takes T top from stop → start ≤ length m → length m < 2 ^ 63
     → Listing T top m (listing T top m (start + n) 0 j 0 out) stop (start + n) 0 i j 0 out
-list-begin T top m start n j i out em stop e h S l =
+list-begin T top m start n j i out em from stop A h l =
     let told = reads T top m start h (Read n j i) em in
     let R = members-read (Table.requiredMembers T top) 0 (optionalStart T top) (drop start m) (Read n j i) told n j i refl in
     record {
-      small = S;
       room = l;
+      bound = omega (arith, A .from-small, A .stop-small);
       inside = list-within T top m start h (Read n j i) em n j i refl;
-      few = omega (arith, R .2, required-few false T top (drop start m) (R .0) n (R .1), field-below T S top 1);
+      few = omega (arith, R .2, required-few false T top (drop start m) (R .0) n (R .1), A .from-is, A .stop-is, A .stop-small);
       fewer = omega arith;
-      passed = passed-none T top stop i e (members-start (Table.requiredMembers T top) 0 (optionalStart T top) (drop start m) (Read n j i) told n j i refl);
+      passed = passed-none T top stop i (A .stop-is) (members-start (Table.requiredMembers T top) 0 (optionalStart T top) (drop start m) (Read n j i) told n j i refl);
       rest = refl;
     }
 
 module _ {T : List ℕ} {top : ℕ} {m : List ℕ} {whole : WalkEnd} {stop at least row k o : ℕ} {out : List ℕ} (inv : Listing T top m whole stop at least row k o out) where
-  -- the rows of the list's own members end before the bound of the look-ups
-  pub listing-bound : stop ≤ 131072
-  listing-bound = omega (arith, inv .passed .ends, field-below T (inv .small) top 0, field-below T (inv .small) top 1)
-
   -- the end of the list
-  listing-end : length m ≤ at → Ends whole (Done top 1 k o 0 at) out
+  pub listing-end : length m ≤ at → Ends whole (Done top 1 k o 0 at) out
   unfolding listing listClose
   listing-end h =
       ends-listed whole (Done top 1 k o 0 at) out
@@ -202,14 +192,14 @@ module _ {T : List ℕ} {top : ℕ} {m : List ℕ} {whole : WalkEnd} {stop at le
       listing-tag = omega (arith, known-tag (Table.optionalMembers T top) least (drop at m) r answers i tag a n q)
 
       pub listing-few : i < 131072
-      listing-few = omega (arith, member-within T top least (drop at m) i tag a n reading, field-below T (inv .small) top 0, field-below T (inv .small) top 1)
+      listing-few = omega (arith, member-within T top least (drop at m) i tag a n reading, inv .passed .ends, inv .bound)
 
       pub listing-known : {out′ : List ℕ} → out′ ≡ put (12 * k) (rowBytes (record { member = i; place = at + a; len = n - a })) out → {row′ : ℕ} → row′ ≡ Tags.behind T row i tag
           → Listing T top m whole stop (at + n) (tag + 1) row′ (k + 1) o out′
       unfolding listing
       listing-known {out′} w {row′} p = record {
-        small = inv .small;
         room = inv .room;
+        bound = inv .bound;
         inside = listing-within;
         few = omega (arith, inv .few, listing-two);
         fewer = omega (arith, inv .fewer);
@@ -242,8 +232,8 @@ module _ {T : List ℕ} {top : ℕ} {m : List ℕ} {whole : WalkEnd} {stop at le
       pub listing-skipped : Listing T top m whole stop (at + n) (tag + 1) row k (o + 1) out
       unfolding listing
       listing-skipped = record {
-        small = inv .small;
         room = inv .room;
+        bound = inv .bound;
         inside = listing-past;
         few = omega (arith, inv .few);
         fewer = omega (arith, inv .fewer, listing-some);
@@ -259,7 +249,7 @@ module _ {T : List ℕ} {top : ℕ} {m : List ℕ} {whole : WalkEnd} {stop at le
       pub listing-stop : Fits w64 (at + p)
       listing-stop = omega (arith, inv .room, wrong-within (Table.optionalMembers T top) least (drop at m) r answers c p q, length-drop at m, inv .inside)
 
-      listing-wrong : (out′ : List ℕ) → Ends whole (Stop c (at + p)) out′
+      pub listing-wrong : (out′ : List ℕ) → Ends whole (Stop c (at + p)) out′
       unfolding listing
       listing-wrong out′ =
           ends-refused whole c (at + p) (Stop c (at + p)) out′
@@ -267,11 +257,10 @@ module _ {T : List ℕ} {top : ℕ} {m : List ℕ} {whole : WalkEnd} {stop at le
 
 -- ---- a simple optional
 
-module _ {T : List ℕ} {top : ℕ} {m : List ℕ} {whole : WalkEnd} {stop at least row k o : ℕ} {out : List ℕ} (inv : Listing T top m whole stop at least row k o out) (on : at < length m) (n b tag : ℕ)
-    (simple : 0 < n → Known row (Table.at (take (length m - at) (drop at m)) 1 0 / 8) 1 n ≡ optionalAnswer (optionalFrom T stop row) (nextOptional (optionalFrom T stop row) least (take (length m - at) (drop at m))))
-    (some : n ≡ 0 → ⊥) (eb : b ≡ Table.at (take (length m - at) (drop at m)) 1 0) (et : tag ≡ b / 8) where
+module _ {T : List ℕ} {top : ℕ} {m : List ℕ} {whole : WalkEnd} {stop at least row k o : ℕ} {out : List ℕ} (inv : Listing T top m whole stop at least row k o out) (on : at < length m) (n tag : ℕ)
+    (B : Bare T stop row least (take (length m - at) (drop at m)) tag n) (some : n ≡ 0 → ⊥) where
   answer : Known row tag 1 n ≡ optionalAnswer (optionalFrom T stop row) (nextOptional (optionalFrom T stop row) least (take (length m - at) (drop at m)))
-  answer = next-simple _ row n b tag _ simple some eb et
+  answer = next-simple T stop row least (take (length m - at) (drop at m)) n tag B some
 
   pub simple-place : Fits w64 (at + 1)
   simple-place = listing-place inv on answer refl
@@ -297,14 +286,16 @@ module _ {T : List ℕ} {top : ℕ} {m : List ℕ} {whole : WalkEnd} {stop at le
   pub simple-known : {out′ : List ℕ} → out′ ≡ put (12 * k) (rowBytes (record { member = row; place = at + 1; len = n - 1 })) out → Listing T top m whole stop (at + n) (tag + 1) (row + 1) (k + 1) o out′
   simple-known w = listing-known inv on answer refl w (passing-end T row row tag row (passing-begin T row row tag) (omega arith))
 
--- one loop after another
-pub listing-join : {T : List ℕ} {top : ℕ} {m : List ℕ} {whole : WalkEnd} {stop at least row k o : ℕ} {out : List ℕ} → Listing T top m whole stop at least row k o out
-    → {at′ least′ row′ k′ o′ : ℕ} {out′ : List ℕ} → Listing T top m (listing T top m at least k o out) stop at′ least′ row′ k′ o′ out′ → Listing T top m whole stop at′ least′ row′ k′ o′ out′
-listing-join L M = record { small = M .small; room = M .room; inside = M .inside; few = M .few; fewer = M .fewer; passed = M .passed; rest = L .rest ∙ M .rest }
+-- ---- one loop after another
 
-pub listing-again : {T : List ℕ} {top : ℕ} {m : List ℕ} {whole : WalkEnd} {stop at least row k o : ℕ} {out : List ℕ} → Listing T top m whole stop at least row k o out
-    → Listing T top m (listing T top m at least k o out) stop at least row k o out
-listing-again L = record { small = L .small; room = L .room; inside = L .inside; few = L .few; fewer = L .fewer; passed = L .passed; rest = refl }
+module _ {T : List ℕ} {top : ℕ} {m : List ℕ} {whole : WalkEnd} {stop at least row k o : ℕ} {out : List ℕ} (inv : Listing T top m whole stop at least row k o out) where
+  -- what is left begins here
+  pub listing-again : Listing T top m (listing T top m at least k o out) stop at least row k o out
+  listing-again = record { room = inv .room; bound = inv .bound; inside = inv .inside; few = inv .few; fewer = inv .fewer; passed = inv .passed; rest = refl }
+
+  -- and ends as the whole does
+  pub listing-ends : {v : Walk} {out′ : List ℕ} → Ends (listing T top m at least k o out) v out′ → Ends whole v out′
+  listing-ends E = ends-same (inv .rest) E
 
 -- ---- how the walk ends
 
@@ -317,43 +308,26 @@ listing-answer T top m at least k o out out′ = go (optionalsFrom atEnd (Table.
     go (ok ps n) = refl
     go (bad c p) = refl
 
-module _ (T : List ℕ) (top : ℕ) (m : List ℕ) (start n j i : ℕ) (mid : List ℕ) (stop at least row k o : ℕ) (out : List ℕ) (inv : Listing T top m (listing T top m (start + n) 0 j 0 mid) stop at least row k o out)
-    (h : start ≤ length m) (ms : Members) (em : ms ≡ membersOf 0 (optionalStart T top) (requireds (Table.requiredMembers T top) (take (length m - start) (drop start m)))) (w : ms ≡ Read n j i) where
+-- the required members were read, then the optionals
+module _ (T : List ℕ) (top : ℕ) (m : List ℕ) (start n j i : ℕ) (mid : List ℕ) (h : start ≤ length m) (ms : Members)
+    (em : ms ≡ membersOf 0 (optionalStart T top) (requireds (Table.requiredMembers T top) (take (length m - start) (drop start m)))) (w : ms ≡ Read n j i)
+    (v : Walk) (out : List ℕ) (E : Ends (listing T top m (start + n) 0 j 0 mid) v out) where
   -- the optionals decide the answer
-  same-answer : answerOf (listing T top m (start + n) 0 j 0 mid) ≡ listWalk T top start (parameters T top (drop start m))
-  same-answer = go (members-read (Table.requiredMembers T top) 0 (optionalStart T top) (drop start m) ms (reads T top m start h ms em) n j i w)
+  pub read-says : v ≡ listWalk T top start (parameters T top (drop start m))
+  read-says = go (members-read (Table.requiredMembers T top) 0 (optionalStart T top) (drop start m) ms (reads T top m start h ms em) n j i w)
     where
-      go : (ps : List Piece) × (requireds (Table.requiredMembers T top) (drop start m) ≡ ok ps n) × (j ≡ 0 + length ps) → answerOf (listing T top m (start + n) 0 j 0 mid) ≡ listWalk T top start (parameters T top (drop start m))
+      go : (ps : List Piece) × (requireds (Table.requiredMembers T top) (drop start m) ≡ ok ps n) × (j ≡ 0 + length ps) → v ≡ listWalk T top start (parameters T top (drop start m))
       go R =
-          listing-answer T top m (start + n) 0 j 0 mid (fill 0 (pieceRows T top start (R .0)) mid)
+          ends-answer E ∙ listing-answer T top m (start + n) 0 j 0 mid (fill 0 (pieceRows T top start (R .0)) mid)
           ∙ sym (ap answerOf (list-same T top m start h ms em n j i w mid (fill 0 (pieceRows T top start (R .0)) mid) (λ ps i e.
           let z : ok (R .0) n ≡ ok ps i = sym (ap (requireds (Table.requiredMembers T top)) (rest-is m start) ∙ R .1) ∙ e in
           let y : R .0 ≡ ps = cc in ap (λ (l : List Piece). fill 0 (pieceRows T top start l) mid) y)))
           ∙ list-whole T top start mid (parameters T top (drop start m))
 
-  -- the required members are listed
-  abbrev Fills : List ℕ → Type 0
-  Fills out₀ = (ps : List Piece) (n : ℕ) → requireds (Table.requiredMembers T top) (take (length m - start) (drop start m)) ≡ ok ps n → mid ≡ fill 0 (pieceRows T top start ps) out₀
-
-  -- so are all of them where the walk accepts
-  gives : (out₀ : List ℕ) → Fills out₀ → (v : Walk) → Ends (listing T top m (start + n) 0 j 0 mid) v out → (ps : List Piece) (n : ℕ) → parameters T top (drop start m) ≡ ok ps n → out ≡ fill 0 (pieceRows T top start ps) out₀
-  gives out₀ fills v E = list-gives T top start out₀ (parameters T top (drop start m)) v out (ends-same (list-same T top m start h ms em n j i w out₀ mid fills) E)
-
-  -- at the end of the list
-  module _ (over : length m ≤ at) where
-    pub done-says : Done top 1 k o 0 at ≡ listWalk T top start (parameters T top (drop start m))
-    done-says = ends-answer (listing-end inv over) ∙ same-answer
-
-    pub done-gives : (out₀ : List ℕ) → Fills out₀ → (ps : List Piece) (n : ℕ) → parameters T top (drop start m) ≡ ok ps n → out ≡ fill 0 (pieceRows T top start ps) out₀
-    done-gives out₀ fills = gives out₀ fills (Done top 1 k o 0 at) (listing-end inv over)
-
-  -- an optional is refused
-  module _ (on : at < length m) (r : Optional) (e : r ≡ optionalAnswer (optionalFrom T stop row) (nextOptional (optionalFrom T stop row) least (take (length m - at) (drop at m)))) (c p : ℕ) (q : r ≡ Wrong c p) where
-    pub stopped-says : Stop c (at + p) ≡ listWalk T top start (parameters T top (drop start m))
-    stopped-says = ends-answer (listing-wrong inv on e q out) ∙ same-answer
-
-    pub stopped-gives : (out₀ : List ℕ) → Fills out₀ → (ps : List Piece) (n : ℕ) → parameters T top (drop start m) ≡ ok ps n → out ≡ fill 0 (pieceRows T top start ps) out₀
-    stopped-gives out₀ fills = gives out₀ fills (Stop c (at + p)) (listing-wrong inv on e q out)
+  -- and all are listed where the walk accepts
+  pub read-gives : (out₀ : List ℕ) → ((ps : List Piece) (n : ℕ) → requireds (Table.requiredMembers T top) (take (length m - start) (drop start m)) ≡ ok ps n → mid ≡ fill 0 (pieceRows T top start ps) out₀)
+      → (ps : List Piece) (n : ℕ) → parameters T top (drop start m) ≡ ok ps n → out ≡ fill 0 (pieceRows T top start ps) out₀
+  read-gives out₀ fills = list-gives T top start out₀ (parameters T top (drop start m)) v out (ends-same (list-same T top m start h ms em n j i w out₀ mid fills) E)
 
 -- a required member is refused
 module _ (T : List ℕ) (top : ℕ) (m : List ℕ) (start : ℕ) (h : start ≤ length m) (ms : Members) (em : ms ≡ membersOf 0 (optionalStart T top) (requireds (Table.requiredMembers T top) (take (length m - start) (drop start m))))

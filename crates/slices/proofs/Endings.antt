@@ -1,6 +1,6 @@
 -- How a walk ends, numbers that stay small, and parts of a message. Assumes nothing.
 --
---   Ends, ends-..                 an answer and a lent list are those of an outcome
+--   ends-..                             an answer and a lent list are those of an outcome
 --   put-keeps                           a list that is written into keeps its length
 --   Small, types-below, field-below     a table is of bytes, so that it has few types and a row names few members
 --   part-on, part-length                what is left of a part of a message
@@ -19,14 +19,9 @@ use Rattle.wire.specs.Put.{put}
 use Rattle.wire.specs.PutLaws.{put-length}
 use Rattle.slices.specs.declared.Walk.{Walk}
 use Rattle.slices.specs.declared.Walk.the-variants.{Stop}
-use Rattle.slices.specs.Left.{WalkEnd, listed, refused, answerOf}
+use Rattle.slices.specs.Left.{WalkEnd, listed, refused, answerOf, Ends, accepted, stopped}
 
 -- ---- how a walk ends
-
--- an answer is the walk's, and so is the lent list where the walk accepts
-pub data Ends : WalkEnd → Walk → List ℕ → Type 0 where
-  accepted : {w : Walk} {out : List ℕ} → Ends (listed w out) w out
-  stopped : {c p : ℕ} {out : List ℕ} → Ends (refused c p) (Stop c p) out
 
 pub ends-refused : (whole : WalkEnd) (c p : ℕ) (v : Walk) (out : List ℕ) → whole ≡ refused c p → v ≡ Stop c p → Ends whole v out
 ends-refused whole c p v out e h = rw (e, h) stopped

@@ -52,12 +52,12 @@ use Rattle.slices.specs.declared.Walk.the-variants.{Done, Stop}
 use Rattle.heads.specs.Stages.{stageOf}
 use Rattle.slices.specs.Openings.{opening, turnOf, firstOr}
 use Rattle.slices.specs.Walks.{chainRows, sliceWalk}
-use Rattle.slices.specs.Left.{WalkEnd, answerOf, recallTo, firstFrom, onward, rowsFrom, left, closing, recalling, optionalsFrom, finish, amid}
+use Rattle.slices.specs.Left.{WalkEnd, answerOf, recallTo, firstFrom, onward, rowsFrom, left, closing, recalling, optionalsFrom, finish, amid, Ends}
 use Rattle.slices.specs.LeftLaws.{left-whole, left-listed, left-refused, left-skipped, left-known, onward-ended, fields-required, fields-refused, finish-end, finish-early, finish-wrong, finish-known, finish-skipped}
 use Rattle.slices.specs.OpeningLaws.{Opened, Skipped, opening-wrong, opening-place, opening-skip, opening-known, opened-eats, opened-sized, row-below, row-base, passed-never}
 use Rattle.slices.specs.MemberLaws.{required-few, optional-two, mark-byte}
 use Rattle.slices.specs.TurnLaws.{turn-end, turn-known, turn-skipped, Early, turn-wrong, turn-place, passed-turn}
-use Rattle.slices.proofs.Endings.{Ends, ends-refused, ends-listed, ends-answer, ends-list, Small, types-below, field-below, part-on, part-length}
+use Rattle.slices.proofs.Endings.{ends-refused, ends-listed, ends-answer, ends-list, Small, types-below, field-below, part-on, part-length}
 
 -- ---- the whole walk
 

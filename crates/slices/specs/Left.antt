@@ -1,6 +1,7 @@
 -- What is left of a walk: its answer and the lent list follow from what was counted so far and from the bytes ahead.
 --
 --   WalkEnd              how a walk ends: its answer with the lent list, or a refusal; answerOf the answer
+--   Ends                 an answer and a lent list are those of an outcome
 --   recallTo             14 is at the flags
 --   owners, firstFrom    the rows whose slices are to come, and the first known type, from a stage on
 --   onward               the walk over the slices ahead
@@ -34,6 +35,11 @@ pub data WalkEnd : Type 0 where
 unfoldable pub answerOf : WalkEnd → Walk
 answerOf (listed w out) = w
 answerOf (refused c p) = Stop c p
+
+-- an answer is the walk's, and so is the lent list where the walk accepts
+pub data Ends : WalkEnd → Walk → List ℕ → Type 0 where
+  accepted : {w : Walk} {out : List ℕ} → Ends (listed w out) w out
+  stopped : {c p : ℕ} {out : List ℕ} → Ends (refused c p) (Stop c p) out
 
 unfoldable pub recallTo : ℕ → ℕ → ℕ → ℕ
 recallTo c flags p = pick (eqb c 14) flags p

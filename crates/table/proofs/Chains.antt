@@ -5,18 +5,20 @@
 --   takes-.., end-is  whether a row takes a member, and where its members end
 --   Optionals, optionals-..   the loop over a row's members that looks for a tag
 --   Skipping, skipping-..     the loops over member rows that pass optional rows, four at a time and one by one
+--   bare-..                   rows from which on none is required
 --   Searching, searching-..   the loops over member rows that look for an optional one, four rows at a time and one by one
 --   Passing, passing-..       the loop over the rows before a member that looks for a tag above its own
 use Prim.Native.Nat.{ℕ, zero, suc, _+_, _-_, _≤_, _<_}
 use mathlib.Core.Path.{_≡_, refl, sym, ap, ap₂, _∙_, subst}
 use mathlib.Core.Bool.{Bool, true, false, not}
 use mathlib.Core.List.{List, _∷_}
+use native.Mathlib.Nat.{add-zero}
 use native.Mathlib.Numerals.{add-one, sub-one}
 use native.Mathlib.Omega.{arith}
 use lib.ListN.{getD}
 use lib.Bits.{bitAnd, bitOr, and-zero-r, and-le-l, and-le-r, or-add-and}
 use lib.Dec.{eqb, ltb}
-use borrow.Author.Tests.{le-leb, lt-leb, lt-ltb, le-ltb, eq-eqb, ne-eqb}
+use borrow.Author.Tests.{le-leb, lt-leb, lt-ltb, le-ltb, eqb-true, eqb-false, eq-eqb, ne-eqb}
 use Rattle.encoding.specs.Result.{pick}
 use Rattle.wire.specs.At.{at-byte}
 use Rattle.encoding.specs.Table.{at, memberAt, kind, field, isRecord, memberType, mark, tag, range, takes, any, base, upward, chain, Member, memberTy, optionalsIn, trees, lookup}
@@ -226,6 +228,26 @@ module _ (T : List ℕ) (m end i : ℕ) (inv : Skipping T m end i) where
 
     pub skipping-next : (k ≡ 0 → ⊥) → Skipping T m end (i + 1)
     skipping-next z = record { begun = omega (arith, inv .begun); within = omega arith; same = sym (required-past T i end h (λ q. z (e ∙ q))) ∙ inv .same }
+
+-- ---- rows from which on none is required
+
+-- the loop ends where no required row is left
+pub bare-end : (T : List ℕ) (from end i : ℕ) → i ≡ firstRequired T from (end - from) → i ≤ end → end ≤ i → firstRequired T from (end - from) ≡ end
+bare-end T from end i e h l = let z : i ≡ end = omega arith in sym e ∙ z
+
+-- so is every later row
+bare-more : (T : List ℕ) (end r : ℕ) → firstRequired T r (end - r) ≡ end → (d : ℕ) → r + d ≤ end → firstRequired T (r + d) (end - (r + d)) ≡ end
+bare-more T end r e zero h = rw (add-zero r) e
+bare-more T end r e (suc d) h = go (eqb (mark T (r + d)) 0) refl (bare-more T end r e d (omega arith))
+  where
+    go : (b : Bool) → eqb (mark T (r + d)) 0 ≡ b → firstRequired T (r + d) (end - (r + d)) ≡ end → firstRequired T (r + suc d) (end - (r + suc d)) ≡ end
+    go true q i = absurd (omega (arith, sym (required-here T (r + d) end (omega arith) (eqb-true (mark T (r + d)) 0 q)) ∙ i))
+    go false q i =
+        let z : r + d + 1 ≡ r + suc d = omega arith in
+        subst (λ (j : ℕ). firstRequired T j (end - j) ≡ end) z (sym (required-past T (r + d) end (omega arith) (eqb-false (mark T (r + d)) 0 q)) ∙ i)
+
+pub bare-later : (T : List ℕ) (r end : ℕ) → firstRequired T r (end - r) ≡ end → (m : ℕ) → r ≤ m → m ≤ end → end ≡ firstRequired T m (end - m)
+bare-later T r end e m l h = let z : r + (m - r) ≡ m = omega arith in sym (subst (λ (j : ℕ). firstRequired T j (end - j) ≡ end) z (bare-more T end r e (m - r) (omega arith)))
 
 -- four marks at a time
 some-mark : (a b c d : ℕ) → (bitAnd (bitAnd (bitAnd a b) c) d ≡ 0 → ⊥) → (a ≡ 0 → ⊥) × (b ≡ 0 → ⊥) × (c ≡ 0 → ⊥) × (d ≡ 0 → ⊥)

@@ -3,10 +3,12 @@
 --   typeRowOf, memberRowOf     type row t; member row m
 --   IsTypeRow, IsMemberRow     what the code answers for them: each field is the table's, and small
 --   greatestOf                 the greatest enumerator of an enum row
-use Prim.Native.Nat.{ℕ, _+_, _*_, _<_}
+--   Whole                      the member rows before a row are members of the table and lie inside it
+use Prim.Native.Nat.{ℕ, _+_, _*_, _≤_, _<_}
 use mathlib.Core.Path.{_≡_}
 use mathlib.Core.List.{List}
-use Rattle.encoding.specs.Table.{kind, spare, field, memberType, mark, memberSpare, tag}
+use lib.ListN.{length}
+use Rattle.encoding.specs.Table.{kind, spare, field, members, memberAt, memberType, mark, memberSpare, tag}
 use Rattle.table.specs.declared.TypeRow.{TypeRow}
 use Rattle.table.specs.declared.MemberRow.{MemberRow}
 
@@ -52,3 +54,7 @@ pub record IsMemberRow (T : List ℕ) (m : ℕ) (r : MemberRow) : Type 0 where
   pub mark-small : r .mark < 256
   pub spare-small : r .spare < 256
   pub tag-small : r .tag < 4294967296
+
+pub record Whole (T : List ℕ) (end : ℕ) : Type 0 where
+  pub few : end ≤ members T
+  pub inside : memberAt T end ≤ length T

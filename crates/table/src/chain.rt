@@ -7,7 +7,7 @@ ghost use lib.ListN.{length};
 ghost use lib.Dec.{eqb};
 ghost use Rattle.encoding.specs.Table.{any, field, typesAt, membersAt, memberAt, takes, lookup, base, chain};
 ghost use Rattle.table.specs.Found.{memberFound};
-ghost use Rattle.table.specs.Rows.{IsTypeRow};
+ghost use Rattle.table.specs.Rows.{IsTypeRow, Whole};
 ghost use Rattle.table.specs.Tags.{optionalFrom, firstRequired, hasOptional, behind};
 
 // The base row + 1, or 0 if row t has no base; a base that is not a smaller row is none.
@@ -164,6 +164,36 @@ pub fn required_from(table: &[u8], first: usize, m: usize, end: usize) -> usize
             return i;
         }
         i += 1;
+    }
+    end
+}
+
+// A row of m to `end` from which on no member row before `end` is required.
+pub fn bare_from(table: &[u8], first: usize, m: usize, end: usize) -> usize
+    requires { ⌜ (first ≡ membersAt (now table)) × (first < 1048576) ⌝ }
+    requires { ⌜ (m ≤ end) × (end ≤ 131072) ⌝ }
+    ensures { λ r. ⌜ (firstRequired (now (table .entry)) r (end - r) ≡ end) × (r ≤ end) ⌝ }
+{
+    let mut from = m;
+    let mut i = required_from(table, first, m, end);
+    while i < end {
+        from = i + 1;
+        i = required_from(table, first, from, end);
+    }
+    from
+}
+
+// `end`, if the member rows before it are members of the table and lie inside it; else 0.
+pub fn whole(table: &[u8], first: usize, end: usize) -> usize
+    requires { ⌜ (first ≡ membersAt (now table)) × (first < 1048576) ⌝ }
+    requires { ⌜ end ≤ 131072 ⌝ }
+    ensures { λ r. ⌜ (r ≤ end) × (0 < r → Whole (now (table .entry)) r) ⌝ }
+{
+    if crate::members(table) < end {
+        return 0;
+    }
+    if table.len() < crate::member_at(table, first, end) {
+        return 0;
     }
     end
 }

@@ -4,7 +4,8 @@ use native.Mathlib.Omega.{arith}
 use Prim.Native.Nat.{_+_, _-_, _^_, _<_}
 use lib.ListN.{length}
 use Rattle.optional.proofs.Lookups.{typed}
-use Rattle.level.proofs.Requireds.{Due, due-begin, due-run, due-next, due-fault, due-never, due-says, due-gives, due-room, due-place}
+use Rattle.level.specs.Due.{Due}
+use Rattle.level.proofs.Requireds.{due-begin, due-run, due-next, due-fault, due-never, due-says, due-gives, due-room, due-place}
 use Rattle.level.proofs.required.Statement.{statement}
 use Rattle.level.proofs.required.Tie as tie
 

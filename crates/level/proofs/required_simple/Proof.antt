@@ -1,51 +1,23 @@
--- The loop's invariant: the answer and the list follow from the rows that are left, and rows put over those that were put make the list as it was. The measure is the number of rows left. Assumes nothing.
+-- The members that may be any bytes are read first. If no required row is left then, they are all of them; else `required` begins anew, and its rows are put over those that were put. Assumes nothing.
 use borrow.Author.Needs.{needs}
-use mathlib.Core.Bool.{false}
 use native.Mathlib.Omega.{arith}
-use Prim.Native.Nat.{_+_, _-_, _^_, _<_}
-use lib.ListN.{length}
-use Rattle.level.specs.FillLaws.{Covered, covered-none, covered-next}
-use Rattle.level.proofs.Requireds.{Due}
-use Rattle.level.proofs.Simples.{simple-begin, simple-next, simple-room, last-says, last-gives, passed-on, anew-gives}
+use Rattle.level.proofs.Plain.{limit-whole, last-says, last-gives, passed-on, anew-gives}
 use Rattle.level.proofs.required_simple.Statement.{statement}
 use Rattle.level.proofs.required_simple.Tie as tie
-
-abbrev Inv-loop : tie.InvT-loop
-Inv-loop table begin first all shapes t from end s at count out₀ m₀ pos₀ k₀ out m pos k =
-    (at + length s < 2 ^ 63) × (count < 2 ^ 63) × Due false table t at count s out₀ m end pos k end out × Covered count k out out₀
-
-abbrev μ-loop : tie.MeasureT-loop
-μ-loop table begin first all shapes t from end s at count out₀ m₀ pos₀ k₀ out m pos k = end - m
 
 pub required-simple-spec : {M : Type 1} → statement M
 required-simple-spec =
     tie.close
     (tie.spec
-    Inv-loop
-    μ-loop
     (λ c κs. search needs)  -- required-requires
     (λ c κs. search needs)  -- same-requires
     (λ c. search needs)  -- same-length
     (λ c. (search passed-on, (search needs, search needs)))  -- returns
-    (λ c κs. search needs)  -- member-at-requires
+    (λ c κs. (search needs, (search needs, (search needs, (search limit-whole, (search needs, search needs))))))  -- simples-requires
+    (λ c κs. search needs)  -- required-from-requires
+    (λ c. search needs)  -- same-length-2
+    (λ c. (search last-says, (search needs, search last-gives)))  -- returns-2
     (λ c κs. search needs)  -- required-requires-2
     (λ c κs. search needs)  -- same-requires-2
-    (λ c. search needs)  -- same-length-2
-    (λ c. (search passed-on, (search needs, search needs)))  -- returns-2
-    (λ c. (search needs, search needs, search simple-begin, search covered-none))  -- loop-holds
-    (λ c. search needs)  -- sub-simple
-    (λ c κs. (search needs, (omega arith, search needs)))  -- simple-requires
-    (λ c. omega arith)  -- add-put-row
-    (λ c κs. search needs)  -- put-row-requires
-    (λ c. omega arith)  -- add-k
-    (λ c. search simple-room)  -- add-pos
-    (λ c. omega arith)  -- add-m
-    (λ c. omega arith)  -- loop-less
-    (λ c. (search needs, search needs, search simple-next, search (covered-next _ _ _ _ (c .before .before .before .before .before .before .before .loop .inv .3))))  -- loop-again
-    (λ c κs. search needs)  -- required-from-requires
     (λ c. search needs)  -- same-length-3
-    (λ c. (search last-says, (search needs, search last-gives)))  -- returns-3
-    (λ c κs. search needs)  -- required-requires-3
-    (λ c κs. search needs)  -- same-requires-3
-    (λ c. search needs)  -- same-length-4
-    (λ c. (search passed-on, (search needs, search anew-gives))))  -- returns-4
+    (λ c. (search passed-on, (search needs, search anew-gives))))  -- returns-3

@@ -1,7 +1,7 @@
 -- A required row whose type has a width, and as many bytes are left.
 use borrow.Author.Needs.{needs}
 use native.Mathlib.Omega.{arith}
-use Rattle.level.proofs.Simples.{simple-is}
+use Rattle.level.proofs.Plain.{simple-is}
 use Rattle.level.proofs.simple.Statement.{statement}
 use Rattle.level.proofs.simple.Tie as tie
 

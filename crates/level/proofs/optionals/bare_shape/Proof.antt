@@ -1,6 +1,6 @@
 -- A shape for each of the four type bits, and none for others.
 use Rattle.level.specs.Answers.{bareShape}
-use Rattle.level.proofs.Simples.{shape-at, shape-past}
+use Rattle.level.proofs.Plain.{shape-at, shape-past}
 use Rattle.level.proofs.optionals.bare_shape.Statement.{statement}
 use Rattle.level.proofs.optionals.bare_shape.Tie as tie
 

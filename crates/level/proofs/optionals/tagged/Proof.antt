@@ -1,7 +1,7 @@
--- The row is before the end and inside the table, is optional and has the tag.
+-- The row is before the limit, is optional and has the tag.
 use borrow.Author.Needs.{needs}
 use native.Mathlib.Omega.{arith}
-use Rattle.level.proofs.Simples.{tagged-is}
+use Rattle.level.proofs.Plain.{row-inside, tagged-is}
 use Rattle.level.proofs.optionals.tagged.Statement.{statement}
 use Rattle.level.proofs.optionals.tagged.Tie as tie
 
@@ -10,11 +10,7 @@ tagged-spec =
     tie.close
     (tie.spec
     (λ c h. absurd (omega arith))  -- returns
-    (λ c. search needs)  -- add-member-at
-    (λ c κs. search needs)  -- member-at-requires
+    (λ c κs. (search needs, search row-inside))  -- member-row-in-requires
     (λ c h. absurd (omega arith))  -- returns-2
-    (λ c κs. search needs)  -- member-row-in-requires
     (λ c h. absurd (omega arith))  -- returns-3
-    (λ c h. absurd (omega arith))  -- returns-4
-    (λ c κs. search needs)  -- type-of-requires
-    (λ c h. search tagged-is))  -- returns-5
+    (λ c h. search tagged-is))  -- returns-4

@@ -9,8 +9,6 @@ next-spec =
     tie.close
     (tie.spec
     (λ c κs. search needs)  -- simple-requires
-    (λ c κs. search needs)  -- byte-at-requires
-    (λ c κs. search needs)  -- tag-bits-requires
     (λ c. search next-simple)  -- returns
     (λ c κs. search needs)  -- optional-requires
     (λ c. search needs))  -- returns-2

@@ -1,5 +1,7 @@
 -- Members and optionals that may be any bytes, read without a call. Assumes nothing.
 --
+--   limit-whole         a limit that is not before the end is the end
+--   row-within, row-inside    a row before the limit is a member's and lies inside the table
 --   tagged-is           the member that a tag names, as the code finds it
 --   shape-at, shape-past, shape-least    the shape by type bits, that there is none for other bits, and that it is above 10
 --   simple-answer       a simple optional is what the reader of optionals gives
@@ -24,7 +26,7 @@ use borrow.Author.Tests.{lt-ltb, leb-true, leb-false, eqb-false}
 use Rattle.encoding.specs.Result.{Res, ok, bad, pick, shift, bytes, inside}
 use Rattle.encoding.specs.Value.{value}
 use Rattle.encoding.specs.Old.{membersAs}
-use Rattle.encoding.specs.Table.{at, members, field, memberType, mark, range, tyOf, trees, requiredsIn}
+use Rattle.encoding.specs.Table.{at, members, field, memberAt, memberType, mark, range, tyOf, trees, requiredsIn}
 use Rattle.encoding.specs.Table
 use Rattle.encoding.specs.Optional.{Piece, requireds, part, header, nextOptional}
 use Rattle.encoding.specs.Message.{rowBytes, pieceRows}
@@ -34,7 +36,7 @@ use Rattle.wire.specs.Steps.{bytesOf}
 use Rattle.wire.specs.Put.{put, formBits}
 use Rattle.table.specs.declared.FoundMember.the-variants.{At}
 use Rattle.table.specs.declared.MemberRow.{MemberRow}
-use Rattle.table.specs.Rows.{IsMemberRow}
+use Rattle.table.specs.Rows.{IsMemberRow, Whole}
 use Rattle.table.specs.Tags.{optionalFrom, optionalStart, firstRequired}
 use Rattle.table.proofs.Chains.{optionals-begin, optionals-here}
 use Rattle.shapes.specs.Shapes.{shapesOf, formCode, widthCode, shapeIn, formIn, widthIn}
@@ -43,7 +45,7 @@ use Rattle.value.proofs.CycleLaws.{row-wide}
 use Rattle.optional.specs.Forms.{formNamed, runWidth}
 use Rattle.optional.specs.FormsLaws.{bare-width}
 use Rattle.optional.specs.declared.Head.the-variants.{Known as Knows}
-use Rattle.optional.specs.Answers.{typeOf, typeRow, headOf}
+use Rattle.optional.specs.Answers.{typeRow, headOf}
 use Rattle.optional.proofs.Lookups.{type-here, typed}
 use Rattle.optional.proofs.Declared.{run-whole, part-run}
 use Rattle.optional.proofs.Heads.{front-short, early-fine, head-known}
@@ -56,25 +58,35 @@ use Rattle.level.specs.Answers.{membersOf, Simple, Tagged, bareShape, op
 use Rattle.level.specs.RequiredLaws.{required-count}
 use Rattle.level.proofs.Parts.{used-wide}
 use Rattle.level.proofs.Nexts.{next-known}
-use Rattle.level.proofs.Requireds.{Due, due-begin, due-next, due-run, due-says, due-gives}
+use Rattle.level.specs.Due.{Due}
+use Rattle.level.proofs.Requireds.{due-begin, due-next, due-run, due-says, due-gives}
 
 -- ---- an optional
 
-pub tagged-is : (T : List ℕ) (end row tag : ℕ) → row < end → (r : MemberRow) → IsMemberRow T row r → (r .mark ≡ 0 → ⊥) → tag ≡ r .tag
-    → (all : ℕ) → all ≡ members T → (t : ℕ) → t ≡ typeOf all row (r .of) → Tagged T end row tag t
-tagged-is T end row tag h r is o e all ea t et = record {
-  found = ap (At row) (sym (is .of-is)) ∙ optionals-here T end row tag row (optionals-begin T end row tag) h r is o e;
-  type-is = typed T row all (r .of) t ea (is .of-is) et;
-}
+pub limit-whole : (T : List ℕ) (limit end : ℕ) → (0 < limit → Whole T limit) → limit ≤ end → end ≤ limit → 0 < end → Whole T end
+limit-whole T limit end W h l z = let e : limit ≡ end = omega arith in subst (Whole T) e (W (omega arith))
+
+module _ (T : List ℕ) (limit : ℕ) (W : 0 < limit → Whole T limit) (row : ℕ) (h : row < limit) where
+  pub row-within : row < members T
+  row-within = omega (arith, W (omega arith) .few)
+
+  pub row-inside : memberAt T (row + 1) ≤ length T
+  row-inside = omega (arith, W (omega arith) .inside)
+
+  pub tagged-is : (end : ℕ) → limit ≤ end → (tag : ℕ) (r : MemberRow) → IsMemberRow T row r → (r .mark ≡ 0 → ⊥) → tag ≡ r .tag → Tagged T end row tag (r .of)
+  tagged-is end l tag r is o e = record {
+    found = ap (At row) (sym (is .of-is)) ∙ optionals-here T end row tag row (optionals-begin T end row tag) (omega arith) r is o e;
+    type-is = typed T row (members T) (r .of) (r .of) refl (is .of-is) (type-here (members T) row (r .of) row-within);
+  }
 
 -- optionals of row t have type bits k, one of F1 to F8, and width w
-record Bare (shapes : List ℕ) (t k w : ℕ) : Type 0 where
+record Fixed (shapes : List ℕ) (t k w : ℕ) : Type 0 where
   few : k < 4
   form-is : k ≡ formIn shapes t
   width-is : w ≡ widthIn shapes t
   some : 0 < w
 
-bare-is : (shapes : List ℕ) (t k x : ℕ) → x ≡ shapeIn shapes t → x < 256 → x ≡ bareShape k → Bare shapes t k (x - 10)
+bare-is : (shapes : List ℕ) (t k x : ℕ) → x ≡ shapeIn shapes t → x < 256 → x ≡ bareShape k → Fixed shapes t k (x - 10)
 unfolding bareShape formCode widthCode
 bare-is shapes t zero x ex l e = record { few = omega arith; form-is = rw (← ex, e); width-is = rw (← ex, e); some = omega arith }
 bare-is shapes t (suc zero) x ex l e = record { few = omega arith; form-is = rw (← ex, e); width-is = rw (← ex, e); some = omega arith }
@@ -102,7 +114,7 @@ shape-past (suc (suc (suc zero))) a b c d = absurd (d refl)
 shape-past (suc (suc (suc (suc k)))) a b c d = refl
 
 module _ (T shapes : List ℕ) (ef : shapes ≡ shapesOf T) (end row least : ℕ) (s : List ℕ) (b : ℕ) (eb : b ≡ at s 1 0) (tag : ℕ) (et : tag ≡ b / 8) (k : ℕ) (ek : k ≡ b % 8)
-    (low : tag < 30) (rises : least ≤ tag) (t : ℕ) (G : Tagged T end row tag t) (w : ℕ) (B : Bare shapes t k w) (there : w < length s) where
+    (low : tag < 30) (rises : least ≤ tag) (t : ℕ) (G : Tagged T end row tag t) (w : ℕ) (B : Fixed shapes t k w) (there : w < length s) where
   rest : List ℕ
   rest = take (length s - 1) (drop 1 s)
 
@@ -126,17 +138,16 @@ module _ (T shapes : List ℕ) (ef : shapes ≡ shapesOf T) (end row least : ℕ
       let l : w ≤ length rest = omega (arith, length-take-le (length s - 1) (drop 1 s) (omega (arith, length-drop 1 s))) in
       used-wide (formNamed k) rest (Is w w) (part-run rest k (Is w w) (B .few) w simple-run (run-whole rest w l)) w w refl T shapes ef t w (B .width-is) (B .some) refl
 
-  simple-known : Known row (at s 1 0 / 8) 1 (1 + w) ≡ optionalAnswer (optionalFrom T end row) (nextOptional (optionalFrom T end row) least s)
+  simple-known : Known row tag 1 (1 + w) ≡ optionalAnswer (optionalFrom T end row) (nextOptional (optionalFrom T end row) least s)
   unfolding rest
   simple-known =
       let z : 1 + (w - w) ≡ 1 = omega arith in
-      let e : at s 1 0 / 8 ≡ tag = ap (λ (x : ℕ). x / 8) (sym eb) ∙ sym et in
-      ap (λ (x : ℕ). Known row x 1 (1 + w)) e ∙ ap (λ (x : ℕ). Known row tag x (1 + w)) (sym z)
+      ap (λ (x : ℕ). Known row tag x (1 + w)) (sym z)
       ∙ next-known T end row least s _ simple-head row t tag 1 k refl (Is w w) simple-part w w refl
 
 pub simple-answer : (T shapes : List ℕ) → shapes ≡ shapesOf T → (end row least : ℕ) (s : List ℕ) (b : ℕ) → b ≡ at s 1 0 → (tag : ℕ) → tag ≡ b / 8 → (k : ℕ) → k ≡ b % 8
     → tag < 30 → least ≤ tag → (t : ℕ) → (t < 65536 → Tagged T end row tag t) → t < 65536 → (x : ℕ) → x ≡ shapeIn shapes t → x < 256 → (y : ℕ) → y ≡ bareShape k → x ≡ y → x - 10 < length s
-    → Known row (at s 1 0 / 8) 1 (1 + (x - 10)) ≡ optionalAnswer (optionalFrom T end row) (nextOptional (optionalFrom T end row) least s)
+    → Known row tag 1 (1 + (x - 10)) ≡ optionalAnswer (optionalFrom T end row) (nextOptional (optionalFrom T end row) least s)
 simple-answer T shapes ef end row least s b eb tag et k ek low rises t G small x ex l y ey e there =
     simple-known T shapes ef end row least s b eb tag et k ek low rises t (G small) (x - 10) (bare-is shapes t k x ex l (e ∙ ey)) there
 
