@@ -2,3 +2,4 @@
 pub mod Listing
 pub mod Bodies
 pub mod OldListing
+pub mod Plainly

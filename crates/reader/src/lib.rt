@@ -1,6 +1,7 @@
 // The walk over a message under a prepared table.
-// lists.rt has a parameter list; `slices` has the slices of a record, `pairs` the pairs of an exception in encoding 1.0.
+// lists.rt has a parameter list, plain.rt one whose members may be any bytes; `slices` has the slices of a record, `pairs` the pairs of an exception in encoding 1.0.
 pub mod lists;
+pub mod plain;
 
 ghost use mathlib.Core.Path.{_≡_};
 ghost use Prim.Native.Nat.{ℕ, _≤_};
@@ -19,6 +20,15 @@ ghost use Rattle.reader.specs.Takes.{Takes};
 use slices::Walk;
 use wire::Sized;
 use wire::Step;
+
+// What a caller that reads many messages finds once of table and top: `old` is what `judge_old` gives. If `stop` is above 0, the top is a parameter list that takes member rows `from` to `stop` - 1, all inside the table, whose member rows begin at `first`; from row `bare` on none of them is required.
+pub struct Seat {
+    pub old: usize,
+    pub first: usize,
+    pub from: usize,
+    pub stop: usize,
+    pub bare: usize,
+}
 
 // What a caller that walks more than once hands in as `old_use`: 1 where encoding 1.0 can be used with table and top, 2 where it cannot (26). So 26 is judged once for all messages.
 pub fn judge_old(table: &[u8], begin: usize, top: usize) -> usize
