@@ -50,7 +50,7 @@ use Rattle.optional.proofs.Lookups.{type-here, typed}
 use Rattle.optional.proofs.Declared.{run-whole, part-run}
 use Rattle.optional.proofs.Heads.{front-short, early-fine, head-known}
 use Rattle.level.specs.declared.Members.{Members}
-use Rattle.level.specs.declared.Members.the-variants.{Read, Refused}
+use Rattle.level.specs.declared.Members.the-variants.{Read}
 use Rattle.level.specs.declared.Optional.the-variants.{Known}
 use Rattle.level.specs.Fill.{fill}
 use Rattle.level.specs.FillLaws.{Covered}

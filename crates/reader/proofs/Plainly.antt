@@ -5,7 +5,7 @@
 --   plain-begin   at the first optional
 --   plain-read    at the end of the list
 --   plain-body    the whole message
-use mathlib.Core.Path.{_≡_, refl, sym, ap, _∙_}
+use mathlib.Core.Path.{_≡_, refl, sym, _∙_}
 use mathlib.Core.Bool.{false}
 use mathlib.Core.List.{List}
 use Prim.Native.Nat.{ℕ, _+_, _-_, _^_, _≤_, _<_}
@@ -27,7 +27,7 @@ use Rattle.reader.specs.declared.Seat.{Seat}
 use Rattle.reader.specs.OldUse.{OldUse}
 use Rattle.reader.specs.Takes.{Takes}
 use Rattle.reader.specs.Listing.{Listing}
-use Rattle.reader.specs.Seats.{Listed, Seated, PlainMembers, PlainList}
+use Rattle.reader.specs.Seats.{Seated, PlainMembers, PlainList}
 use Rattle.reader.proofs.Bodies.{capsule-new, ended-whole, new-list, new-list-gives, body-takes, body-new, body-new-gives}
 use Rattle.reader.proofs.Listing.{list-begin, listing-end, read-says, read-gives}
 

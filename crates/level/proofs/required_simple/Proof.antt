@@ -1,6 +1,5 @@
 -- The members that may be any bytes are read first. If no required row is left then, they are all of them; else `required` begins anew, and its rows are put over those that were put. Assumes nothing.
 use borrow.Author.Needs.{needs}
-use native.Mathlib.Omega.{arith}
 use Rattle.level.proofs.Plain.{limit-whole, last-says, last-gives, passed-on, anew-gives}
 use Rattle.level.proofs.required_simple.Statement.{statement}
 use Rattle.level.proofs.required_simple.Tie as tie
