@@ -2,8 +2,8 @@
 --
 --   val_le_bytes, le_bytes_val      a number written is the number read, and the other way round, of any width
 --   size_short, size_long         what a size is written as
---   -written, -canonical          what the encoder makes is read back; what was read is what the encoder makes
---   content_ok, -step             what a string may hold is text
+--   _written, _canonical          what the encoder makes is read back; what was read is what the encoder makes
+--   content_ok, _step             what a string may hold is text
 --   closed-                       each reader has every property that all ways of joining readers keep; framed- and held- are the frame and the extent
 --   eats-, starved-, ends-        of each reader, the last of those that deliver bytes
 use Rattle.std.specs.Prelude.{◌≡◌, Bool, true, false, ℕ, zero, suc, ◌+◌, ◌-◌, ◌*◌, ◌/◌, ◌%◌, ◌^◌, ◌≤◌, ◌<◌, length, take, drop, ltb}
@@ -13,9 +13,9 @@ use mathlib.Core.List.{List, [], ◌∷◌, ◌++◌, append_assoc}
 use Rattle.std.proofs.lemmas.Bool.{lt-leb}
 use Rattle.std.proofs.Math.Option.{Option}
 use Rattle.encoding.specs.Result.{Parser, ok, pick, ◌>>=◌, pure, chunk, item, must, first_of}
-use Rattle.encoding.specs.ResultLaws.{Closed, by_pick, held, pick_true, pick_judges, first_of_judges, none_judges, Bound, bind_ok, bind_step, bind_take, bind_written, pure_ok, chunk_ok, chunk_written, item_ok, item_step, must_ok, must_step, first_of_ok, Held, Ends, ends_chunk, ends_item, ends_bind, Eats, eats_chunk, eats_first, eats_item, eats_must, eats_mapc, Starved, starved_chunk, starved_item, starved_must, starved_bind}
+use Rattle.encoding.proofs.ResultLaws.{Closed, by_pick, held, pick_true, pick_judges, first_of_judges, none_judges, Bound, bind_ok, bind_step, bind_take, bind_written, pure_ok, chunk_ok, chunk_written, item_ok, item_step, must_ok, must_step, first_of_ok, Held, Ends, ends_chunk, ends_item, ends_bind, Eats, eats_chunk, eats_first, eats_item, eats_must, eats_mapc, Starved, starved_chunk, starved_item, starved_must, starved_bind}
 use Rattle.encoding.specs.Utf8.{is_utf8, Utf8}
-use Rattle.encoding.specs.Utf8Laws.{utf8_ok, utf8_step}
+use Rattle.encoding.proofs.Utf8Laws.{utf8_ok, utf8_step}
 use Rattle.encoding.specs.Number.{Bytes, val, le_bytes, negative, number, byte, bool_form, bool, size_form, size_tail, size, size_bytes, length_form, declared, Content, string, string_bytes}
 
 -- ---- bytes

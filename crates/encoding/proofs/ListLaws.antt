@@ -20,12 +20,12 @@ use Rattle.std.proofs.Math.ListN.{get_or-eq_default}
 use Rattle.std.proofs.Math.Dec.{eqb, leb}
 use borrow.Author.Tests.{eqb-true, eq-eqb, ltb-true, ltb-false, lt-ltb, leb-false, not-false}
 use Rattle.encoding.specs.Result.{pick}
-use Rattle.encoding.specs.ResultLaws.{both_true, both_false}
+use Rattle.encoding.proofs.ResultLaws.{both_true, both_false}
 use Rattle.encoding.specs.Types.{upto, only, allowed_of, short, int, long, float, double, Ty, broken, bool, byte, string, proxy, num, enum, struct, seq, dict}
 use Rattle.encoding.specs.Grammar.{Rises, ListRises, ListsRise, AllRise}
 use Rattle.encoding.specs.Table.{with_lists, types, members, member_type, kind, field, range, list_entry, entries_of, greatest, rises_to, has_list, allowed_rules, allowed, member_ty, member_tys, own_rows, row_ty, tys, type_rows, trees, ty_of, mark, tag, Member, lookup, requireds_in, optionals_in, required_members, optional_members, fine, faults}
-use Rattle.encoding.specs.TableLaws.{tys_at, length_tys}
-use Rattle.encoding.specs.RuleLaws.{list_right, list_test}
+use Rattle.encoding.proofs.TableLaws.{tys_at, length_tys}
+use Rattle.encoding.proofs.RuleLaws.{list_right, list_test}
 
 -- ---- the entries of a row
 

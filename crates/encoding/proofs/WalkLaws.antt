@@ -14,9 +14,9 @@ use mathlib.Core.List.{List, []}
 use Prim.Native.Nat.{ℕ, zero, suc, ◌+◌}
 use borrow.Author.Tests.{not-false, ne_eqb}
 use Rattle.encoding.specs.Result.{ok, bad, Parser, pick, ◌>>=◌, pure, fail, judged, must, made, mapc, shift, recall, recalled}
-use Rattle.encoding.specs.ResultLaws.{ok≢bad, first_of_ok, Bound, bind_ok, bind_step, bind_bad, bind_next, must_ok, must_step, mapc_ok, recall_ok, recall_step}
+use Rattle.encoding.proofs.ResultLaws.{ok≢bad, first_of_ok, Bound, bind_ok, bind_step, bind_bad, bind_next, must_ok, must_step, mapc_ok, recall_ok, recall_step}
 use Rattle.encoding.specs.Number.{byte, string}
-use Rattle.encoding.specs.NumberLaws.{byte_canonical}
+use Rattle.encoding.proofs.NumberLaws.{byte_canonical}
 use Rattle.encoding.specs.Slice.{Format, compact, sliced, is_sliced, Slice, bit, format_of_flags, Stand, later, mixed, due, flag_form, Head, head, Stage, stand_of, finished, meaning, Meaning, id_form, meaning_form, enter_slice, slice, Chain, ahead, unless_finished, walk}
 
 -- ---- flags and type ID

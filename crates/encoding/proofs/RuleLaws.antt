@@ -39,12 +39,12 @@ use Rattle.std.proofs.Math.ListN.{length-take}
 use Rattle.std.proofs.Math.Dec.{eqb, ltb}
 use borrow.Author.Tests.{eqb-true, eqb-false, leb-true, leb-false, ltb-true, ltb-false, le-leb, lt-ltb, eq-eqb, not-false}
 use Rattle.encoding.specs.Result.{pick, first_of, same_bytes}
-use Rattle.encoding.specs.ResultLaws.{both_true, both_false, either_false, same_bytes_ok, same_bytes_same}
+use Rattle.encoding.proofs.ResultLaws.{both_true, both_false, either_false, same_bytes_ok, same_bytes_same}
 use Rattle.encoding.specs.Utf8.{is_utf8, Utf8}
-use Rattle.encoding.specs.Utf8Laws.{utf8_ok}
+use Rattle.encoding.proofs.Utf8Laws.{utf8_ok}
 use Rattle.encoding.specs.Types.{Ty}
 use Rattle.encoding.specs.Table.{types, members, entries, kind, field, mark, tag, is_record, owns, takes, range, names_at, name_of, Fault, fine, fault, or_else, fault_at, any, header_tests, header_rules, taken_by, taken, no_base, alike, type_rules, entries_taken, allowed_rules, entries_rules, sum_rules, owner_of, tag_alike, member_rules, row_at, member_at, pass, passes, faults, search, named, base, upward, climb, chain, Member, member_ty, lookup, requireds_in, optionals_in, required_members, optional_members, own_rows, trees}
-use Rattle.encoding.specs.TableLaws.{header_most}
+use Rattle.encoding.proofs.TableLaws.{header_most}
 
 -- ---- passes
 

@@ -8,11 +8,9 @@
 --   cuts_told, zero_bytes_apart     bytes left out; a zero byte that is not 0
 use Rattle.std.specs.Prelude.{◌≡◌, refl, List, [], ◌∷◌, ◌++◌, map, ℕ, suc, take, drop}
 use Rattle.std.proofs.Math.Option.{none, some}
-use Rattle.encoding.specs.Result
-use Rattle.encoding.specs.Number
 use Rattle.encoding.specs.Types.{upto, short, int, long, float, double, Ty, nil, cons, bool, byte, string, proxy, num, enum, struct, seq, dict, broken}
 use Rattle.encoding.specs.Table
-use Rattle.encoding.specs.Cases.{computed}
+use Rattle.encoding.proofs.Cases.{computed}
 
 -- ---- the table
 

@@ -6,8 +6,8 @@
 --   old_written, old_refused      the writer in format 2; old_before_limit: 26 comes before 3
 use Rattle.std.specs.Prelude.{◌≡◌, refl, List, [], ◌∷◌, ◌++◌, map, ℕ, ◌+◌, length}
 use Rattle.encoding.specs.Write
-use Rattle.encoding.specs.Cases.{type_row, basic, reads, row_numbers, answer_numbers, res_numbers, asked, Case, refusal, computed}
-use Rattle.encoding.specs.RefusalCases.{records, lone, lone_optional, writer_computed, row}
+use Rattle.encoding.proofs.Cases.{type_row, basic, reads, row_numbers, answer_numbers, res_numbers, asked, Case, refusal, computed}
+use Rattle.encoding.proofs.RefusalCases.{records, lone, lone_optional, writer_computed, row}
 
 -- byte; exceptions B of a byte and D, base B, of a byte; class C of nothing; exceptions O of optional(1) byte and P, base O, of nothing
 abbrev old_records : List ℕ

@@ -14,9 +14,9 @@ use Prim.Native.Nat.{ℕ, ◌≤◌}
 use Rattle.std.proofs.Math.ListN.{length}
 use Rattle.std.proofs.Math.Dec.{ltb}
 use Rattle.encoding.specs.Result.{Res, ok, bad, Parser, pick, ◌>>=◌, skip}
-use Rattle.encoding.specs.ResultLaws.{Closed, by_pick, by_skip, by_times, framed, held, pick_judges, Framed, Held, Eats, eats_fail, eats_first, eats_next, eats_mapc, eats_must}
+use Rattle.encoding.proofs.ResultLaws.{Closed, by_pick, by_skip, by_times, framed, held, pick_judges, Framed, Held, Eats, eats_fail, eats_first, eats_next, eats_mapc, eats_must}
 use Rattle.encoding.specs.Number.{size, number}
-use Rattle.encoding.specs.NumberLaws.{closed_number, closed_byte, closed_bool, closed_size, closed_declared, closed_string, eats_number, eats_size, eats_string, eats_bool}
+use Rattle.encoding.proofs.NumberLaws.{closed_number, closed_byte, closed_bool, closed_size, closed_declared, closed_string, eats_number, eats_size, eats_string, eats_bool}
 use Rattle.encoding.specs.Proxy.{identity_form, identity, facet_form, text, facets, mode_form, endpoint, endpoints, versions, reference}
 use Rattle.encoding.specs.Proxy
 use Rattle.encoding.specs.Types.{allows, most, width, Ty, Tys, nil, cons, broken, bool, byte, string, proxy, old_proxy, num, enum, old_enum, struct, seq, dict, fixed, fixeds}

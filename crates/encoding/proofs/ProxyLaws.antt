@@ -1,15 +1,15 @@
 -- A proxy is exactly a byte string of the grammar of proxies: part by part, each by the law of its combinator.
 --
 --   takes_text, takes_bool, takes_proxy   of a string, a bool and a proxy
-use Rattle.std.specs.Prelude.{◌≡◌, refl, List, [], ◌∷◌, ◌++◌, Bool, ℕ, zero, suc, ◌+◌, ◌≤◌, length, eqb, ltb}
+use Rattle.std.specs.Prelude.{◌≡◌, refl, List, [], ◌∷◌, ◌++◌, Bool, ℕ, zero, suc, ◌≤◌, length, eqb, ltb}
 use Rattle.std.proofs.Common.{subst, append-nil, arith, length-append, ltb-true, ltb-false, lt-ltb, ne_eqb}
 use Rattle.encoding.specs.Result.{pick, pure, must, mapc, times}
-use Rattle.encoding.specs.ResultLaws.{pick_ok, pick_true}
+use Rattle.encoding.proofs.ResultLaws.{pick_ok, pick_true}
 use Rattle.encoding.specs.Number.{byte, bool_form, bool, declared}
 use Rattle.encoding.specs.Proxy.{identity_form, identity, facet_form, text, facets, mode_form, endpoint, endpoints, versions, reference, proxy}
 use Rattle.encoding.specs.Grammar.{◌⨾◌, both, Repeats, none, more, AnyBytes, ByteBelow, IsSize, IsString, IsText, AreFacets, IsEncapsulation, encapsulation, AreEndpoints, adapter, some, IsReference, IsProxy, is_nil, is_full}
 use Rattle.encoding.specs.Grammar
-use Rattle.encoding.specs.GrammarLaws.{Reads, Takes, reads_as, reads_must, reads_map, takes_map, reads_bind, takes_next, takes_then, takes_skip, takes_pure, takes_times, takes_below, reads_size, IntThen, after_int, reads_declared, reads_string}
+use Rattle.encoding.proofs.GrammarLaws.{Reads, Takes, reads_as, reads_must, reads_map, takes_map, reads_bind, takes_next, takes_then, takes_skip, takes_pure, takes_times, takes_below, reads_size, IntThen, after_int, reads_declared, reads_string}
 
 pub takes_text : Takes text IsText
 unfolding text

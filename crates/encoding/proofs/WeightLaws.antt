@@ -1,22 +1,22 @@
 -- What is taken is as long as what the encoder makes: the weight of each thing read, from sizes up to the pieces of one owner.
 --
---   -weight       the bytes that a reader took, as the length of the encoding of what it read
+--   _weight       the bytes that a reader took, as the length of the encoding of what it read
 use Rattle.std.specs.Prelude.{◌≡◌, refl, Bool, true, false, ◌&&◌, List, [], ◌∷◌, ◌++◌, ℕ, suc, ◌+◌, ◌-◌, ◌*◌, ◌/◌, ◌%◌, ◌<◌, length, drop, eqb, ltb}
 use Rattle.std.proofs.Common.{sym, ap, ◌∙◌, append_assoc, arith, length-append, length-take-le, drop-drop, ltb-true, lt-ltb, le-ltb}
 use Rattle.std.proofs.Math.Option.{Option, none, some}
 use Rattle.std.proofs.Math.Seq.{take-length}
 use Rattle.std.proofs.lemmas.Bool.{eqb-false}
 use Rattle.encoding.specs.Result.{ok, Parser, pick, ◌>>=◌, pure, chunk, item, must, mapc, bytes, inside, concat}
-use Rattle.encoding.specs.ResultLaws.{Bound, bind_ok, pure_ok, chunk_ok, item_ok, must_ok, mapc_ok, bytes_ok, inside_ok, first_of_ok, pick_true, Run, end, step, Held, held_took}
+use Rattle.encoding.proofs.ResultLaws.{Bound, bind_ok, pure_ok, chunk_ok, item_ok, must_ok, mapc_ok, bytes_ok, inside_ok, first_of_ok, pick_true, Run, end, step, Held, held_took}
 use Rattle.encoding.specs.Number.{byte, number, val, size_form, size_tail, size_bytes, string_bytes, length_form, declared, Content, string, le_bytes}
 use Rattle.encoding.specs.Number
-use Rattle.encoding.specs.NumberLaws.{held_size, size_form_ok, length_le_bytes}
+use Rattle.encoding.proofs.NumberLaws.{held_size, size_form_ok, length_le_bytes}
 use Rattle.encoding.specs.Types.{Bits, f1, f2, f4, f8, size, vsize, fsize, class, bits, bits_at, Form, bare, own, counted, sized, bits_of, form_of}
 use Rattle.encoding.specs.Value.{value}
-use Rattle.encoding.specs.ValueLaws.{held_value}
+use Rattle.encoding.proofs.ValueLaws.{held_value}
 use Rattle.encoding.specs.Table.{Member, lookup}
 use Rattle.encoding.specs.Optional.{Piece, required, optional, skipped, Header, first_form, header_tail, header_form, header, extent, part, content, next_optional, requireds, header_bytes, length_bytes, front_bytes, content_bytes, piece_bytes}
-use Rattle.encoding.specs.OptionalLaws.{Sound, Plain, form_of_sound, held_extent}
+use Rattle.encoding.proofs.OptionalLaws.{Sound, Plain, form_of_sound, held_extent}
 
 -- ---- numbers, sizes, strings
 

@@ -1,7 +1,7 @@
 -- The laws of the slices of a record: frame, extent and fuel of their readers.
 --
 --   closed-                      heads, fields, a known slice's data, slices, and the walk over them have every property that all ways of joining readers keep
---   some_form_ok, -step           bit 2 of the flags asks for at least one optional
+--   some_form_ok, _step           bit 2 of the flags asks for at least one optional
 --   eats-, starved-              of heads and slices
 --   Meant, meant_head            a meaning that is wrong has a refusal's number
 --   walk_ended, walk_on          the walk where the row without a base is read, and where it is not
@@ -17,12 +17,12 @@ use Prim.Native.Nat.{ℕ, zero, suc, ◌+◌, ◌≤◌}
 use Rattle.std.proofs.Math.ListN.{length-drop}
 use Rattle.std.proofs.Math.Dec.{eqb}
 use Rattle.encoding.specs.Result.{pick, same_bytes, Res, ok, bad, Parser, shift, after, ◌>>=◌, pure, fail, made, mapc, at_mark}
-use Rattle.encoding.specs.ResultLaws.{Closed, of_contents, Judges, by_pick, held, pick_judges, first_of_judges, none_judges, ok≢bad, Bound, bind_ok, bind_step, mapc_ok, mapc_step, Held, Eats, eats_must, eats_first, eats_recall, Starved, starved_must, starved_bind, starved_recall, at_mark_looks}
+use Rattle.encoding.proofs.ResultLaws.{Closed, of_contents, Judges, by_pick, held, pick_judges, first_of_judges, none_judges, ok≢bad, Bound, bind_ok, bind_step, mapc_ok, mapc_step, Held, Eats, eats_must, eats_first, eats_recall, Starved, starved_must, starved_bind, starved_recall, at_mark_looks}
 use Rattle.encoding.specs.Number.{byte}
-use Rattle.encoding.specs.NumberLaws.{closed_byte, closed_string, closed_declared, ends_declared, eats_byte, starved_byte}
+use Rattle.encoding.proofs.NumberLaws.{closed_byte, closed_string, closed_declared, ends_declared, eats_byte, starved_byte}
 use Rattle.encoding.specs.Table.{any, chain, named, required_members, optional_members, name_of, base}
-use Rattle.encoding.specs.Optional.{Piece, optionals}
-use Rattle.encoding.specs.OptionalLaws.{closed_optionals, closed_requireds}
+use Rattle.encoding.specs.Optional.{Piece}
+use Rattle.encoding.proofs.OptionalLaws.{closed_optionals, closed_requireds}
 use Rattle.encoding.specs.Slice.{Format, sliced, is_sliced, Slice, known, passed, bit, format_of_flags, Stand, first, later, due, flag_form, Head, head, some_form, fields, known_data, Stage, seek, follow, stand_of, finished, Meaning, skip, row, wrong, wrong_last, known_meaning, seek_meaning, is_none, meaning, id_form, meaning_form, enter_slice, slice, Chain, ahead, unless_finished, walk, slices}
 
 -- ---- flags and type ID

@@ -14,7 +14,7 @@ use Rattle.std.specs.Prelude.{◌≡◌, refl, List, [], ◌∷◌, ◌++◌, ma
 use Rattle.encoding.specs.Result
 use Rattle.encoding.specs.Message
 use Rattle.encoding.specs.Write
-use Rattle.encoding.specs.Cases.{type_row, basic, parameters, need, may, table_of, reads, row_numbers, answer_numbers, res_numbers, asked, table4, Case, refusal, computed}
+use Rattle.encoding.proofs.Cases.{type_row, basic, parameters, need, may, table_of, reads, row_numbers, answer_numbers, res_numbers, asked, table4, Case, refusal, computed}
 
 -- ---- tables and messages
 

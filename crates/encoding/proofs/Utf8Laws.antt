@@ -3,16 +3,16 @@
 --   RangeOf                the row that a first byte finds, if any; range_following, following_range: it is what `following` gives
 --   InRanges               bytes within the ranges due, one each; ranges_pass, pass_ranges: after them a character may begin
 --   none_stays             after a wrong byte nothing is text
---   bytes-..               the bytes of a scalar value by its digits of six bits
+--   bytes_..               the bytes of a scalar value by its digits of six bits
 --   Spells, spelt          a scalar value with these bytes; each row of the ranges spells one
---   first-..               what is due after a first byte, by its range
+--   first_..               what is due after a first byte, by its range
 --   below_or               by cases: below a number, or not
 --   utf8_ok, utf8_step     what the test accepts is the encoding of scalar values, and the encoding of scalar values is accepted
 use Rattle.std.specs.Prelude.{◌≡◌, refl, Bool, true, false, List, [], ◌∷◌, ◌++◌, ℕ, zero, suc, ◌+◌, ◌-◌, ◌*◌, ◌/◌, ◌%◌, ◌≤◌, ◌<◌, length, leb, ltb}
 use Rattle.std.proofs.Common.{sym, ap, ap₂, ◌∙◌, true≢false, arith, length-append, leb-true, le-leb, lt-ltb, le-ltb, ltb-true, ltb-false}
 use Rattle.std.proofs.Math.Option.{Option, none, some}
 use Rattle.encoding.specs.Result.{pick, concat}
-use Rattle.encoding.specs.ResultLaws.{both_true, some≢none}
+use Rattle.encoding.proofs.ResultLaws.{both_true, some≢none}
 use Rattle.encoding.specs.Utf8.{Bounds, in_bounds, any_later, characters, following, advance, advance_all, at_boundary, is_utf8, Scalar, Scalars, six_bits, scalar_bytes, Utf8}
 
 -- ---- first bytes
@@ -193,6 +193,7 @@ spelt x (on _ (on _ (on _ (on _ (on _ (on _ (on _ (here h k)))))))) (next {y} a 
     spells_four x y z w (omega arith) a b c d e f (omega arith) (omega arith)
 spelt x (on _ (on _ (on _ (on _ (on _ (on _ (on _ (on _ (here h k))))))))) (next {y} a b (next {y = z} c d (next {y = w} e f done))) =
     spells_four x y z w (omega arith) a (omega arith) c d e f (omega arith) (omega arith)
+spelt x (on _ (on _ (on _ (on _ (on _ (on _ (on _ (on _ (on _ past))))))))) _ = elim past [ ]
 
 -- the number bounds the bytes left
 text_of : (n : ℕ) (b : List ℕ) → length b < n → advance_all (some []) b ≡ some [] → Utf8 b

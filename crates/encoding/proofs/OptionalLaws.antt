@@ -14,12 +14,12 @@ use Rattle.std.proofs.Math.Option.{Option, none, some}
 use mathlib.Core.List.{List, [], ◌∷◌, ◌++◌}
 use Prim.Native.Nat.{ℕ, suc, ◌/◌, ◌%◌, ◌^◌, ◌≤◌, ◌<◌}
 use Rattle.encoding.specs.Result.{Parser, ok, pick, fail, chunk, many}
-use Rattle.encoding.specs.ResultLaws.{Closed, Judges, by_pick, framed, held, many_fuel, pick_judges, first_of_judges, none_judges, ok≢bad, Bound, bind_ok, bind_take, chunk_ok, item_ok, bytes_ok, Framed, Held, Ends, ends_chunk, ends_bytes, ends_item, ends_bind, Eats, eats_must, eats_first, Starved, starved_must, starved_bind, many_enough}
+use Rattle.encoding.proofs.ResultLaws.{Closed, Judges, by_pick, framed, held, many_fuel, pick_judges, first_of_judges, none_judges, ok≢bad, Bound, bind_ok, bind_take, chunk_ok, item_ok, bytes_ok, Framed, Held, Ends, ends_chunk, ends_bytes, ends_item, ends_bind, Eats, eats_must, eats_first, Starved, starved_must, starved_bind, many_enough}
 use Rattle.encoding.specs.Number.{Bytes, size_bytes}
 use Rattle.encoding.specs.Number
-use Rattle.encoding.specs.NumberLaws.{closed_byte, closed_size, closed_declared, held_size, ends_declared, eats_byte, starved_byte, size_canonical, declared_canonical}
+use Rattle.encoding.proofs.NumberLaws.{closed_byte, closed_size, closed_declared, held_size, ends_declared, eats_byte, starved_byte, size_canonical, declared_canonical}
 use Rattle.encoding.specs.Types.{Ty, short, int, long, float, double, broken, bool, byte, string, proxy, old_proxy, num, enum, old_enum, struct, seq, dict, fixed, fixeds, single, Bits, f1, f2, f4, f8, size, vsize, fsize, class, bits_at, Form, bare, own, counted, sized, bits_of, form_of}
-use Rattle.encoding.specs.ValueLaws.{closed_value}
+use Rattle.encoding.proofs.ValueLaws.{closed_value}
 use Rattle.encoding.specs.Table.{Member, lookup}
 use Rattle.encoding.specs.Optional.{Piece, Header, first_form, header_tail, header_form, header, extent, part, content, next_optional, optionals, requireds, length_bytes, required, optional, skipped}
 

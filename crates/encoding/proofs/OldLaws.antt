@@ -19,14 +19,14 @@ use mathlib.Core.List.{List, [], ◌∷◌, map}
 use Prim.Native.Nat.{ℕ, zero, suc, ◌+◌, ◌≤◌}
 use Rattle.std.proofs.Math.ListN.{length-drop}
 use Rattle.encoding.specs.Result.{Res, ok, bad, Parser, pick, shift, after, ◌>>=◌, pure, fail, must, made, mapc, same_bytes}
-use Rattle.encoding.specs.ResultLaws.{Closed, Judges, by_pick, held, ok≢bad, both_true, Bound, bind_ok, bind_step, must_ok, must_step, mapc_ok, mapc_step, pure_ok, Held, Eats, eats_first, eats_must, Starved, starved_bind, starved_must}
+use Rattle.encoding.proofs.ResultLaws.{Closed, Judges, by_pick, held, ok≢bad, both_true, Bound, bind_ok, bind_step, must_ok, must_step, mapc_ok, mapc_step, pure_ok, Held, Eats, eats_first, eats_must, Starved, starved_bind, starved_must}
 use Rattle.encoding.specs.Number
-use Rattle.encoding.specs.NumberLaws.{closed_declared, closed_string, ends_declared, eats_string, starved_string}
+use Rattle.encoding.proofs.NumberLaws.{closed_declared, closed_string, ends_declared, eats_string, starved_string}
 use Rattle.encoding.specs.Types.{Ty, Tys, nil, cons, broken, bool, byte, string, proxy, old_proxy, num, enum, old_enum, struct, seq, dict, fixed, fixeds}
 use Rattle.encoding.specs.Grammar.{ListsRise, AllRise}
-use Rattle.encoding.specs.ListLaws.{MembersRise}
+use Rattle.encoding.proofs.ListLaws.{MembersRise}
 use Rattle.encoding.specs.Table.{Member, required_members, name_of, named, base}
-use Rattle.encoding.specs.OptionalLaws.{closed_requireds}
+use Rattle.encoding.proofs.OptionalLaws.{closed_requireds}
 use Rattle.encoding.specs.Slice.{Slice, known, passed, Meaning, skip, row, wrong, meaning_form}
 use Rattle.encoding.specs.Old.{as_old, as_olds, type_as, old_member, members_as, descends, PairStage, any_pair, pair_of, first_meaning, pair_meaning, enter_pair, id_pair, none_due, walk_pairs, id_pairs}
 

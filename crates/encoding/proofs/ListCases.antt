@@ -11,8 +11,8 @@ use Rattle.std.specs.Prelude.{◌≡◌, refl, true, false, List, [], ◌∷◌,
 use Rattle.encoding.specs.Types.{upto, only, allows, byte, enum, broken}
 use Rattle.encoding.specs.Table
 use Rattle.encoding.specs.Message
-use Rattle.encoding.specs.Cases.{answer_numbers, row_numbers, refusal, computed}
-use Rattle.encoding.specs.TableCases.{Change, change, changed, told}
+use Rattle.encoding.proofs.Cases.{answer_numbers, row_numbers, refusal, computed}
+use Rattle.encoding.proofs.TableCases.{Change, change, changed, told}
 
 -- ---- the table
 

@@ -1,7 +1,7 @@
 -- What a list of allowed enumerators allows: on a list that rises the search finds exactly its entries.
 --
 --   searched_none                   nothing is found where nothing is left
---   searched_here, -after, -before  a step of the search: the middle entry is the number, is below it, is above it
+--   searched_here, _after, _before  a step of the search: the middle entry is the number, is below it, is above it
 --   rises_apart                     on a list that rises a later entry is greater
 --   allows_among, among_allows      what an enum allows it has, and the other way round
 --   most_greatest                   `most` is the greatest, where there is one

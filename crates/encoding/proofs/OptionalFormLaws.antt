@@ -6,7 +6,7 @@ use Rattle.std.specs.Prelude.{◌≡◌, refl, Bool, true, false, ◌&&◌, ◌�
 use Rattle.std.proofs.Common.{sym, ap, ◌∙◌, subst, true≢false, inl, inr, ⊎_elim}
 use Rattle.std.proofs.lemmas.Bool.{false≢true}
 use Rattle.encoding.specs.Result.{pick}
-use Rattle.encoding.specs.ResultLaws.{both_true}
+use Rattle.encoding.proofs.ResultLaws.{both_true}
 use Rattle.encoding.specs.Types.{Num, short, int, long, float, double, Ty, Tys, nil, cons, broken, bool, byte, string, proxy, old_proxy, num, enum, old_enum, struct, seq, dict, fixed, fixeds, single, Form, own, counted, sized, form_of}
 use Rattle.encoding.specs.OptionalForm.{FixedSize, a_bool, a_byte, a_number, a_struct, FixedSizes, no_more, one_more, HasForm, bool_f1, byte_f1, short_f2, int_f4, float_f4, long_f8, double_f8, enum_size, string_own, bools_own, bytes_own, struct_counted, sequence_counted, dictionary_counted, struct_sized, sequence_sized, dictionary_sized, proxy_sized, old_proxy_sized, old_enum_sized, broken_sized}
 

@@ -1,6 +1,6 @@
 -- The laws of readers, once per combinator.
 --
---   -ok, -step         what follows from acceptance by a combinator; when it accepts
+--   _ok, _step         what follows from acceptance by a combinator; when it accepts
 --   both-, either-     tests joined; same_bytes_ok, same_bytes_same: equal lists
 --   shift_shift        moved twice
 --   Framed p           the frame: where p accepts, it looks at nothing but what it takes

@@ -15,15 +15,15 @@ use Rattle.std.proofs.Math.ListN.{take}
 use Rattle.std.proofs.Math.Dec.{eqb}
 use Rattle.std.proofs.lemmas.Bool.{eqb-false}
 use Rattle.encoding.specs.Result.{Res, ok, bad, Parser, pick, shift, after, ◌>>=◌, pure, fail, chunk, at_first, item, judged, must, made, mapc, bytes, recalled, recall, leave, enter, inside, turn, many}
-use Rattle.encoding.specs.ResultLaws.{Closed, of_contents, Judges, chunk_ok, BindRefused, at_first_lem, at_next, bind_refused, MustRefused, by_reader, by_judge, must_refused}
+use Rattle.encoding.proofs.ResultLaws.{Closed, of_contents, Judges, chunk_ok, BindRefused, at_first_lem, at_next, bind_refused, MustRefused, by_reader, by_judge, must_refused}
 use Rattle.encoding.specs.Number.{val, number, byte}
-use Rattle.encoding.specs.NumberLaws.{closed_byte}
+use Rattle.encoding.proofs.NumberLaws.{closed_byte}
 use Rattle.encoding.specs.Table.{kind, Member, required_members}
 use Rattle.encoding.specs.Optional.{requireds}
-use Rattle.encoding.specs.OptionalLaws.{closed_requireds}
+use Rattle.encoding.proofs.OptionalLaws.{closed_requireds}
 use Rattle.encoding.specs.Old.{members_as, lead_form, id_pairs}
-use Rattle.encoding.specs.OldLaws.{closed_id_pairs}
-use Rattle.encoding.specs.MessageLaws.{closed_rest}
+use Rattle.encoding.proofs.OldLaws.{closed_id_pairs}
+use Rattle.encoding.proofs.MessageLaws.{closed_rest}
 use Rattle.encoding.specs.Message.{list, exception, v10, Read, contents, old_contents, ended}
 
 abbrev pub Told : {A : Type 0} → Bool → Res A → Type 0

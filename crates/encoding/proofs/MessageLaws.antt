@@ -20,16 +20,16 @@ use Rattle.std.proofs.Math.Seq.{drop_at}
 use Rattle.std.proofs.Math.Dec.{eqb, ltb}
 use borrow.Author.Tests.{not-false, eqb-true, eqb-false, leb-false, ltb-false, le-ltb, eq-eqb, ne_eqb}
 use Rattle.encoding.specs.Result.{ok, Parser, pick, shift, ◌>>=◌, must, at_end, at_mark, first_of, concat}
-use Rattle.encoding.specs.ResultLaws.{Closed, Lies, by_pick, held, pick_judges, at_mark_looks, ok≢bad, either_false, first_of_ok, pick_ok, Bound, bind_ok, bind_next, bind_step, chunk_ok, must_ok, must_step, Held, at_end_fits}
+use Rattle.encoding.proofs.ResultLaws.{Closed, Lies, by_pick, held, pick_judges, at_mark_looks, ok≢bad, either_false, first_of_ok, pick_ok, Bound, bind_ok, bind_next, bind_step, chunk_ok, must_ok, must_step, Held, at_end_fits}
 use Rattle.encoding.specs.Number.{byte, val, number, le_bytes}
-use Rattle.encoding.specs.NumberLaws.{closed_byte, length_le_bytes, number_written}
+use Rattle.encoding.proofs.NumberLaws.{closed_byte, length_le_bytes, number_written}
 use Rattle.encoding.specs.Table.{types, kind, Fault, fine, fault, faults, required_members, optional_members}
 use Rattle.encoding.specs.Optional.{Piece}
-use Rattle.encoding.specs.OptionalLaws.{closed_optionals, closed_requireds}
+use Rattle.encoding.proofs.OptionalLaws.{closed_optionals, closed_requireds}
 use Rattle.encoding.specs.Slice.{sliced, Chain}
-use Rattle.encoding.specs.SliceLaws.{closed_slices}
+use Rattle.encoding.proofs.SliceLaws.{closed_slices}
 use Rattle.encoding.specs.Old.{members_as, no_old, lead_form}
-use Rattle.encoding.specs.OldLaws.{closed_id_pairs}
+use Rattle.encoding.proofs.OldLaws.{closed_id_pairs}
 use Rattle.encoding.specs.Message.{list, exception, class, Encoding, v10, v11, Read, minor, encapsulate, parameters, marker_form, contents, old_contents, outer_form, version10, version11, version_form, old_form, outer, after_version, ended, body, no_top, limit, after_rules, refused_first, rules, Row, row_bytes}
 
 ended_in : {A : Type 0} (a : A) (xs : List ℕ) → Lies (length xs) (ended a xs)

@@ -9,16 +9,16 @@ use Rattle.std.proofs.Common.{sym, ap, ◌∙◌, subst, append-nil, arith, leb-
 use Rattle.std.proofs.Math.Seq.{take-length}
 use Rattle.std.proofs.lemmas.Bool.{lt-leb}
 use Rattle.encoding.specs.Result.{Parser, ok, pick, chunk, skip, mapc, bytes}
-use Rattle.encoding.specs.ResultLaws.{pick_true, bytes_ok, bytes_step, mapc_ok, mapc_step}
+use Rattle.encoding.proofs.ResultLaws.{pick_true, bytes_ok, bytes_step, mapc_ok, mapc_step}
 use Rattle.encoding.specs.Types.{Allowed, allows, most, Num, short, int, long, float, double, width, Ty, Tys, nil, cons, broken, bool, byte, string, proxy, old_proxy, num, enum, old_enum, struct, seq, dict, Bits, f1, f2, f4, f8, size, vsize, fsize, class}
 use Rattle.encoding.specs.Number.{val, number}
 use Rattle.encoding.specs.Value.{enum_form, enum_width, value, values, exact}
-use Rattle.encoding.specs.ValueLaws.{exact_ok, exact_step}
+use Rattle.encoding.proofs.ValueLaws.{exact_ok, exact_step}
 use Rattle.encoding.specs.Optional.{extent}
 use Rattle.encoding.specs.Grammar.{IsInt, IsSize, AnyBytes, IsNum, Among, IsEnum, enumerator, OldWidth, a_byte, a_short, an_int, IsOldEnum, old_enumerator, IsValue, AreValues, IsSizeAlone, alone, IsVSize, vsize_of, IsFSize, fsize_of, IsExtent, ListRises, ListsRise, AllRise}
-use Rattle.encoding.specs.GrammarLaws.{Reads, Takes, reads_as, reads_must, takes_map, takes_then, reads_fail, reads_chunk, takes_skip, takes_pure, takes_counted, reads_size, SizeThen, after_size, reads_sized, IntThen, after_int, reads_declared}
-use Rattle.encoding.specs.AllowedLaws.{allows_among, among_allows, most_greatest}
-use Rattle.encoding.specs.ProxyLaws.{takes_text, takes_bool, takes_proxy}
+use Rattle.encoding.proofs.GrammarLaws.{Reads, Takes, reads_as, reads_must, takes_map, takes_then, reads_fail, reads_chunk, takes_skip, takes_pure, takes_counted, reads_size, SizeThen, after_size, reads_sized, IntThen, after_int, reads_declared}
+use Rattle.encoding.proofs.AllowedLaws.{allows_among, among_allows, most_greatest}
+use Rattle.encoding.proofs.ProxyLaws.{takes_text, takes_bool, takes_proxy}
 
 -- ---- values
 

@@ -9,9 +9,9 @@
 use Rattle.std.specs.Prelude.{◌≡◌, refl, Bool, true, false, List, [], ◌∷◌, ◌++◌, ℕ, zero, suc, ◌+◌, ◌-◌, ◌≤◌, ◌<◌, length, take, drop, ltb}
 use Rattle.std.proofs.Common.{sym, ap, ◌∙◌, subst, arith, length-take-le, ltb-true, ltb-false, lt-ltb}
 use Rattle.encoding.specs.Result.{ok, Parser, pick, ◌>>=◌, pure, fail, chunk, skip, item, must, mapc, times}
-use Rattle.encoding.specs.ResultLaws.{ok≢bad, pick_true, Bound, bind_ok, bind_take, bind_written, pure_ok, chunk_ok, chunk_written, item_ok, item_step, must_ok, must_step, mapc_ok, mapc_step}
+use Rattle.encoding.proofs.ResultLaws.{ok≢bad, pick_true, Bound, bind_ok, bind_take, bind_written, pure_ok, chunk_ok, chunk_written, item_ok, item_step, must_ok, must_step, mapc_ok, mapc_step}
 use Rattle.encoding.specs.Number.{Short, val, number, byte, size_form, size_tail, size, length_form, declared, Content, string}
-use Rattle.encoding.specs.NumberLaws.{content_ok, content_step, byte_written, byte_canonical, size_form_ok, size_form_step, length_form_ok, length_form_step}
+use Rattle.encoding.proofs.NumberLaws.{content_ok, content_step, byte_written, byte_canonical, size_form_ok, size_form_step, length_form_ok, length_form_step}
 use Rattle.encoding.specs.Grammar.{◌⨾◌, both, Repeats, none, more, Counted, counted, AnyBytes, ByteBelow, below, IsInt, IsSize, one_byte, with_int, IsString, spelt}
 
 pub record Reads {A : Type 0} (p : Parser A) (P : A → List ℕ → Type 0) : Type 0 where

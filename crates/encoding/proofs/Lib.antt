@@ -1,0 +1,26 @@
+-- The laws of the definitions of specs/.
+pub mod AllowedLaws
+pub mod Cases
+pub mod ExactLaws
+pub mod GrammarLaws
+pub mod ListCases
+pub mod ListLaws
+pub mod MessageLaws
+pub mod NumberLaws
+pub mod OldCases
+pub mod OldLaws
+pub mod OptionalFormLaws
+pub mod OptionalLaws
+pub mod ProxyLaws
+pub mod RefusalCases
+pub mod RefusalLaws
+pub mod ResultLaws
+pub mod RuleLaws
+pub mod SliceLaws
+pub mod TableCases
+pub mod TableLaws
+pub mod TypesLaws
+pub mod Utf8Laws
+pub mod ValueLaws
+pub mod WalkLaws
+pub mod WeightLaws
