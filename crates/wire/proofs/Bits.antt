@@ -4,7 +4,7 @@
 --   over_none        bits from the k-th on
 --   header_masked    tag bits above type bits
 --   flags_joined     the flags' bits, each by its worth
---   form-..          the type bits of a form's number, by its range
+--   form_..          the type bits of a form's number, by its range
 use mathlib.Core.Path.{◌≡◌, refl, ap, ◌∙◌}
 use mathlib.Core.Bool.{Bool, true, false, not}
 use Prim.Native.Nat.{ℕ, zero, suc, ◌+◌, ◌*◌, ◌/◌, ◌%◌, ◌^◌, ◌-◌, ◌≤◌, ◌<◌}

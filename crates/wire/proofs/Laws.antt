@@ -3,9 +3,9 @@
 --   short_is, int_is      two bytes, and two shorts, all inside; long_whole: two ints
 --   long_is               two ints of the part that begins at the place
 --   short_cut, int_cut    a number that the end cuts off
---   size-..               the cases of `size`
---   declared-..           the cases of `declared`
---   counted-..            the cases of a size and that many bytes; size_within: the size lies within the bytes at hand
+--   size_..               the cases of `size`
+--   declared_..           the cases of `declared`
+--   counted_..            the cases of a size and that many bytes; size_within: the size lies within the bytes at hand
 use mathlib.Core.Path.{◌≡◌, sym, ◌∙◌}
 use mathlib.Core.Bool.{Bool, false}
 use mathlib.Core.List.{List}
@@ -17,10 +17,10 @@ use lib.Seq.{length-take-le}
 use lib.Dec.{leb}
 use borrow.Author.Tests.{le-leb, lt-leb, lt-ltb, le-ltb}
 use Rattle.encoding.specs.Result.{shift, after, ◌>>=◌, pure, chunk, at_first, item, judged, must, first_of}
-use Rattle.encoding.specs.ResultLaws.{held_took}
+use Rattle.encoding.proofs.ResultLaws.{held_took}
 use Rattle.encoding.specs.Table.{at}
 use Rattle.encoding.specs.Number.{negative, number, byte, size_form, size_tail, size, length_form, declared}
-use Rattle.encoding.specs.NumberLaws.{held_size}
+use Rattle.encoding.proofs.NumberLaws.{held_size}
 use Rattle.encoding.specs.Types.{vsize}
 use Rattle.encoding.specs.Optional.{extent}
 use Rattle.wire.specs.declared.Step.TheVariants.{Took, Fault}

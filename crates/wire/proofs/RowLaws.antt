@@ -12,10 +12,10 @@ use lib.ListN.{length, take, drop, length-append, drop_of_length-le}
 use lib.Seq.{drop-drop}
 use borrow.Rule.Slice.PartMut.{put_mid}
 use Rattle.encoding.specs.Number.{le_bytes}
-use Rattle.encoding.specs.NumberLaws.{length_le_bytes}
+use Rattle.encoding.proofs.NumberLaws.{length_le_bytes}
 use Rattle.encoding.specs.Table.{at}
 use Rattle.encoding.specs.Message.{Row, row_bytes}
-use Rattle.encoding.specs.MessageLaws.{length_row}
+use Rattle.encoding.proofs.MessageLaws.{length_row}
 use Rattle.encoding.specs.Write.{row_at}
 use Rattle.wire.specs.At.{at_within}
 use Rattle.wire.specs.Put.{put}

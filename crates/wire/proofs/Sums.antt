@@ -12,7 +12,7 @@ use lib.ListN.{length, take, drop}
 use mir.Syntax.{w64}
 use mir.Val.{Fits}
 use Rattle.encoding.specs.Result.{Parser}
-use Rattle.encoding.specs.ResultLaws.{Held}
+use Rattle.encoding.proofs.ResultLaws.{Held}
 use Rattle.wire.specs.declared.Step.{Step}
 use Rattle.wire.specs.declared.Step.TheVariants.{Took, Fault}
 use Rattle.wire.specs.Steps.{step_of}

@@ -1,10 +1,10 @@
 -- The loops that put bytes, and a size put in two parts. Assumes nothing.
 --
 --   Laying            what a loop keeps that lays bytes one by one
---   number-..         the loop over the bytes of a number
---   bytes-..          the loop over bytes
---   size-..           a size: one byte, or 255 and an int
---   part-..           a part of bytes, as much of it as is there
+--   number_..         the loop over the bytes of a number
+--   bytes_..          the loop over bytes
+--   size_..           a size: one byte, or 255 and an int
+--   part_..           a part of bytes, as much of it as is there
 use mathlib.Core.Path.{◌≡◌, refl, sym, ap, subst, ◌∙◌}
 use mathlib.Core.Bool.{Bool, true, false}
 use mathlib.Core.List.{List, [], ◌∷◌, ◌++◌}
@@ -17,7 +17,7 @@ use lib.Seq.{sets, drop-cons, take_all, take-nil}
 use lib.Dec.{leb}
 use borrow.Author.Tests.{leb-true, leb-false}
 use Rattle.encoding.specs.Number.{le_bytes, size_bytes}
-use Rattle.encoding.specs.NumberLaws.{length_le_bytes, size_short, size_long}
+use Rattle.encoding.proofs.NumberLaws.{length_le_bytes, size_short, size_long}
 use Rattle.wire.specs.Put.{put}
 use Rattle.wire.proofs.Room.{fits_yes, fits_no}
 use Rattle.wire.specs.PutLaws.{put_sets, put_over, put_none, put_put}

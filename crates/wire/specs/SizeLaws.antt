@@ -4,9 +4,9 @@
 use Rattle.std.specs.Prelude.{◌≡◌, refl, Bool, true, false, List, ℕ, ◌^◌, ◌<◌, drop, ltb}
 use Rattle.std.proofs.Common.{arith, ltb-true}
 use Rattle.encoding.specs.Result.{ok, pick, ◌>>=◌, pure, must}
-use Rattle.encoding.specs.ResultLaws.{bind_ok, pure_ok, item_ok, must_ok}
+use Rattle.encoding.proofs.ResultLaws.{bind_ok, pure_ok, item_ok, must_ok}
 use Rattle.encoding.specs.Number.{number, byte, size_form, size_tail, size}
-use Rattle.encoding.specs.NumberLaws.{size_form_ok}
+use Rattle.encoding.proofs.NumberLaws.{size_form_ok}
 
 -- by its first byte
 tail_below : (x : ℕ) (xs : List ℕ) {n k : ℕ} → size_tail x xs ≡ ok n k → n < 2 ^ 31

@@ -2,17 +2,17 @@
 -- ensures of it, and the variant that it is. A reader that is called on `&s[n..]` sees `take (length s - n) (drop n s)`.
 --
 --   rest_is                        that part is what is left
---   step_took, -fault              what an answer says of the result; sized_is, -isnt of a number; bytes_is, -isnt of bytes
+--   step_took, _fault              what an answer says of the result; sized_is, _isnt of a number; bytes_is, _isnt of bytes
 --   took_held, bad_held            bytes taken and places lie within the bytes given; took_within, bad_within within what is left
 --   sized_held                     the same of a number
---   rest_took, -bad                an answer about the rest, moved past the bytes before it
---   then_none, -took, -bad         one reader, then another
---   with_none, -took, -bad, -ends  a number, then what depends on it
---   Left, left-..                  what holds at the head of a loop over readings, and what a turn makes of it; turns-.. of one reading
+--   rest_took, _bad                an answer about the rest, moved past the bytes before it
+--   then_none, _took, _bad         one reader, then another
+--   with_none, _took, _bad, _ends  a number, then what depends on it
+--   Left, left_..                  what holds at the head of a loop over readings, and what a turn makes of it; turns_.. of one reading
 use Rattle.std.specs.Prelude.{◌≡◌, refl, List, ℕ, zero, suc, ◌+◌, ◌-◌, ◌≤◌, ◌<◌, length, take, drop}
 use Rattle.std.proofs.Common.{sym, ap, ◌∙◌, arith, add-zero, sub-one, length-drop, take_all, drop-drop}
 use Rattle.encoding.specs.Result.{Res, ok, bad, Parser, shift, after, ◌>>=◌, pure, times}
-use Rattle.encoding.specs.ResultLaws.{shift_shift, Held, held_took, held_refused}
+use Rattle.encoding.proofs.ResultLaws.{shift_shift, Held, held_took, held_refused}
 use Rattle.wire.specs.declared.Step.{Step}
 use Rattle.wire.specs.declared.Step.TheVariants.{Took, Fault}
 use Rattle.wire.specs.declared.Sized.{Sized}

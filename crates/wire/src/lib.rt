@@ -1,5 +1,7 @@
 // Numbers, sizes, counted bytes, declared lengths and bits, read from the start of the bytes given and put at a place. Each function equals a definition, on any bytes.
 // rows.rt has the layout of a row of a list.
+#![tactic(auto)]
+
 pub mod rows;
 
 ghost use Rattle.std.specs.Prelude.{◌≡◌, ◌+◌, ◌-◌, ◌*◌, ◌/◌, ◌%◌, ◌≤◌, ◌<◌, min, leb, ltb, length, take, drop};
@@ -13,14 +15,14 @@ ghost use Rattle.wire.specs.Steps.{step_of, sized_of, bytes_of};
 ghost use Rattle.wire.specs.Put.{put, header_bits, form_bits};
 
 // What a reader took: so many bytes; or a refusal's number and its place, counted from the first byte given.
-#[derive(Drop)]
+#[derive(Clone, Copy)]
 pub enum Step {
     Took(usize),
     Fault(usize, usize),
 }
 
 // So many, and the bytes taken; or a refusal's number and its place. Of a size it is the number that was read; of bytes, how many there are: they end those taken.
-#[derive(Drop)]
+#[derive(Clone, Copy)]
 pub enum Sized {
     Is(usize, usize),
     Isnt(usize, usize),

@@ -6,7 +6,7 @@ ghost use Rattle.wire.specs.Put.{put};
 ghost use Rattle.wire.specs.Row.{as_row};
 
 // The three numbers of a row.
-#[derive(Drop)]
+#[derive(Clone, Copy)]
 pub struct RowNumbers {
     pub member: usize,
     pub place: usize,
