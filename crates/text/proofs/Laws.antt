@@ -1,15 +1,15 @@
 -- One character by its bytes, bytes below 128 that are passed at once, and strings. Assumes nothing.
 --
---   between-..             a byte by its bounds
---   least-.., most-..      the bounds of a second byte, by the first
---   character-.., -cut     the character in front, by its first byte and whether those after it lie within their ranges
+--   between_..             a byte by its bounds
+--   least_.., most_..      the bounds of a second byte, by the first
+--   character_.., _cut     the character in front, by its first byte and whether those after it lie within their ranges
 --   Fronts, fronts         what its bytes say of all the bytes: no text, or text if what follows is
 --   marks, unset           bytes whose highest bits are not set are below 128
---   ascii_two, -four       eight to sixteen and sixteen to thirty-two of these bytes
---   crossed-.., ascii-..   bytes that are passed, and the loops that pass many
---   text-..                the loop over characters; text_low bytes between two places that are all below 128
---   few-.., tested-..      up to eight of these bytes; the loops that test many
---   string-..              a string by its counted bytes, a short one by one long; dropped-.. its content left out; short-.. one with a size of one byte
+--   ascii_two, _four       eight to sixteen and sixteen to thirty-two of these bytes
+--   crossed_.., ascii_..   bytes that are passed, and the loops that pass many
+--   text_..                the loop over characters; text_low bytes between two places that are all below 128
+--   few_.., tested_..      up to eight of these bytes; the loops that test many
+--   string_..              a string by its counted bytes, a short one by one long; dropped_.. its content left out; short_.. one with a size of one byte
 use mathlib.Core.Path.{◌≡◌, refl, sym, ap, ap₂, ◌∙◌}
 use mathlib.Core.Bool.{Bool, true, false, ◌&&◌, true≢false}
 use mathlib.Core.Option.{Option, none, some}
@@ -24,15 +24,15 @@ use lib.Dec.{eqb, leb}
 use lib.Bits.{bit_and, bit_or, and_block, and_self, or_add_and, and_le_l, and_le_r}
 use borrow.Author.Tests.{le-leb, lt-leb, eqb-true, eqb-false, eq-eqb, ne_eqb}
 use Rattle.encoding.specs.Result.{ok, pick, judged, must, made, mapc}
-use Rattle.encoding.specs.ResultLaws.{both_true, held_took, Ends, ends_chunk, ends_item, ends_bind}
+use Rattle.encoding.proofs.ResultLaws.{both_true, held_took, Ends, ends_chunk, ends_item, ends_bind}
 use Rattle.encoding.specs.Number.{Content, string}
 use Rattle.encoding.specs.Proxy.{text}
 use Rattle.encoding.specs.Types.{vsize}
 use Rattle.encoding.specs.Optional.{extent}
-use Rattle.encoding.specs.OptionalLaws.{held_extent}
+use Rattle.encoding.proofs.OptionalLaws.{held_extent}
 use Rattle.encoding.specs.Table.{at}
 use Rattle.encoding.specs.Utf8.{Bounds, in_bounds, any_later, characters, following, advance, advance_all, at_boundary, is_utf8}
-use Rattle.encoding.specs.Utf8Laws.{below_or, none_stays, first_one, first_early, first_two, first_three_least, first_three_low, first_three_middle, first_three_high, first_four_least, first_four_low, first_four_most, first_late}
+use Rattle.encoding.proofs.Utf8Laws.{below_or, none_stays, first_one, first_early, first_two, first_three_least, first_three_low, first_three_middle, first_three_high, first_four_least, first_four_low, first_four_most, first_late}
 use Rattle.wire.specs.At.{at_more}
 use Rattle.wire.specs.declared.Step.TheVariants.{Took, Fault}
 use Rattle.wire.specs.declared.Sized.{Sized}

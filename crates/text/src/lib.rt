@@ -1,4 +1,6 @@
 // Text, which is well-formed UTF-8, and the one reader of strings. Bytes below 128 are passed many at a time, other characters one by one.
+#![tactic(auto)]
+
 ghost use Rattle.std.specs.Prelude.{◌≡◌, true, [], ◌∷◌, ◌+◌, ◌-◌, ◌≤◌, ◌<◌, length, take, drop};
 ghost use Rattle.encoding.specs.Utf8.{is_utf8};
 ghost use Rattle.encoding.specs.Number.{string};
