@@ -1,13 +1,13 @@
 -- The cases of a proxy's parts, by the answers of the readers that they call. Assumes nothing.
 --
---   identity_is, -less, -nil, -none, -bad   an identity, by its two strings; name_end, category_took, -bad: they lie within the input
---   facets_many, -end, -took, -bad, -none   facets, by their number
---   endpoint_cut, -took, -bad               an endpoint
---   addresses_text, -list                   an adapter; endpoints
---   endpoints_took, -bad, -none             their number, then the endpoints
---   addressed-.., secured-.., mode-..       versions and the endpoints; secure before them; the mode before that
---   reference_took, -bad, -none             facets, then the mode and the rest
---   proxy_nil, -took, -bad, -none           the identity, then the reference; identity_end the identity within the input
+--   identity_is, _less, _nil, _none, _bad   an identity, by its two strings; name_end, category_took, _bad: they lie within the input
+--   facets_many, _end, _took, _bad, _none   facets, by their number
+--   endpoint_cut, _took, _bad               an endpoint
+--   addresses_text, _list                   an adapter; endpoints
+--   endpoints_took, _bad, _none             their number, then the endpoints
+--   addressed_.., secured_.., mode_..       versions and the endpoints; secure before them; the mode before that
+--   reference_took, _bad, _none             facets, then the mode and the rest
+--   proxy_nil, _took, _bad, _none           the identity, then the reference; identity_end the identity within the input
 --   held_facets .. held_mode                what these take, and where they refuse, lies within the input
 use mathlib.Core.Path.{◌≡◌, refl, sym, ap, ◌∙◌}
 use mathlib.Core.Bool.{Bool, true, false}
@@ -16,17 +16,16 @@ use Prim.Native.Nat.{ℕ, zero, suc, ◌+◌, ◌-◌, ◌^◌, ◌≤◌, ◌<�
 use native.Mathlib.Omega.{arith}
 use native.Mathlib.Nat.{add-zero}
 use lib.ListN.{length, take, drop, length-drop}
-use lib.Seq.{drop-drop}
 use lib.Dec.{eqb}
 use borrow.Author.Tests.{le-leb, lt-leb, lt-ltb, le-ltb, ne_eqb}
 use mir.Syntax.{w64}
 use mir.Val.{Fits}
 use Rattle.encoding.specs.Result.{Res, ok, bad, Parser, pick, shift, after, ◌>>=◌, pure, chunk, skip, judged, must, made, mapc, times}
-use Rattle.encoding.specs.ResultLaws.{shift_shift, Held, held_took, held_refused, held_bind, held_mapc, held_must, held_skip, held_times, held_pick}
+use Rattle.encoding.proofs.ResultLaws.{Held, held_took, held_refused, held_bind, held_mapc, held_must, held_skip, held_times, held_pick}
 use Rattle.encoding.specs.Number.{number, byte, bool_form, bool, size, declared, string}
-use Rattle.encoding.specs.NumberLaws.{held_byte, held_bool, held_size, held_string}
+use Rattle.encoding.proofs.NumberLaws.{held_byte, held_bool, held_size, held_string}
 use Rattle.encoding.specs.Table.{at}
-use Rattle.encoding.specs.ValueLaws.{held_text, held_identity, held_endpoint}
+use Rattle.encoding.proofs.ValueLaws.{held_text, held_identity, held_endpoint}
 use Rattle.encoding.specs.Proxy.{identity_form, identity, facet_form, text, facets, mode_form, endpoint, endpoints, versions, reference, proxy}
 use Rattle.wire.specs.declared.Step.{Step}
 use Rattle.wire.specs.declared.Step.TheVariants.{Took, Fault}

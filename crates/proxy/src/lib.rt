@@ -1,4 +1,6 @@
 // Proxies (document 01, "Proxies"), read from the start of the bytes given. One endpoint is a function of its own.
+#![tactic(auto)]
+
 ghost use Rattle.std.specs.Prelude.{◌≡◌};
 ghost use Rattle.encoding.specs.Result.{times};
 ghost use Rattle.encoding.specs.Proxy.{facets, endpoint, endpoints, reference, proxy};

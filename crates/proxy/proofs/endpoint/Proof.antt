@@ -1,7 +1,7 @@
 -- An endpoint: two bytes, then what an int declares.
 use borrow.Author.Rules.{rules}
 use Rattle.encoding.specs.Number.{declared}
-use Rattle.encoding.specs.NumberLaws.{held_declared}
+use Rattle.encoding.proofs.NumberLaws.{held_declared}
 use Rattle.wire.proofs.Sums.{took_fits, bad_fits}
 use Rattle.proxy.proofs.Laws.{endpoint_cut, endpoint_took, endpoint_bad}
 use Rattle.proxy.proofs.endpoint.Statement.{statement}

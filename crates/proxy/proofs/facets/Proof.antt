@@ -1,7 +1,7 @@
 -- Facets: their number, judged, then the one string if there is one.
 use borrow.Author.Rules.{rules}
 use Rattle.encoding.specs.Proxy.{text}
-use Rattle.encoding.specs.ValueLaws.{held_text}
+use Rattle.encoding.proofs.ValueLaws.{held_text}
 use Rattle.wire.proofs.Sums.{took_fits, bad_fits}
 use Rattle.wire.proofs.Laws.{size_within}
 use Rattle.proxy.proofs.Laws.{facets_many, facets_end, facets_took, facets_bad, facets_none}

@@ -2,7 +2,7 @@
 use borrow.Author.Rules.{rules}
 use Rattle.wire.proofs.Sums.{any_took_fits, any_bad_fits}
 use Rattle.encoding.specs.Proxy.{reference as reference-of}
-use Rattle.encoding.specs.ValueLaws.{held_reference}
+use Rattle.encoding.proofs.ValueLaws.{held_reference}
 use Rattle.proxy.proofs.Laws.{identity_end, proxy_nil, proxy_took, proxy_bad, proxy_none}
 use Rattle.proxy.proofs.proxy.Statement.{statement}
 use Rattle.proxy.proofs.proxy.Tie as tie
