@@ -1,13 +1,13 @@
 -- The loops over a row's bases and over its members. Assumes nothing.
 --
 --   base_is ..        the base of a row
---   top-.., owner-..  the loop up a chain that looks for a row, or for the owner of a member
---   takes-.., end_is  whether a row takes a member, and where its members end
---   Optionals, optionals-..   the loop over a row's members that looks for a tag
---   Skipping, skipping-..     the loops over member rows that pass optional rows, four at a time and one by one
---   bare-..                   rows from which on none is required
---   Searching, searching-..   the loops over member rows that look for an optional one, four rows at a time and one by one
---   Passing, passing-..       the loop over the rows before a member that looks for a tag above its own
+--   top_.., owner_..  the loop up a chain that looks for a row, or for the owner of a member
+--   takes_.., end_is  whether a row takes a member, and where its members end
+--   Optionals, optionals_..   the loop over a row's members that looks for a tag
+--   Skipping, skipping_..     the loops over member rows that pass optional rows, four at a time and one by one
+--   bare_..                   rows from which on none is required
+--   Searching, searching_..   the loops over member rows that look for an optional one, four rows at a time and one by one
+--   Passing, passing_..       the loop over the rows before a member that looks for a tag above its own
 use Prim.Native.Nat.{ℕ, zero, suc, ◌+◌, ◌-◌, ◌≤◌, ◌<◌}
 use mathlib.Core.Path.{◌≡◌, refl, sym, ap, ap₂, ◌∙◌, subst}
 use mathlib.Core.Bool.{Bool, true, false, not}
@@ -22,7 +22,7 @@ use borrow.Author.Tests.{le-leb, lt-leb, lt-ltb, le-ltb, eqb-true, eqb-false, eq
 use Rattle.encoding.specs.Result.{pick}
 use Rattle.wire.specs.At.{at_byte}
 use Rattle.encoding.specs.Table.{at, member_at, kind, field, is_record, member_type, mark, tag, range, takes, any, base, upward, chain, Member, member_ty, optionals_in, trees, lookup}
-use Rattle.encoding.specs.TableLaws.{chain_row}
+use Rattle.encoding.proofs.TableLaws.{chain_row}
 use Rattle.table.specs.Found.{member_found}
 use Rattle.table.specs.Rows.{IsMemberRow}
 use Rattle.table.specs.Tags.{optional_from, first_required, has_optional, is_above, first_above, behind}

@@ -1,11 +1,11 @@
 -- Names as parts of the table, and their comparison. Assumes nothing.
 --
---   Same, same-.., long_stop   the loops that compare two strings, eight bytes at a time, then the last eight or single ones
+--   Same, same_.., long_stop   the loops that compare two strings, eight bytes at a time, then the last eight or single ones
 --   name_least, name_long      where a name begins, and how many bytes it has; name_inside they lie within the table
 --   named_part                 the part of the table that is compared is the name
 --   whole_begin, whole_named   lent from the first byte on
 --   record_named ..            a row is a record of a name
---   Naming, naming-..          the loop that looks for the record of a name
+--   Naming, naming_..          the loop that looks for the record of a name
 use Prim.Native.Nat.{ℕ, zero, suc, ◌+◌, ◌-◌, ◌≤◌, ◌<◌, min}
 use mathlib.Core.Path.{◌≡◌, refl, sym, ap, ap₂, ◌∙◌}
 use mathlib.Core.Bool.{Bool, true, false, ◌&&◌}
@@ -18,7 +18,7 @@ use lib.Seq.{drop-cons}
 use lib.Dec.{eqb, leb}
 use borrow.Author.Tests.{leb-true, leb-false, eqb-true, eqb-false, eq-eqb}
 use Rattle.encoding.specs.Result.{pick, same_bytes}
-use Rattle.encoding.specs.ResultLaws.{same_bytes_ok}
+use Rattle.encoding.proofs.ResultLaws.{same_bytes_ok}
 use Rattle.encoding.specs.Table.{at, types, types_at, names_at, kind, field, is_record, name_of, range, search as find, named}
 use Rattle.wire.specs.At.{at_more}
 use Rattle.wire.specs.StepLaws.{rest_is}

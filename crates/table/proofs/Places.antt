@@ -21,11 +21,11 @@ use native.Mathlib.Nat.{add-zero}
 use native.Mathlib.Omega.{arith}
 use lib.ListN.{length, take, drop, get_or, drop_of_length-le}
 use lib.Seq.{drop-drop}
-use lib.Dec.{eqb, leb}
-use borrow.Author.Tests.{le-leb, lt-leb, eq-eqb, ne_eqb}
+use lib.Dec.{eqb}
+use borrow.Author.Tests.{le-leb, lt-leb, ne_eqb}
 use Rattle.encoding.specs.Result.{pick}
 use Rattle.encoding.specs.Table.{at, version, with_lists, types, members, entries, types_at, row_at, member_at, entries_at, field_at, list_entry, kind, spare, field, member_type, mark, member_spare, tag, type_rows, trees, ty_of, member_ty}
-use Rattle.encoding.specs.TableLaws.{header_most, rows_below, ty_past, member_past as member_none, member_whole}
+use Rattle.encoding.proofs.TableLaws.{header_most, rows_below, ty_past, member_past as member_none, member_whole}
 use Rattle.wire.specs.StepLaws.{rest_is}
 use Rattle.wire.specs.At.{at_byte, at_split, at_past, at_within}
 

@@ -1,6 +1,6 @@
 -- The search in a list of allowed enumerators, and what an enum row allows. Assumes nothing.
 --
---   Search, search-..                       the loop: the entries that are left decide
+--   Search, search_..                       the loop: the entries that are left decide
 --   allows_plain, allows_all, allows_listed what an enum row allows: without a list, by a list of all numbers, by a search
 --   last_none, last_is                      the last entry of a list
 --   most_plain, most_all, most_listed       the greatest that an enum row allows, in the same three cases
@@ -14,9 +14,9 @@ use lib.ListN.{length, get_or}
 use lib.Dec.{leb}
 use borrow.Author.Tests.{eq-eqb, ne_eqb}
 use Rattle.encoding.specs.Types.{searched, allows, allowed_of, most}
-use Rattle.encoding.specs.AllowedLaws.{searched_none, searched_here, searched_after, searched_before}
+use Rattle.encoding.proofs.AllowedLaws.{searched_none, searched_here, searched_after, searched_before}
 use Rattle.encoding.specs.Table.{with_lists, range, list_entry, greatest, entries_of, allowed}
-use Rattle.encoding.specs.ListLaws.{length_entries, mapped_at}
+use Rattle.encoding.proofs.ListLaws.{length_entries, mapped_at}
 use Rattle.table.specs.Rows.{IsTypeRow, greatest_of}
 use Rattle.table.specs.declared.TypeRow.{TypeRow}
 

@@ -2,6 +2,8 @@
 // naming.rt has the records' names, chain.rt the bases and the member rows of a row, allowed.rt the lists of allowed enumerators.
 // Every place in a table is computed here, by `types_at` to `field_at` and the two that stop at the table's end. Places depend on the version:
 // the look-ups of type rows are passed `begin`, where the type rows begin, so that a function looks at the version once.
+#![tactic(auto)]
+
 pub mod allowed;
 pub mod chain;
 pub mod naming;
@@ -12,21 +14,21 @@ ghost use Rattle.encoding.specs.Table.{with_lists, types, members, names, entrie
 ghost use Rattle.table.specs.Rows.{IsTypeRow, IsMemberRow, greatest_of};
 
 // A row number, if there is one.
-#[derive(Drop)]
+#[derive(Clone, Copy)]
 pub enum Found {
     At(usize),
     Nothing,
 }
 
 // A member row and the row number of its type, if there is one.
-#[derive(Drop)]
+#[derive(Clone, Copy)]
 pub enum FoundMember {
     At(usize, usize),
     Nothing,
 }
 
 // A type row: its kind, its zero byte, its fields a to e.
-#[derive(Drop)]
+#[derive(Clone, Copy)]
 pub struct TypeRow {
     pub kind: usize,
     pub spare: usize,
@@ -38,7 +40,7 @@ pub struct TypeRow {
 }
 
 // A member row: its type, its mark (0 required, 1 optional), its zero byte, its tag.
-#[derive(Drop)]
+#[derive(Clone, Copy)]
 pub struct MemberRow {
     pub of: usize,
     pub mark: usize,

@@ -1,7 +1,7 @@
 -- At its place; for a far row, by the look-up of any field. Assumes nothing.
 use borrow.Author.Rules.{rules}
 use native.Mathlib.Omega.{arith}
-use Rattle.encoding.specs.TableLaws.{header_most}
+use Rattle.encoding.proofs.TableLaws.{header_most}
 use Rattle.table.proofs.Places.{row_fits, field_direct}
 use Rattle.table.proofs.field_a.Statement.{statement}
 use Rattle.table.proofs.field_a.Tie as tie
