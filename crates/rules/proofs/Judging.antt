@@ -1,27 +1,27 @@
 -- What follows from the tests of the check, rule by rule, and its loops. Assumes nothing.
 --
---   whole-..                   a row read whole is the table's
+--   whole_..                   a row read whole is the table's
 --   at_below                   a number of k bytes is below 256 ^ k
---   marked-..                  the first five bytes, read as an int and a byte; mark_number the mark as one number
---   header-..                  the header's rules in the code's order
---   set-.., clear-..           fields that are not 0, from one on
---   unused-..                  those that a kind does not use; enum_listed, enum_plain those of an enum
---   part-.., base-..           references to rows below
---   Before, before-..          the loop over the names of rows before
+--   marked_..                  the first five bytes, read as an int and a byte; mark_number the mark as one number
+--   header_..                  the header's rules in the code's order
+--   set_.., clear_..           fields that are not 0, from one on
+--   unused_..                  those that a kind does not use; enum_listed, enum_plain those of an enum
+--   part_.., base_..           references to rows below
+--   Before, before_..          the loop over the names of rows before
 --   alike_is, name_text_is     of a row's name: it finds what is alike; it is text
---   past-.., Plain, plain-..   how far no row is a record; alike_from_lem: names are alike from there on or nowhere
---   enum-.. list-..            the rules of each kind; kind-.. those of a row by its kind; row-.. all of a type row
---   share-.., Sum, sum-..      the member rows that rows take
---   basic-..                   a basic row breaks no rule and takes no member rows
---   Types, types-..            the pass over the type rows, then the lists, then the member sum
---   Rise, rise-..              the loop over the entries of a list; allowed-.. the rules of a list, count-.. how many entries it has
---   Lists, lists-..            the pass over the lists and the entries left over
---   Tags, tags-..              the loop over the tags before; alike_above, alike_below only of a tag below a bound
---   required-.., optional-.., member-..   the rules of a member row
+--   past_.., Plain, plain_..   how far no row is a record; alike_from_lem: names are alike from there on or nowhere
+--   enum_.. list_..            the rules of each kind; kind_.. those of a row by its kind; row_.. all of a type row
+--   share_.., Sum, sum_..      the member rows that rows take
+--   basic_..                   a basic row breaks no rule and takes no member rows
+--   Types, types_..            the pass over the type rows, then the lists, then the member sum
+--   Rise, rise_..              the loop over the entries of a list; allowed_.. the rules of a list, count_.. how many entries it has
+--   Lists, lists_..            the pass over the lists and the entries left over
+--   Tags, tags_..              the loop over the tags before; alike_above, alike_below only of a tag below a bound
+--   required_.., optional_.., member_..   the rules of a member row
 --   Fields, fields             the eight bytes of a member row as one number, by its fields; tag_of, type_of its tag and its type
---   usual-..                   the tests of a usual row, and that it breaks no rule but perhaps that of its type
---   Owner, owner-..            the member rows of one owner, each of its class (class-..), read whole or usual; Owners, owners-.. of all owners
---   check-..                   the passes one after another; check_rows, check_all_rows the type rows lie inside, all rows do
+--   usual_..                   the tests of a usual row, and that it breaks no rule but perhaps that of its type
+--   Owner, owner_..            the member rows of one owner, each of its class (class_..), read whole or usual; Owners, owners_.. of all owners
+--   check_..                   the passes one after another; check_rows, check_all_rows the type rows lie inside, all rows do
 use Prim.Native.Nat.{ℕ, zero, suc, ◌+◌, ◌-◌, ◌*◌, ◌/◌, ◌%◌, ◌^◌, ◌≤◌, ◌<◌, min, max}
 use mathlib.Core.Path.{◌≡◌, refl, sym, ap, ap₂, ◌∙◌}
 use mathlib.Core.Bool.{Bool, true, false, ◌&&◌, ◌||◌, not, true≢false}
@@ -34,11 +34,11 @@ use lib.ListN.{length, take, drop, get_or, get_or-eq_default}
 use lib.Dec.{eqb, leb, ltb}
 use borrow.Author.Tests.{eqb-true, eqb-false, leb-true, ltb-true, ltb-false, not-true, not-false, lt-ltb, le-ltb, le-leb, lt-leb, eq-eqb, ne_eqb}
 use Rattle.encoding.specs.Result.{pick, first_of, same_bytes}
-use Rattle.encoding.specs.ResultLaws.{both_true, either_false}
+use Rattle.encoding.proofs.ResultLaws.{both_true, either_false}
 use Rattle.encoding.specs.Utf8.{is_utf8}
 use Rattle.encoding.specs.Number.{val, negative}
 use Rattle.encoding.specs.Table.{at, version, with_lists, types, members, names, entries, types_at, row_at, member_at, names_at, entries_at, field_at, list_entry, kind, spare, field, member_type, mark, member_spare, tag, is_record, owns, name_of, range, any, used, taken_by, taken, no_part, alike, type_rules, rises_to, has_list, entries_taken, allowed_rules, entries_rules, header_tests, header_rules, sum_rules, fault_at, Fault, fine, fault, or_else, pass, passes, faults}
-use Rattle.encoding.specs.TableLaws.{header_least}
+use Rattle.encoding.proofs.TableLaws.{header_least}
 use Rattle.wire.specs.At.{at_more, at_split}
 use Rattle.table.specs.Names.{is_named}
 use Rattle.table.specs.NamesLaws.{name_part}
@@ -834,7 +834,7 @@ module _ (T : List ℕ) (c d g : ℕ) where
 
       pub rise_next : last < x → Rise T c d g x (i + 1)
       unfolding rises_to
-      rise_next l = record { within = omega arith; rest = inv.rest ∙ rw (turn, ← ex, lt-ltb last x l) }
+      rise_next l = record { within = omega arith; rest = inv.rest ∙ rw (turn, ← ex, lt-ltb last x l) (rw ex) }
 
 -- the rules of a list
 module _ (T : List ℕ) (all : ℕ) (r : TypeRow) (n : ℕ) where

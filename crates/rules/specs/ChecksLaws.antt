@@ -19,7 +19,7 @@ use borrow.Author.Tests.{eqb-true, eqb-false, not-false, lt-leb, le-leb, lt-ltb}
 use Rattle.encoding.specs.Result.{pick, first_of}
 use Rattle.encoding.specs.Number.{negative}
 use Rattle.encoding.specs.Table.{with_lists, types, members, entries, row_at, member_at, entries_at, greatest, entries_of, kind, field, mark, tag, owns, range, any, used, no_base, alike, taken_by, taken, takes, has_list, entries_taken, allowed_rules, owner_of, tag_alike, type_rules, member_rules, header_tests, header_rules, sum_rules, fault_at, Fault, fine, fault, or_else, pass}
-use Rattle.encoding.specs.RuleLaws.{header_test}
+use Rattle.encoding.proofs.RuleLaws.{header_test}
 use Rattle.table.specs.Rows.{type_row_of}
 use Rattle.rules.specs.Checks.{is_set_from, no_base_of, enum_rules, struct_rules, seq_rules, dict_rules, record_rules, list_rules, kind_rules, row_rules, share, allowed_rules_by, type_pass, allowed_pass, rows_pass, member_pass, is_tag_before, required_rules, optional_rules, member_rules_by, member_rules_of, owner_pass, owners_pass, OwnersThere}
 

@@ -1,4 +1,6 @@
 // The check of a table: header, type rows, lists of allowed enumerators, member sum, member rows. It answers the first broken rule as its class (31 to 39) and its place.
+#![tactic(auto)]
+
 ghost use Rattle.std.specs.Prelude.{◌≡◌, true, map, ◌+◌, ◌-◌, ◌≤◌, ◌<◌, max, length};
 ghost use Rattle.encoding.specs.Result.{first_of};
 ghost use Rattle.encoding.specs.Utf8.{is_utf8};
@@ -10,7 +12,7 @@ ghost use Rattle.rules.specs.Checks.{finding_of, is_marked, is_set_from, no_base
 use table::{MemberRow, TypeRow};
 
 // No rule is broken; or the class and the place of the first broken one.
-#[derive(Drop)]
+#[derive(Clone, Copy)]
 pub enum Finding {
     Fine,
     Broken(usize, usize),
