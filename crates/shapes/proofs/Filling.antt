@@ -1,14 +1,14 @@
 -- Shapes of rows, each from the shapes of the rows below. Assumes nothing.
 --
---   code-..                                    the form that a shape says
+--   code_..                                    the form that a shape says
 --   plain_at, plain_none                       the shape of a row without parts
 --   width_none, width_number, width_struct     the width that a shape says
 --   shape_here, shape_past                     the shape of a row, in the array and past its end
---   fixed-..                                   what the test of one row finds, by its shape and kind
---   Members, members-..                        the loop over a struct's members: each is fixed_size
---   Widths, widths-..                          the same: their widths
---   struct-.., seq-.., dict-.., row-..         the shapes of structs and containers; of a row of each kind
---   Filling, filling-..                        the array as it fills
+--   fixed_..                                   what the test of one row finds, by its shape and kind
+--   Members, members_..                        the loop over a struct's members: each is fixed_size
+--   Widths, widths_..                          the same: their widths
+--   struct_.., seq_.., dict_.., row_..         the shapes of structs and containers; of a row of each kind
+--   Filling, filling_..                        the array as it fills
 use Prim.Native.Nat.{ℕ, zero, suc, ◌+◌, ◌-◌, ◌*◌, ◌/◌, ◌≤◌, ◌<◌}
 use mathlib.Core.Path.{◌≡◌, refl, sym, ap, ◌∙◌}
 use mathlib.Core.Bool.{Bool, true, false, ◌&&◌, ◌||◌}
@@ -23,7 +23,7 @@ use borrow.Author.Tests.{leb-true, leb-false, le-leb, lt-leb, lt-ltb, le-ltb, eq
 use Rattle.encoding.specs.Result.{pick}
 use Rattle.encoding.specs.Types.{Tys, struct, seq, dict, fixed, fixeds, single}
 use Rattle.encoding.specs.Table.{kind, field, members, member_type, range, member_tys, own_rows, tys, part_ty, type_rows, ty_of}
-use Rattle.encoding.specs.TableLaws.{rows_below, ty_past, below_ty, below_none, member_in, member_past, members_more, members_none, row_bool, row_byte, row_short, row_int, row_long, row_float, row_double, row_string, row_enum, row_struct, row_seq, row_dict, row_proxy, row_other}
+use Rattle.encoding.proofs.TableLaws.{rows_below, ty_past, below_ty, below_none, member_in, member_past, members_more, members_none, row_bool, row_byte, row_short, row_int, row_long, row_float, row_double, row_string, row_enum, row_struct, row_seq, row_dict, row_proxy, row_other}
 use Rattle.shapes.specs.Shapes.{narrow, width_of, widths_from, struct_shape, shape_of, plain_shape, shape_at, shapes_of, Shaped, form_code, width_code, shape_in, width_in}
 use Rattle.shapes.specs.ShapesLaws.{width_fixed, range_at, shape_width}
 use Rattle.table.proofs.ByKind.{by_kind}

@@ -4,7 +4,7 @@
 use Rattle.std.specs.Prelude.{◌≡◌, refl}
 use Rattle.std.proofs.Common.{lt-ltb}
 use Rattle.encoding.specs.Types.{bits, Form, bare, own, counted, sized, bits_of}
-use Rattle.encoding.specs.TypesLaws.{bits_below}
+use Rattle.encoding.proofs.TypesLaws.{bits_below}
 use Rattle.wire.specs.Put.{form_bits}
 use Rattle.shapes.specs.Shapes.{form_number}
 

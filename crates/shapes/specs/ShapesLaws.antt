@@ -15,12 +15,12 @@ use Rattle.std.proofs.lemmas.Bool.{false≢true}
 use Rattle.std.proofs.Math.Dec.{ltb}
 use borrow.Author.Tests.{ne_eqb, eqb-true, eqb-false, ltb-true, ltb-false, le-ltb}
 use Rattle.encoding.specs.Result.{ok, pick, skip, pure}
-use Rattle.encoding.specs.ResultLaws.{bind_step, chunk_step}
+use Rattle.encoding.proofs.ResultLaws.{bind_step, chunk_step}
 use Rattle.encoding.specs.Types.{short, int, long, float, double, Ty, Tys, nil, cons, broken, bool, byte, string, proxy, old_proxy, num, enum, old_enum, struct, seq, dict, fixed, fixeds, single, Form, counted, sized, form_of}
 use Rattle.encoding.specs.Value.{value, values}
 use Rattle.encoding.specs.Old.{as_old, as_olds, type_as}
 use Rattle.encoding.specs.Table.{kind, field, allowed, range, member_tys, own_rows, row_ty, tys, type_rows, ty_of}
-use Rattle.encoding.specs.TableLaws.{rows_below, ty_row, ty_past}
+use Rattle.encoding.proofs.TableLaws.{rows_below, ty_row, ty_past}
 use Rattle.shapes.specs.Shapes.{form_number, narrow, width_of, widths_from, shape_of, shape_at, shapes_of, form_code, width_code, shape_in, form_in, width_in, is_text_in, is_bool_in, is_enum_in}
 
 -- ---- a width

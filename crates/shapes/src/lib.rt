@@ -1,5 +1,7 @@
 // The shape of each row, computed from the shapes of the rows below it, so that no type tree is walked.
 // A shape is a number that says two things of the row's type: the form of an optional and, if every string of n bytes is a value, that n, the width.
+#![tactic(auto)]
+
 ghost use Rattle.std.specs.Prelude.{◌≡◌, ◌≤◌, ◌<◌, replicate};
 ghost use Rattle.encoding.specs.Result.{pick};
 ghost use Rattle.encoding.specs.Types.{fixed, fixeds, struct, seq, dict};

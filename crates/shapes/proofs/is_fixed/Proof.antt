@@ -1,7 +1,7 @@
 -- By the shape of the row below, and its kind where the shape is that of containers too. Assumes nothing.
 use borrow.Author.Rules.{rules}
 use native.Mathlib.Omega.{arith}
-use Rattle.encoding.specs.TableLaws.{rows_below}
+use Rattle.encoding.proofs.TableLaws.{rows_below}
 use Rattle.shapes.proofs.Filling.{fixed_none, fixed_wide, fixed_bool, fixed_struct, fixed_not}
 use Rattle.shapes.proofs.is_fixed.Statement.{statement}
 use Rattle.shapes.proofs.is_fixed.Tie as tie
