@@ -16,8 +16,8 @@ use lib.Bits.{bit_and, bit_or, and_block, and_high}
 use borrow.Author.Tests.{eqb-true}
 use Rattle.encoding.specs.Result.{times}
 use Rattle.encoding.specs.Number.{bool}
-use Rattle.encoding.specs.NumberLaws.{held_bool}
-use Rattle.encoding.specs.Utf8Laws.{below_or}
+use Rattle.encoding.proofs.NumberLaws.{held_bool}
+use Rattle.encoding.proofs.Utf8Laws.{below_or}
 use Rattle.encoding.specs.Table.{at}
 use Rattle.wire.specs.At.{at_more, at_byte, at_rest}
 use Rattle.wire.specs.declared.Step.{Step}

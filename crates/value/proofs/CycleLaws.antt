@@ -3,18 +3,18 @@
 --   plain_as .. dict_as                                      a type in either encoding
 --   row_not, as_bool .. as_other                             a value by its row's kind
 --   row_wide, exact_wide, part_wide                          a value by its row's width
---   text_there, -not                                         what the shapes say of a part, by whether it lies below
+--   text_there, _not                                         what the shapes say of a part, by whether it lies below
 --   row_text, text_value, text_values                        a string, by its row's shape; row_bool, bool_values a bool; row_enum, enum_values an enum without a list
 --   again_took, again_bad                                    an answer that is rebuilt
---   struct_begin, member_gone, -read, -next, -fault, -done   the loop over members
---   seq_none, -wide, -took, -bad                             a sequence: its size, then its elements
---   dict_none, -took, -bad                                   a dictionary: its size, then its pairs
---   element_begin, -next, -fault, -done                      the loop over elements
---   entry_begin, -next, -fault, -done                        the loop over pairs
---   key_end, pair_none, -wide, -took, -bad                   an entry: its key, then its value
+--   struct_begin, member_gone, _read, _next, _fault, _done   the loop over members
+--   seq_none, _wide, _took, _bad                             a sequence: its size, then its elements
+--   dict_none, _took, _bad                                   a dictionary: its size, then its pairs
+--   element_begin, _next, _fault, _done                      the loop over elements
+--   entry_begin, _next, _fault, _done                        the loop over pairs
+--   key_end, pair_none, _wide, _took, _bad                   an entry: its key, then its value
 --   value_took_fits .. pairs_bad_fits                        what they take, and where they refuse, does not wrap
 --   value_row, row_again                                     a row of the table
---   exact_took, -bad                                         exactly one value
+--   exact_took, _bad                                         exactly one value
 use mathlib.Core.Path.{◌≡◌, refl, sym, ap, ◌∙◌}
 use mathlib.Core.Bool.{Bool, true, false, not, false≢true}
 use mathlib.Core.List.{List}
@@ -25,15 +25,15 @@ use lib.ListN.{length, take, drop, length-drop}
 use lib.Dec.{eqb, leb, ltb}
 use borrow.Author.Tests.{le-leb, lt-leb, leb-false, ltb-true, ltb-false, not-true}
 use Rattle.encoding.specs.Result.{Res, ok, bad, Parser, pick, ◌>>=◌, pure, fail, skip, times}
-use Rattle.encoding.specs.ResultLaws.{bind_step, Held, held_bind, held_times}
+use Rattle.encoding.proofs.ResultLaws.{bind_step, Held, held_bind, held_times}
 use Rattle.encoding.specs.Number.{size}
 use Rattle.encoding.specs.Number
 use Rattle.encoding.specs.Proxy
 use Rattle.encoding.specs.Types.{upto, short, int, long, float, double, Ty, Tys, nil, cons, broken, bool, byte, string, proxy, num, enum, struct, seq, dict}
 use Rattle.encoding.specs.Table.{with_lists, kind, field, members, member_type, range, greatest, allowed, member_ty, member_tys, own_rows, row_ty, tys, part_ty, type_rows, trees, ty_of}
-use Rattle.encoding.specs.TableLaws.{tys_at, ty_row, ty_past, below_none, row_broken, member_in, member_past, members_more, members_none}
+use Rattle.encoding.proofs.TableLaws.{tys_at, ty_row, ty_past, below_none, row_broken, member_in, member_past, members_more, members_none}
 use Rattle.encoding.specs.Value.{value, values, whole, exact}
-use Rattle.encoding.specs.ValueLaws.{held_value}
+use Rattle.encoding.proofs.ValueLaws.{held_value}
 use Rattle.encoding.specs.Old.{as_old, as_olds, type_as}
 use Rattle.table.specs.Rows.{IsTypeRow, greatest_of}
 use Rattle.table.specs.declared.TypeRow.{TypeRow}

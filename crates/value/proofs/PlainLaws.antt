@@ -1,9 +1,9 @@
 -- The cases of values without parts, by the bytes at the head. Assumes nothing.
 --
---   skip_cut, -whole           k bytes of any content
---   bool_none, -high, -whole   a bool
---   enum_none, -allowed, -other   an enum, by its number
---   upto_none, -allowed, -above   an enum up to a greatest
+--   skip_cut, _whole           k bytes of any content
+--   bool_none, _high, _whole   a bool
+--   enum_none, _allowed, _other   an enum, by its number
+--   upto_none, _allowed, _above   an enum up to a greatest
 --   byte_cut .. int_whole      the number of an enumerator of 1.0; number_old, number_new in either encoding
 use mathlib.Core.Path.{◌≡◌, refl, sym, ap, ◌∙◌}
 use mathlib.Core.Bool.{Bool, true, false}
@@ -17,7 +17,6 @@ use Rattle.encoding.specs.Table.{at}
 use Rattle.encoding.specs.Types.{Allowed, upto, allows, most, enum}
 use Rattle.encoding.specs.Value.{enum_form, enum_width, value}
 use Rattle.encoding.specs.Old.{as_old, type_as}
-use Rattle.wire.specs.declared.Step.{Step}
 use Rattle.wire.specs.declared.Step.TheVariants.{Took, Fault}
 use Rattle.wire.specs.declared.Sized.{Sized}
 use Rattle.wire.specs.declared.Sized.TheVariants.{Is, Isnt}

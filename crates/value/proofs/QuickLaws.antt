@@ -1,7 +1,7 @@
 -- What the quick readers take is what the value takes: a string is read by its shape, and bytes of a width are a value. Assumes nothing.
 --
 --   text_fits, pair_there             a string with a size of one byte, then bytes of any content
---   pairs_begin, -fits, -next, -done  the loop over such pairs
+--   pairs_begin, _fits, _next, _done  the loop over such pairs
 --   dict_there                        a size and such pairs
 --   row_there, row_inside             a row that is there
 --   wide_seq, dict_wide               a sequence and a dictionary by their row
@@ -19,13 +19,13 @@ use mir.Val.{Fits}
 use lib.Dec.{leb}
 use borrow.Author.Tests.{leb-true, not-false}
 use Rattle.encoding.specs.Result.{ok, Parser, skip, times}
-use Rattle.encoding.specs.ResultLaws.{bind_ok, bind_step, chunk_ok, Held, held_bind, held_skip}
+use Rattle.encoding.proofs.ResultLaws.{bind_ok, bind_step, chunk_ok, Held, held_bind, held_skip}
 use Rattle.encoding.specs.Number.{size, bool}
 use Rattle.encoding.specs.Proxy.{text}
 use Rattle.encoding.specs.Types.{dict, enum, upto}
 use Rattle.encoding.specs.Table.{at, row_at, part_ty, type_rows, ty_of, with_lists}
 use Rattle.encoding.specs.Value.{value}
-use Rattle.encoding.specs.ValueLaws.{held_text}
+use Rattle.encoding.proofs.ValueLaws.{held_text}
 use Rattle.encoding.specs.Old.{type_as}
 use Rattle.wire.specs.declared.Step.{Step}
 use Rattle.wire.specs.declared.Step.TheVariants.{Took}

@@ -11,7 +11,7 @@ use lib.ListN.{length}
 use mir.Syntax.{w64}
 use mir.Val.{Fits}
 use Rattle.encoding.specs.Number.{size}
-use Rattle.encoding.specs.NumberLaws.{held_size}
+use Rattle.encoding.proofs.NumberLaws.{held_size}
 use Rattle.wire.specs.declared.Sized.{Sized}
 use Rattle.wire.specs.declared.Sized.TheVariants.{Is}
 use Rattle.wire.specs.Steps.{sized_of}

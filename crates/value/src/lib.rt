@@ -4,6 +4,8 @@
 // below it, any other row is broken. The bound falls with each part. `part` is small enough to be inlined into the loops that call it;
 // `value`, called from several places, is not.
 // Each is given `begin`, where the type rows begin, and `old`: whether the value is in encoding 1.0, which has other enums and proxies.
+#![tactic(auto)]
+
 mod plain;
 pub mod quick;
 
@@ -31,7 +33,7 @@ fn same(step: Step) -> Step
 }
 
 // A value of row e, where e is below t. `&s[0..]` in place of `s`: where and how long are passed in registers.
-#[cycle(dictionary_elements_key_pair_pairs_part_sequence_struct_value_value)]
+#[cycle(values)]
 fn value(
     table: &[u8],
     begin: usize,
@@ -68,7 +70,7 @@ fn value(
 }
 
 // The same; a value that may be any bytes is taken at once. The answer is rebuilt, so that it stays in registers.
-#[cycle(dictionary_elements_key_pair_pairs_part_sequence_struct_value_value)]
+#[cycle(values)]
 fn part(
     table: &[u8],
     begin: usize,
@@ -98,7 +100,7 @@ fn part(
 }
 
 // The members of struct row t, one after another.
-#[cycle(dictionary_elements_key_pair_pairs_part_sequence_struct_value_value)]
+#[cycle(values)]
 fn struct_value(
     table: &[u8],
     begin: usize,
@@ -148,7 +150,7 @@ fn is_text_below(shapes: &[u8; 256], t: usize, k: usize) -> bool
 }
 
 // The sequence of row t: a size, and as many elements; elements that may be any bytes are taken at once.
-#[cycle(dictionary_elements_key_pair_pairs_part_sequence_struct_value_value)]
+#[cycle(values)]
 fn sequence(table: &[u8], begin: usize, shapes: &[u8; 256], t: usize, s: &[u8], old: bool) -> Step
     requires begin_value { begin ≡ types_at table.now }
     requires shapes_value { shapes.now ≡ shapes_of table.now }
@@ -175,7 +177,7 @@ fn sequence(table: &[u8], begin: usize, shapes: &[u8; 256], t: usize, s: &[u8], 
 }
 
 // n values of row e, where e is below t.
-#[cycle(dictionary_elements_key_pair_pairs_part_sequence_struct_value_value)]
+#[cycle(values)]
 fn elements(
     table: &[u8],
     begin: usize,
@@ -223,7 +225,7 @@ fn elements(
 }
 
 // The dictionary of row t: a size, and as many pairs.
-#[cycle(dictionary_elements_key_pair_pairs_part_sequence_struct_value_value)]
+#[cycle(values)]
 fn dictionary(table: &[u8], begin: usize, shapes: &[u8; 256], t: usize, s: &[u8], old: bool) -> Step
     requires begin_value { begin ≡ types_at table.now }
     requires shapes_value { shapes.now ≡ shapes_of table.now }
@@ -243,7 +245,7 @@ fn dictionary(table: &[u8], begin: usize, shapes: &[u8; 256], t: usize, s: &[u8]
 }
 
 // n pairs of dictionary row t.
-#[cycle(dictionary_elements_key_pair_pairs_part_sequence_struct_value_value)]
+#[cycle(values)]
 fn pairs(
     table: &[u8],
     begin: usize,
@@ -279,7 +281,7 @@ fn pairs(
 }
 
 // A value of row k, where k is below t; a string, if `text` says so, is read without a call.
-#[cycle(dictionary_elements_key_pair_pairs_part_sequence_struct_value_value)]
+#[cycle(values)]
 fn key(
     table: &[u8],
     begin: usize,
@@ -302,7 +304,7 @@ fn key(
 }
 
 // A key of row k, then a value of row v, both below t; `text` and `w` come from their shapes, looked up once for all pairs.
-#[cycle(dictionary_elements_key_pair_pairs_part_sequence_struct_value_value)]
+#[cycle(values)]
 fn pair(
     table: &[u8],
     begin: usize,
