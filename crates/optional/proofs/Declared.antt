@@ -1,11 +1,11 @@
 -- Declared bytes, by the bytes at the head, by type bits and by a form's number. Assumes nothing.
 --
---   run-..                   F1, F2, F4, F8: so many bytes
---   size-..                  Size: the bytes of the size itself
---   declared-..              FSize: an int and that many bytes
+--   run_..                   F1, F2, F4, F8: so many bytes
+--   size_..                  Size: the bytes of the size itself
+--   declared_..              FSize: an int and that many bytes
 --   extent_at, extent_past   by the type bits
---   whole-..                 all of them delivered
---   width-.., part-..        by a form's number
+--   whole_..                 all of them delivered
+--   width_.., part_..        by a form's number
 use mathlib.Core.Path.{◌≡◌, refl, sym, ap, ◌∙◌}
 use mathlib.Core.List.{List, [], ◌∷◌}
 use Prim.Native.Nat.{ℕ, zero, suc, ◌-◌, ◌≤◌, ◌<◌}
@@ -14,14 +14,14 @@ use lib.ListN.{length, take, get_or-eq_default}
 use lib.Seq.{length-take-le}
 use borrow.Author.Tests.{le-leb, lt-leb, le-ltb, ne_eqb}
 use Rattle.encoding.specs.Result.{Res, ok, bad, Parser, fail, chunk, made, bytes}
-use Rattle.encoding.specs.ResultLaws.{Held, held_took}
+use Rattle.encoding.proofs.ResultLaws.{Held, held_took}
 use Rattle.encoding.specs.Number.{declared}
 use Rattle.encoding.specs.Number
-use Rattle.encoding.specs.NumberLaws.{held_size}
+use Rattle.encoding.proofs.NumberLaws.{held_size}
 use Rattle.encoding.specs.Types.{f1, f2, f4, f8, size, vsize, fsize, class, bits_at}
 use Rattle.encoding.specs.Optional.{run, extent, part}
-use Rattle.encoding.specs.OptionalLaws.{held_extent}
-use Rattle.encoding.specs.WeightLaws.{declared_weight}
+use Rattle.encoding.proofs.OptionalLaws.{held_extent}
+use Rattle.encoding.proofs.WeightLaws.{declared_weight}
 use Rattle.wire.specs.declared.Step.{Step}
 use Rattle.wire.specs.declared.Step.TheVariants.{Took, Fault}
 use Rattle.wire.specs.declared.Sized.{Sized}

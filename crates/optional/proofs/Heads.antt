@@ -1,9 +1,9 @@
 -- A header: its first byte and long tag, its judgements, and the member that it names. Assumes nothing.
 --
---   front-..     the first byte and the tag
---   under-..     a long tag under 30
---   early-..     the judgements before the look-up
---   head-..      the header, judged
+--   front_..     the first byte and the tag
+--   under_..     a long tag under 30
+--   early_..     the judgements before the look-up
+--   head_..      the header, judged
 use mathlib.Core.Path.{◌≡◌, refl, sym, ap, ◌∙◌}
 use mathlib.Core.Bool.{Bool, true, false, ◌&&◌, not}
 use mathlib.Core.Option.{none, some}
@@ -16,11 +16,11 @@ use borrow.Author.Tests.{le-leb, lt-leb, lt-ltb, le-ltb, eq-eqb, ne_eqb}
 use mir.Syntax.{w64}
 use mir.Val.{Fits}
 use Rattle.encoding.specs.Result.{Res, ok, bad, pick, shift, after, ◌>>=◌, pure, chunk, judged, must, made, mapc, first_of}
-use Rattle.encoding.specs.ResultLaws.{held_took, held_refused}
+use Rattle.encoding.proofs.ResultLaws.{held_took, held_refused}
 use Rattle.encoding.specs.Number.{number, byte, size}
-use Rattle.encoding.specs.NumberLaws.{held_size}
+use Rattle.encoding.proofs.NumberLaws.{held_size}
 use Rattle.encoding.specs.Types.{bits, bits_of, form_of}
-use Rattle.encoding.specs.TypesLaws.{bits_there}
+use Rattle.encoding.proofs.TypesLaws.{bits_there}
 use Rattle.encoding.specs.Table.{at, members, Member, lookup}
 use Rattle.encoding.specs.Optional.{Header, first_form, header_tail, wrong_type, header_form, header}
 use Rattle.wire.specs.declared.Sized.{Sized}

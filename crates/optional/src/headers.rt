@@ -91,7 +91,8 @@ pub fn title(s: &[u8]) -> Title
 
 // The same of a header of one byte alone.
 pub fn short_title(s: &[u8]) -> Title
-    ensures { (result.head ≤ 6) × (0 < result.head → Titled s.now result.tag result.bits result.head) }
+    ensures value { (result.head ≤ 6) × (0 < result.head → Titled s.now result.tag result.bits result.head) }
+    ensures short { result.head ≤ 1 }
 {
     let h = wire::byte_at(s, 0);
     let tag = wire::tag_bits(h);

@@ -1,4 +1,6 @@
 // An optional's header and its declared bytes; neither needs a value. headers.rt has the header, extents.rt the declared bytes.
+#![tactic(auto)]
+
 pub mod extents;
 pub mod headers;
 
@@ -6,14 +8,14 @@ ghost use Rattle.std.specs.Prelude.{◌≡◌};
 ghost use Rattle.optional.specs.Answers.{type_of};
 
 // A header before it is judged: whether its tag is long, its tag, its type bits, the bytes taken; or a refusal's number and place.
-#[derive(Drop)]
+#[derive(Clone, Copy)]
 pub enum Front {
     Is(bool, usize, usize, usize),
     Isnt(usize, usize),
 }
 
 // A header. Of a known tag: the member row, the row of its type, the tag, the bytes taken, the number of its form. Of an unknown one: the tag, the type bits, the bytes taken. Or a refusal's number and place.
-#[derive(Drop)]
+#[derive(Clone, Copy)]
 pub enum Head {
     Known(usize, usize, usize, usize, usize),
     Unknown(usize, usize, usize),
@@ -21,7 +23,7 @@ pub enum Head {
 }
 
 // A header's tag, its type bits, and its bytes; 0 bytes if nothing is said of it.
-#[derive(Drop)]
+#[derive(Clone, Copy)]
 pub struct Title {
     pub tag: usize,
     pub bits: usize,
