@@ -2,8 +2,8 @@
 --
 --   head_fits, lost_fits        a header lies within the bytes at hand
 --   next_wrong                  the header is refused
---   known-.., next_known        a known value after the header, or its refusal
---   skipped-.., next_skipped    a skipped one, or its refusal
+--   known_.., next_known        a known value after the header, or its refusal
+--   skipped_.., next_skipped    a skipped one, or its refusal
 use mathlib.Core.Path.{◌≡◌, refl, sym, ap, ap₂, ◌∙◌}
 use mathlib.Core.Option.{Option, none, some}
 use mathlib.Core.List.{List}
@@ -13,13 +13,13 @@ use mir.Syntax.{w64}
 use mir.Val.{Fits}
 use lib.ListN.{length, take, drop, length-drop}
 use Rattle.encoding.specs.Result.{Res, ok, bad, shift, after, ◌>>=◌, made, mapc, bytes, inside}
-use Rattle.encoding.specs.ResultLaws.{held_took, held_refused}
+use Rattle.encoding.proofs.ResultLaws.{held_took, held_refused}
 use Rattle.encoding.specs.Types.{Bits, bits, bits_at, Form, form_of, Ty}
-use Rattle.encoding.specs.TypesLaws.{bits_back}
+use Rattle.encoding.proofs.TypesLaws.{bits_back}
 use Rattle.encoding.specs.Value.{value}
 use Rattle.encoding.specs.Table.{ty_of, Member, lookup}
 use Rattle.encoding.specs.Optional.{optional, skipped, Header, header, extent, part, content, next_optional}
-use Rattle.encoding.specs.OptionalLaws.{held_header, held_extent}
+use Rattle.encoding.proofs.OptionalLaws.{held_header, held_extent}
 use Rattle.shapes.specs.Shapes.{shapes_of, form_in}
 use Rattle.table.specs.Tags.{optional_from}
 use Rattle.wire.specs.declared.Sized.{Sized}

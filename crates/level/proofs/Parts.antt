@@ -19,15 +19,15 @@ use lib.Seq.{take-length, length-take-le}
 use lib.Dec.{eqb}
 use borrow.Author.Tests.{eq-eqb, ne_eqb}
 use Rattle.encoding.specs.Result.{Res, ok, bad, pick, judged, must, made, mapc, bytes, leave, enter, inside}
-use Rattle.encoding.specs.ResultLaws.{framed_part, inside_ok, bytes_ok, held_took, held_refused, held_bytes, held_inside}
+use Rattle.encoding.proofs.ResultLaws.{framed_part, inside_ok, bytes_ok, held_took, held_refused, held_bytes, held_inside}
 use Rattle.encoding.specs.Number.{Content, string}
 use Rattle.encoding.specs.Proxy.{text}
 use Rattle.encoding.specs.Types.{Ty, Form, own, vsize}
 use Rattle.encoding.specs.Value.{value}
-use Rattle.encoding.specs.ValueLaws.{held_value}
+use Rattle.encoding.proofs.ValueLaws.{held_value}
 use Rattle.encoding.specs.Table.{ty_of}
 use Rattle.encoding.specs.Optional.{extent, part}
-use Rattle.encoding.specs.OptionalLaws.{framed_extent, held_extent, held_part, ends_part}
+use Rattle.encoding.proofs.OptionalLaws.{framed_extent, held_extent, held_part, ends_part}
 use Rattle.wire.specs.declared.Step.{Step}
 use Rattle.wire.specs.declared.Step.TheVariants.{Took, Fault}
 use Rattle.wire.specs.declared.Sized.{Sized}

@@ -20,9 +20,9 @@ use lib.Seq.{drop-drop, length-take-le}
 use lib.Dec.{eqb}
 use borrow.Author.Tests.{eqb-false, eq-eqb, ne_eqb}
 use Rattle.encoding.specs.Result.{Parser, Res, ok, bad, pick, shift, ◌>>=◌, pure, made, mapc, bytes}
-use Rattle.encoding.specs.ResultLaws.{ok≢bad, Bound, bind_ok, bind_next, bind_bad, bytes_step, mapc_ok, held_took, held_refused}
+use Rattle.encoding.proofs.ResultLaws.{ok≢bad, Bound, bind_ok, bind_next, bind_bad, bytes_step, mapc_ok, held_took, held_refused}
 use Rattle.encoding.specs.Value.{value}
-use Rattle.encoding.specs.ValueLaws.{held_value}
+use Rattle.encoding.proofs.ValueLaws.{held_value}
 use Rattle.encoding.specs.Old.{type_as, members_as}
 use Rattle.encoding.specs.Table.{field, mark, range, ty_of, member_ty, own_rows, trees, Member, requireds_in}
 use Rattle.encoding.specs.Table

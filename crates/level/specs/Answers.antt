@@ -5,7 +5,8 @@
 --   Logged m s n      member row m is required, and a value of its type takes the first n bytes of s
 --   LastLog           the same for n above 0, no row from m + 1 to `end` is required, and row k was put for the member, whose value is at place `at`
 --   Tagged end row k t    the look-up of tag k before row `end`, from `row` on, finds member `row` at once; its type has row t
---   Bare              n bytes, if there are any, are an optional of tag k and member `row` as the reader of optionals gives it; its header has h bytes
+--   Bare              n bytes, if there are any, are an optional of tag k and member `row` as the reader of optionals gives it
+--   Headed            the same of one whose header has h bytes
 --   bare_shape k       the shape of a type whose values are any bytes of type k, F1 to F8
 --   row_or             a member's row, if there is one
 --   piece_answer       what is answered of a piece that took n bytes
@@ -70,5 +71,8 @@ unfoldable pub optional_answer : List Member → Res (Piece × ℕ) → Optional
 optional_answer ms (ok r n) = piece_answer ms n r.0
 optional_answer ms (bad c p) = Wrong c p
 
-pub record Bare (T : List ℕ) (end row least : ℕ) (s : List ℕ) (k h n : ℕ) : Type 0 where
+pub record Bare (T : List ℕ) (end row least : ℕ) (s : List ℕ) (k n : ℕ) : Type 0 where
+  pub known : 0 < n → Known row k 1 n ≡ optional_answer (optional_from T end row) (next_optional (optional_from T end row) least s)
+
+pub record Headed (T : List ℕ) (end row least : ℕ) (s : List ℕ) (k h n : ℕ) : Type 0 where
   pub known : 0 < n → Known row k h n ≡ optional_answer (optional_from T end row) (next_optional (optional_from T end row) least s)

@@ -4,8 +4,8 @@
 --   KnownRead, SkippedRead                  an optional was read to a known piece, to a skipped one, and the least tag next is one above its own
 --   known_read, skipped_read, wrong_read    what each answer says: that; or the refusal
 --   known_rows, skipped_rows                what the piece adds to the rows
---   known_within, -start, -tag              all bytes are there, the value ends them, the tag is below 2 ^ 31
---   skipped_some, -within, -tag             the same of a skipped one; wrong_within a refusal's place is there
+--   known_within, _start, _tag              all bytes are there, the value ends them, the tag is below 2 ^ 31
+--   skipped_some, _within, _tag             the same of a skipped one; wrong_within a refusal's place is there
 --   members_read, members_start             the pieces of the required members, and where the optional ones begin
 --   members_refused                         or the refusal
 --   members_within, refused_within          what they take, and where they are refused, is there
@@ -16,15 +16,15 @@ use Rattle.std.proofs.Math.Option.{Option, none, some}
 use mathlib.Core.List.{List, ◌∷◌, ◌++◌}
 use Rattle.std.proofs.Math.ListN.{length, length-append}
 use Rattle.encoding.specs.Result.{Res, ok, bad, pick, pure, must, mapc, bytes, inside}
-use Rattle.encoding.specs.ResultLaws.{first_of_ok, Bound, bind_ok, pure_ok, must_ok, mapc_ok, pick_true, held_took, held_refused}
+use Rattle.encoding.proofs.ResultLaws.{first_of_ok, Bound, bind_ok, pure_ok, must_ok, mapc_ok, pick_true, held_took, held_refused}
 use Rattle.encoding.specs.Number.{byte, size}
 use Rattle.encoding.specs.Types.{Bits, bits_at, Form, form_of}
 use Rattle.encoding.specs.Value.{value}
 use Rattle.encoding.specs.Table.{Member, lookup}
 use Rattle.encoding.specs.Table
 use Rattle.encoding.specs.Optional.{Piece, optional, skipped, Header, first_form, header_tail, header_form, header, extent, part, content, next_optional, requireds, front_bytes, content_bytes, piece_bytes}
-use Rattle.encoding.specs.OptionalLaws.{held_optional, eats_optional, held_requireds}
-use Rattle.encoding.specs.WeightLaws.{optional_weight}
+use Rattle.encoding.proofs.OptionalLaws.{held_optional, eats_optional, held_requireds}
+use Rattle.encoding.proofs.WeightLaws.{optional_weight}
 use Rattle.encoding.specs.Message.{list_row, piece_member, piece_rows}
 use Rattle.wire.specs.SizeLaws.{size_below}
 use Rattle.level.specs.declared.Members.{Members}

@@ -12,7 +12,7 @@ use Rattle.std.proofs.lemmas.List.{set_comm}
 use Rattle.std.proofs.lemmas.Bool.{eqb-false}
 use Rattle.encoding.specs.Result.{concat}
 use Rattle.encoding.specs.Message.{Row, row_bytes}
-use Rattle.encoding.specs.MessageLaws.{length_row, length_rows}
+use Rattle.encoding.proofs.MessageLaws.{length_row, length_rows}
 use Rattle.wire.specs.Put.{put}
 use Rattle.wire.specs.PutLaws.{put_length, put_none, put_put, put_fits, put_over, put_sets}
 use Rattle.level.specs.Fill.{fill}

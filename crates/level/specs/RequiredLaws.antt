@@ -1,7 +1,7 @@
 -- The rows of required members: the piece at a position is of the member at that position. Assumes nothing.
 --
 --   member_at T i r            the required member of row r at position i
---   required_past, -next      what an optional row and a required one add to the members
+--   required_past, _next      what an optional row and a required one add to the members
 --   Ahead T t i rs            of owner t, the required members from position i on are those of the rows rs
 --   ahead_begin               all of them are those of the owner's rows
 --   ahead_past, ahead_next    one row further: an optional one, a required one
@@ -14,7 +14,7 @@ use Rattle.std.proofs.Math.Path.{ap}
 use Rattle.std.proofs.Math.Option.{some}
 use Rattle.std.proofs.lemmas.Bool.{eqb-false}
 use Rattle.encoding.specs.Result.{Parser, ok, pick, ◌>>=◌, pure, mapc, bytes}
-use Rattle.encoding.specs.ResultLaws.{Bound, bind_ok, mapc_ok, pure_ok}
+use Rattle.encoding.proofs.ResultLaws.{Bound, bind_ok, mapc_ok, pure_ok}
 use Rattle.encoding.specs.Value.{value}
 use Rattle.encoding.specs.Old.{type_as, old_member, members_as}
 use Rattle.encoding.specs.Table.{mark, member_ty, own_rows, trees, Member, requireds_in, lookup}

@@ -1,4 +1,6 @@
 // The members of one owner: its required members, and (optionals.rt) the next of its optionals.
+#![tactic(auto)]
+
 pub mod optionals;
 
 ghost use Rattle.std.specs.Prelude.{◌≡◌, false, List, ℕ, ◌+◌, ◌*◌, ◌^◌, ◌≤◌, ◌<◌, length};
@@ -22,14 +24,14 @@ ghost use Rattle.level.specs.Answers.{members_of, Simple, Logged, LastLog};
 use wire::Step;
 
 // The bytes taken, the rows there are, and where the optional members begin; or a refusal's number and place.
-#[derive(Drop)]
+#[derive(Clone, Copy)]
 pub enum Members {
     Read(usize, usize, usize),
     Refused(usize, usize),
 }
 
 // How far required members were read that may be any bytes: the bytes taken, the rows there are, and the first row that was not read.
-#[derive(Drop)]
+#[derive(Clone, Copy)]
 pub struct Begun {
     pub bytes: usize,
     pub count: usize,
@@ -37,7 +39,7 @@ pub struct Begun {
 }
 
 // A known optional: its member row, its tag, where its bytes begin, the bytes taken. A skipped one: its tag, the bytes taken. Or a refusal's number and place.
-#[derive(Drop)]
+#[derive(Clone, Copy)]
 pub enum Optional {
     Known(usize, usize, usize, usize),
     Skipped(usize, usize),

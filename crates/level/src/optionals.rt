@@ -10,25 +10,32 @@ ghost use Rattle.table.specs.Tags.{optional_from};
 ghost use Rattle.optional.specs.Forms.{form_named};
 ghost use Rattle.optional.specs.Answers.{Titled};
 ghost use Rattle.wire.specs.Steps.{bytes_of};
-ghost use Rattle.level.specs.Answers.{Tagged, Bare, bare_shape, optional_answer};
+ghost use Rattle.level.specs.Answers.{Tagged, Bare, Headed, bare_shape, optional_answer};
 
 use crate::Optional;
 use optional::{Head, Title};
 use wire::{Sized, Step};
 
-// A simple optional: its tag, the bytes of its header, and those that it takes with it; 0 bytes if there is none.
-#[derive(Drop)]
+// A simple optional: its tag, and the bytes that it takes with its header of one byte; 0 bytes if there is none.
+#[derive(Clone, Copy)]
 pub struct Plain {
+    pub tag: usize,
+    pub bytes: usize,
+}
+
+// A simple optional: its tag, the bytes of its header, and those that it takes with it; 0 bytes if there is none.
+#[derive(Clone, Copy)]
+pub struct Found {
     pub tag: usize,
     pub head: usize,
     pub bytes: usize,
 }
 
 // No simple optional.
-fn none() -> Plain
+fn none() -> Found
     ensures { result.bytes ≡ 0 }
 {
-    Plain {
+    Found {
         tag: 0,
         head: 0,
         bytes: 0,
@@ -155,12 +162,13 @@ fn titled(
     least: usize,
     s: &[u8],
     title: Title,
-) -> Plain
+) -> Found
     requires first_value { first ≡ members_at table.now }
     requires whole { (0 < limit → Whole table.now limit) × (limit ≤ end) }
     requires shapes_value { shapes.now ≡ shapes_of table.now }
     requires head_bound { (title.head ≤ 6) × (0 < title.head → Titled s.now title.tag title.bits title.head) }
-    ensures { Bare table.now end row least s.now result.tag result.head result.bytes }
+    ensures value { Headed table.now end row least s.now result.tag result.head result.bytes }
+    ensures same_head { 0 < result.bytes → (0 < title.head) × (result.head ≡ title.head) }
 {
     let tag = title.tag;
     let head = title.head;
@@ -182,10 +190,32 @@ fn titled(
     if s.len() < bytes {
         return none();
     }
-    Plain { tag, head, bytes }
+    Found { tag, head, bytes }
 }
 
 // The next optional, if it is simple, whatever its tag.
+pub fn any_simple(
+    table: &[u8],
+    first: usize,
+    limit: usize,
+    shapes: &[u8; 256],
+    end: usize,
+    row: usize,
+    least: usize,
+    s: &[u8],
+) -> Found
+    requires first_value { first ≡ members_at table.now }
+    requires whole { (0 < limit → Whole table.now limit) × (limit ≤ end) }
+    requires shapes_value { shapes.now ≡ shapes_of table.now }
+    ensures { Headed table.now end row least s.now result.tag result.head result.bytes }
+{
+    let title = optional::headers::title(s);
+    titled(table, first, limit, shapes, end, row, least, s, title)
+}
+
+// The next optional, if it is simple: if its tag is below 30 and that of member row `row`, and its value any bytes of F1, F2, F4 or F8.
+// Most tags are below 30, and a loop over them is shorter.
+// Wrong and ruled out: a long taken as four bytes.
 pub fn simple(
     table: &[u8],
     first: usize,
@@ -199,28 +229,12 @@ pub fn simple(
     requires first_value { first ≡ members_at table.now }
     requires whole { (0 < limit → Whole table.now limit) × (limit ≤ end) }
     requires shapes_value { shapes.now ≡ shapes_of table.now }
-    ensures { Bare table.now end row least s.now result.tag result.head result.bytes }
-{
-    let title = optional::headers::title(s);
-    titled(table, first, limit, shapes, end, row, least, s, title)
-}
-
-// The same of a tag below 30: most tags are, and a loop over them is shorter.
-pub fn short(
-    table: &[u8],
-    first: usize,
-    limit: usize,
-    shapes: &[u8; 256],
-    end: usize,
-    row: usize,
-    least: usize,
-    s: &[u8],
-) -> Plain
-    requires first_value { first ≡ members_at table.now }
-    requires whole { (0 < limit → Whole table.now limit) × (limit ≤ end) }
-    requires shapes_value { shapes.now ≡ shapes_of table.now }
-    ensures { Bare table.now end row least s.now result.tag result.head result.bytes }
+    ensures { Bare table.now end row least s.now result.tag result.bytes }
 {
     let title = optional::headers::short_title(s);
-    titled(table, first, limit, shapes, end, row, least, s, title)
+    let found = titled(table, first, limit, shapes, end, row, least, s, title);
+    Plain {
+        tag: found.tag,
+        bytes: found.bytes,
+    }
 }
