@@ -1,10 +1,10 @@
 -- Flags and type ID, a case for each way out of the code. Assumes nothing.
 --
---   mixed-.., due-.., flags-..   the judgements of flags
---   id-..                        a type ID, due or not: its cases, and that it lies within the bytes at hand
---   seek-.., follow-..           the meaning of an ID before the first known slice, and after a known one
---   heading-..                   both, by the stage of the walk
---   head-..                      the cases of a head
+--   mixed_.., due_.., flags_..   the judgements of flags
+--   id_..                        a type ID, due or not: its cases, and that it lies within the bytes at hand
+--   seek_.., follow_..           the meaning of an ID before the first known slice, and after a known one
+--   heading_..                   both, by the stage of the walk
+--   head_..                      the cases of a head
 use mathlib.Core.Path.{◌≡◌, refl, sym, ap, ◌∙◌}
 use mathlib.Core.Logic.{◌⊎◌, ⊎_elim}
 use mathlib.Core.Bool.{Bool, true, false, ◌&&◌, ◌||◌, not, beq}
@@ -21,9 +21,9 @@ use mir.Syntax.{w64}
 use mir.Val.{Fits}
 use borrow.Author.Tests.{le-leb, lt-leb, lt-ltb, le-ltb, ne_eqb}
 use Rattle.encoding.specs.Result.{Res, ok, bad, pick, shift, after, ◌>>=◌, pure, chunk, judged, must, made, mapc, first_of, same_bytes}
-use Rattle.encoding.specs.ResultLaws.{first_of_ok, must_ok, Held, held_took, held_refused, held_pure, held_pick, Ends, ends_chunk, ends_item, ends_bind}
+use Rattle.encoding.proofs.ResultLaws.{first_of_ok, must_ok, Held, held_took, held_refused, held_pure, held_pick, Ends, ends_chunk, ends_item, ends_bind}
 use Rattle.encoding.specs.Number.{byte, number, Content, string}
-use Rattle.encoding.specs.NumberLaws.{held_string}
+use Rattle.encoding.proofs.NumberLaws.{held_string}
 use Rattle.encoding.specs.Table.{at, any, chain, named, name_of, base}
 use Rattle.encoding.specs.Slice.{compact, sliced, is_sliced, bit, format_of_flags, first, later, seek, follow, mixed, due, flag_form, Head, head, stand_of, Meaning, skip, row, wrong, wrong_last, known_meaning, seek_meaning, meaning, is_none, id_form, meaning_form}
 use Rattle.encoding.specs.Slice

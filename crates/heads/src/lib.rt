@@ -1,4 +1,6 @@
 // Flags and type ID of a slice, and what they mean at this stage of the walk.
+#![tactic(auto)]
+
 ghost use Rattle.std.specs.Prelude.{◌≡◌, ◌&&◌, not};
 ghost use Rattle.encoding.specs.Result.{must, same_bytes};
 ghost use Rattle.encoding.specs.Table.{types_at, name_of};
@@ -10,7 +12,7 @@ use table::Found;
 use wire::Sized;
 
 // The stage of the walk over slices: at the first slice; after skipped slices only; after a known slice, sliced or not, with its base row + 1, 0 for none.
-#[derive(Drop)]
+#[derive(Clone, Copy)]
 pub enum Stage {
     First,
     Seeking,
@@ -18,7 +20,7 @@ pub enum Stage {
 }
 
 // What flags and type ID mean: skip the slice; the slice of a known row, with its bit 2, whether it is sliced, and the bytes taken; or a refusal's number and place.
-#[derive(Drop)]
+#[derive(Clone, Copy)]
 pub enum Heading {
     Skip(usize),
     Known(usize, bool, bool, usize),
