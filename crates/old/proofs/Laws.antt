@@ -1,13 +1,13 @@
 -- Optionals in a line of descent: a row's members, the loops up the line and over the rows after the top. Assumes nothing.
 --
 --   members_optional           some of a row's member rows is optional
---   bars_row, -not             a row of the table
---   above_here, -end, -next    the loop up the line
---   inherits_row, -other, -plain   a row after the top
---   Rows, rows-..              the loop over those rows
+--   bars_row, _not             a row of the table
+--   above_here, _end, _next    the loop up the line
+--   inherits_row, _other, _plain   a row after the top
+--   Rows, rows_..              the loop over those rows
 --   any_ok, any_of_lem, any_in     what is true of some number of a list; of a range
 --   chain_low                  a row's bases are smaller rows
---   line_above, -past, -below  the whole: some row of the line, up or down
+--   line_above, _past, _below  the whole: some row of the line, up or down
 use Prim.Native.Nat.{ℕ, zero, suc, ◌+◌, ◌-◌, ◌≤◌, ◌<◌}
 use mathlib.Core.Path.{◌≡◌, refl, sym, ap, ◌∙◌}
 use mathlib.Core.Bool.{Bool, true, false, not, ◌&&◌, ◌||◌, false≢true}
@@ -17,11 +17,11 @@ use native.Mathlib.Omega.{arith}
 use lib.Dec.{eqb, ltb}
 use borrow.Author.Tests.{eq-eqb, ne_eqb, eqb-true, lt-ltb, le-ltb, ltb-true}
 use Rattle.encoding.specs.Result.{pick}
-use Rattle.encoding.specs.ResultLaws.{both_true}
+use Rattle.encoding.proofs.ResultLaws.{both_true}
 use Rattle.encoding.specs.Types.{Ty}
 use Rattle.encoding.specs.Table.{types, kind, field, is_record, mark, tag, range, any, trees, Member, member_ty, own_rows, optionals_in, optional_members, base, upward, chain}
-use Rattle.encoding.specs.TableLaws.{chain_row, base_below}
-use Rattle.encoding.specs.RuleLaws.{any_none as none_after}
+use Rattle.encoding.proofs.TableLaws.{chain_row, base_below}
+use Rattle.encoding.proofs.RuleLaws.{any_none as none_after}
 use Rattle.encoding.specs.Old.{descends, related, any_of, no_old}
 use Rattle.table.specs.Tags.{has_optional}
 use Rattle.table.proofs.Ranges.{any_here, any_next, any_none, any_never}

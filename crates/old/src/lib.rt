@@ -1,5 +1,7 @@
 // Where encoding 1.0 cannot be used (26): a row of the top's line of descent has optionals.
 // Computed for a message of 1.0 and a writer's format 2 alone. A base is a smaller row, so only the rows after the top may descend from it.
+#![tactic(auto)]
+
 ghost use Rattle.std.specs.Prelude.{◌≡◌, ◌&&◌, ◌+◌, ◌-◌, ◌<◌, ltb};
 ghost use Rattle.encoding.specs.Table.{types, types_at, members_at, range, any, optional_members, chain};
 ghost use Rattle.encoding.specs.Old.{descends, any_of, no_old};
