@@ -1,6 +1,6 @@
 -- How a walk ends, numbers that stay small, and parts of a message. Assumes nothing.
 --
---   ends-..                             an answer and a lent list are those of an outcome
+--   ends_..                             an answer and a lent list are those of an outcome
 --   put_keeps                           a list that is written into keeps its length
 --   Small, types_below, field_below     a table is of bytes, so that it has few types and a row names few members
 --   part_on, part_length                what is left of a part of a message

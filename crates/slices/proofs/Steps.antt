@@ -1,8 +1,8 @@
 -- The small steps of the walk, one case for each way out of the code. Assumes nothing.
 --
---   opening-..     a slice up to its data
---   next-..        what comes next among a slice's optionals
---   recall-.., over-.., first-..    a refusal's place, bytes left over, the first known type
+--   opening_..     a slice up to its data
+--   next_..        what comes next among a slice's optionals
+--   recall_.., over_.., first_..    a refusal's place, bytes left over, the first known type
 use mathlib.Core.Path.{◌≡◌, refl, sym, ap, ◌∙◌}
 use mathlib.Core.Bool.{Bool, true, false, ◌&&◌, not}
 use mathlib.Core.Option.{none, some}
@@ -15,13 +15,13 @@ use borrow.Author.Tests.{eq-eqb, ne_eqb}
 use mir.Syntax.{w64}
 use mir.Val.{Fits}
 use Rattle.encoding.specs.Result.{ok, bad, at_mark}
-use Rattle.encoding.specs.ResultLaws.{held_took, held_refused}
+use Rattle.encoding.proofs.ResultLaws.{held_took, held_refused}
 use Rattle.encoding.specs.Number.{declared}
-use Rattle.encoding.specs.NumberLaws.{held_declared}
+use Rattle.encoding.proofs.NumberLaws.{held_declared}
 use Rattle.encoding.specs.Table.{Member}
 use Rattle.encoding.specs.Table
 use Rattle.encoding.specs.Optional.{next_optional}
-use Rattle.encoding.specs.WeightLaws.{declared_weight}
+use Rattle.encoding.proofs.WeightLaws.{declared_weight}
 use Rattle.encoding.specs.Slice
 use Rattle.wire.specs.At.{at_byte}
 use Rattle.wire.specs.declared.Step.{Step}
@@ -31,7 +31,7 @@ use Rattle.wire.specs.StepLaws.{rest_is, step_took, step_fault}
 use Rattle.table.specs.Tags.{optional_from}
 use Rattle.level.specs.declared.Optional.{Optional}
 use Rattle.level.specs.declared.Optional.TheVariants.{Known as KnownOptional, Skipped as SkippedOptional, Wrong as WrongOptional}
-use Rattle.level.specs.Answers.{Bare, optional_answer}
+use Rattle.level.specs.Answers.{Headed, optional_answer}
 use Rattle.heads.specs.declared.Stage.{Stage}
 use Rattle.heads.specs.declared.Stage.TheVariants.{First, Seeking, Following}
 use Rattle.heads.specs.declared.Heading.{Heading}
@@ -140,7 +140,7 @@ module _ (ms : List Member) (least : ℕ) (s : List ℕ) (b : ℕ) (e : b ≡ Ta
     next_wrong c p w = rw (unmarked, sym f ∙ w)
 
 -- an optional that was read without a call
-pub next_simple : (T : List ℕ) (stop row least : ℕ) (s : List ℕ) (b : ℕ) → b ≡ Table.at s 1 0 → (b ≡ 255 → ⊥) → (k h n : ℕ) → Bare T stop row least s k h n → (n ≡ 0 → ⊥)
+pub next_simple : (T : List ℕ) (stop row least : ℕ) (s : List ℕ) (b : ℕ) → b ≡ Table.at s 1 0 → (b ≡ 255 → ⊥) → (k h n : ℕ) → Headed T stop row least s k h n → (n ≡ 0 → ⊥)
     → KnownTurn row k h n ≡ turn_of (optional_from T stop row) least s
 next_simple T stop row least s b e q k h n B z = next_known (optional_from T stop row) least s b e q (KnownOptional row k h n) (B.known (omega (arith, z))) row k h n refl
 

@@ -2,9 +2,9 @@
 --
 --   ends_says, ends_gives   an outcome's answer and list are those of the walk
 --   credit                  how many owners may still come
---   Outer, outer-..         at the head of the loop over slices
---   Inner, inner-..         at the head of the loop over optionals
---   wrong-.., refused-.., stopped-.., over-..   the answer and the lent list are those of the walk: where a slice is refused before its data, a required member, an optional, and where bytes are left over
+--   Outer, outer_..         at the head of the loop over slices
+--   Inner, inner_..         at the head of the loop over optionals
+--   wrong_.., refused_.., stopped_.., over_..   the answer and the lent list are those of the walk: where a slice is refused before its data, a required member, an optional, and where bytes are left over
 use mathlib.Core.Path.{◌≡◌, refl, sym, ap, ap₂, ◌∙◌}
 use mathlib.Core.Bool.{Bool, true, false, ◌&&◌, not}
 use mathlib.Core.Option.{none, some}
@@ -21,14 +21,14 @@ use borrow.Author.Tests.{ne_eqb}
 use mir.Syntax.{w64}
 use mir.Val.{Fits}
 use Rattle.encoding.specs.Result.{Res, ok, bad, pick, at_mark}
-use Rattle.encoding.specs.ResultLaws.{both_true, held_took}
+use Rattle.encoding.proofs.ResultLaws.{both_true, held_took}
 use Rattle.encoding.specs.Table.{field, base}
 use Rattle.encoding.specs.Table
-use Rattle.encoding.specs.TableLaws.{base_below}
+use Rattle.encoding.proofs.TableLaws.{base_below}
 use Rattle.encoding.specs.Optional.{Piece, requireds, next_optional}
-use Rattle.encoding.specs.OptionalLaws.{held_optional, eats_optional}
+use Rattle.encoding.proofs.OptionalLaws.{held_optional, eats_optional}
 use Rattle.encoding.specs.Slice.{compact, sliced, first, seek, later, follow, finished, fields, slices, Chain, format_number, slice}
-use Rattle.encoding.specs.SliceLaws.{held_slice, eats_slice}
+use Rattle.encoding.proofs.SliceLaws.{held_slice, eats_slice}
 use Rattle.encoding.specs.Message.{piece_rows, row_bytes, slice_rows, skipped_in, passed_in}
 use Rattle.wire.specs.Put.{put}
 use Rattle.wire.specs.StepLaws.{rest_is}

@@ -1,11 +1,11 @@
 -- The walk's outcome, step by step: what a slice or a member that was read makes of it.
 --
---   onward-..                  the walk over the slices ahead: ended, refused, one slice further
---   optionals-..               the optionals ahead: ended, refused, one further
+--   onward_..                  the walk over the slices ahead: ended, refused, one slice further
+--   optionals_..               the optionals ahead: ended, refused, one further
 --   left_whole, left_listed    the whole walk, from its start: its answer and its rows
---   left_refused, -skipped, -known       what the next slice makes of the outcome
---   fields-.., parameters-..   what the required members of a slice or a list make of it
---   finish-..                  what the next optional makes of it
+--   left_refused, _skipped, _known       what the next slice makes of the outcome
+--   fields_.., parameters_..   what the required members of a slice or a list make of it
+--   finish_..                  what the next optional makes of it
 use Rattle.std.specs.Prelude.{◌≡◌, Bool, ◌&&◌, not, take}
 use Rattle.std.proofs.Math.Path.{refl, sym, ap, ap₂}
 use Rattle.std.proofs.Common.{◌∙◌, add-zero, zero-add, add_assoc, add-one}
@@ -19,15 +19,15 @@ use Rattle.std.proofs.Math.Seq.{drop-drop}
 use Rattle.std.proofs.Math.Dec.{eqb}
 use borrow.Author.Tests.{eqb-true, eqb-false, eq-eqb, ne_eqb}
 use Rattle.encoding.specs.Result.{Res, ok, bad, Parser, pick, shift, ◌>>=◌, pure, judged, must, made, mapc, recalled, turn, many, at_mark, at_end, concat}
-use Rattle.encoding.specs.ResultLaws.{both_true, bind_bad, bind_next, many_enough}
+use Rattle.encoding.proofs.ResultLaws.{both_true, bind_bad, bind_next, many_enough}
 use Rattle.encoding.specs.Table.{Member, base, upward, chain, name_of}
 use Rattle.encoding.specs.Table
-use Rattle.encoding.specs.Optional.{Piece, required, optional, skipped, next_optional, optionals, requireds, piece_bytes, is_skipped}
-use Rattle.encoding.specs.OptionalLaws.{eats_optional, starved_optional}
-use Rattle.encoding.specs.WeightLaws.{requireds_weight}
+use Rattle.encoding.specs.Optional.{Piece, optional, skipped, next_optional, optionals, requireds, piece_bytes, is_skipped}
+use Rattle.encoding.proofs.OptionalLaws.{eats_optional, starved_optional}
+use Rattle.encoding.proofs.WeightLaws.{requireds_weight}
 use Rattle.encoding.specs.Slice.{Format, sliced, compact, is_sliced, format_number, Slice, known, passed, Stand, first, later, Stage, seek, follow, stand_of, finished, Chain, ahead, some_form, fields, slice, walk, slice_front, data_bytes, is_last}
-use Rattle.encoding.specs.SliceLaws.{walk_ended, walk_on, walk_enough}
-use Rattle.encoding.specs.WalkLaws.{walk_of}
+use Rattle.encoding.proofs.SliceLaws.{walk_ended, walk_on, walk_enough}
+use Rattle.encoding.proofs.WalkLaws.{walk_of}
 use Rattle.encoding.specs.Message.{v11, Row, row_bytes, parameters, piece_rows, slice_rows, first_in, skipped_pieces, skipped_in, passed_in}
 use Rattle.wire.specs.Put.{put}
 use Rattle.level.specs.Fill.{fill}

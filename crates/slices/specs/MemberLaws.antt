@@ -16,16 +16,16 @@ use mathlib.Core.List.{List, [], ◌∷◌, ◌++◌}
 use Prim.Native.Nat.{ℕ, zero, suc, ◌+◌, ◌≤◌}
 use Rattle.std.proofs.Math.ListN.{length, length-append}
 use Rattle.encoding.specs.Result.{ok, Parser, pick, pure, must, mapc, bytes, inside, at_mark, concat}
-use Rattle.encoding.specs.ResultLaws.{some≢none, Bound, bind_ok, pure_ok, must_ok, mapc_ok, bytes_ok, inside_ok, Run, end, step, run_of, Eats, eats_chunk, eats_fail, eats_item, eats_mapc, eats_first}
-use Rattle.encoding.specs.NumberLaws.{eats_size, eats_declared}
+use Rattle.encoding.proofs.ResultLaws.{some≢none, Bound, bind_ok, pure_ok, must_ok, mapc_ok, bytes_ok, inside_ok, Run, end, step, run_of, Eats, eats_chunk, eats_fail, eats_item, eats_mapc, eats_first}
+use Rattle.encoding.proofs.NumberLaws.{eats_size, eats_declared}
 use Rattle.encoding.specs.Number
 use Rattle.encoding.specs.Types.{Ty, Bits, f1, f2, f4, f8, size, vsize, fsize, class, Form, bare, own, counted, sized, form_of}
 use Rattle.encoding.specs.Value.{value}
 use Rattle.encoding.specs.Table.{field, mark, member_ty, trees, range, own_rows, Member, requireds_in, lookup}
 use Rattle.encoding.specs.Table
 use Rattle.encoding.specs.Optional.{Piece, required, optional, skipped, Header, header, extent, part, content, next_optional, optionals, requireds, front_bytes, content_bytes, piece_bytes, is_optional, is_skipped}
-use Rattle.encoding.specs.OptionalLaws.{eats_header}
-use Rattle.encoding.specs.WeightLaws.{requireds_weight, run_weight}
+use Rattle.encoding.proofs.OptionalLaws.{eats_header}
+use Rattle.encoding.proofs.WeightLaws.{requireds_weight, run_weight}
 use Rattle.encoding.specs.Old.{members_as}
 use Rattle.encoding.specs.Slice.{known, some_form, fields, any_optional, data_bytes}
 use Rattle.encoding.specs.Message.{Row, list_row, piece_member, piece_rows, skipped_pieces}

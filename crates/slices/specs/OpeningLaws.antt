@@ -7,7 +7,7 @@
 --   Marks, format_kept                    the format that a stage fixes is that of the chain
 --   owners_known, first_known             whose rows a known slice has, and the first known type after it
 --   row_below, row_base                   its row is one of the table, or the base that was due
---   known_place, opened_eats, -sized      where its data begin
+--   known_place, opened_eats, _sized      where its data begin
 --   passed_end, passed_never              where a skipped slice ends; none comes after a known one
 use Rattle.std.proofs.Math.Path.{◌≡◌, refl, sym, ap}
 use Rattle.std.proofs.Common.{◌∙◌, subst, true≢false, length-append, drop-drop, eqb-true, eq-eqb, ne_eqb}
@@ -21,17 +21,17 @@ use Rattle.std.proofs.Math.ListN.{length, length-drop}
 use Rattle.std.proofs.Math.Dec.{eqb}
 use Rattle.std.proofs.lemmas.Bool.{eqb-false, not-false}
 use Rattle.encoding.specs.Result.{Res, ok, bad, Parser, pick, shift, pure, fail, made, mapc, recalled, recall, leave, enter, inside, same_bytes}
-use Rattle.encoding.specs.ResultLaws.{of_contents, ok≢bad, some≢none, same_bytes_ok, bind_bad, bind_next, pure_ok, must_ok, mapc_ok, held_took, held_refused, held_must}
+use Rattle.encoding.proofs.ResultLaws.{of_contents, ok≢bad, some≢none, same_bytes_ok, bind_bad, bind_next, pure_ok, must_ok, mapc_ok, held_took, held_refused, held_must}
 use Rattle.encoding.specs.Number.{declared, le_bytes, string, string_bytes}
-use Rattle.encoding.specs.NumberLaws.{length_le_bytes, held_declared, ends_declared}
+use Rattle.encoding.proofs.NumberLaws.{length_le_bytes, held_declared, ends_declared}
 use Rattle.encoding.specs.Table.{types, any, name_of, named, base, upward, chain}
-use Rattle.encoding.specs.RuleLaws.{named_ok, chain_node}
+use Rattle.encoding.proofs.RuleLaws.{named_ok, chain_node}
 use Rattle.encoding.specs.Optional.{Piece}
-use Rattle.encoding.specs.WeightLaws.{string_weight, declared_weight}
+use Rattle.encoding.proofs.WeightLaws.{string_weight, declared_weight}
 use Rattle.encoding.specs.Slice.{Format, compact, sliced, is_sliced, Slice, known, passed, Stand, first, later, due, Head, head, fields, known_data, wrong_last, seek, follow, stand_of, finished, Meaning, skip, row, wrong, known_meaning, seek_meaning, meaning, is_none, id_form, meaning_form, enter_slice, slice, Chain, ahead, id_of, data_bytes, slice_front}
 use Rattle.encoding.specs.Slice
-use Rattle.encoding.specs.SliceLaws.{eats_head, Meant, meant_head, held_head}
-use Rattle.encoding.specs.WalkLaws.{Heads, head_ok, heads_later, Sliced, slice_ok, Walk, done, next}
+use Rattle.encoding.proofs.SliceLaws.{eats_head, Meant, meant_head, held_head}
+use Rattle.encoding.proofs.WalkLaws.{Heads, head_ok, heads_later, Sliced, slice_ok, Walk, done, next}
 use Rattle.encoding.specs.Message.{or_zero, first_in}
 use Rattle.wire.specs.StepLaws.{rest_is}
 use Rattle.heads.specs.declared.Stage.{Stage}

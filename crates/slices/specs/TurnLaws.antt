@@ -13,11 +13,11 @@ use Rattle.std.proofs.Math.Option.{Option, none, some}
 use native.Mathlib.Omega.{arith}
 use Rattle.std.proofs.Math.ListN.{length}
 use Rattle.encoding.specs.Result.{bad, pick, at_mark}
-use Rattle.encoding.specs.ResultLaws.{held_refused}
+use Rattle.encoding.proofs.ResultLaws.{held_refused}
 use Rattle.encoding.specs.Table.{Member}
 use Rattle.encoding.specs.Table
 use Rattle.encoding.specs.Optional.{next_optional}
-use Rattle.encoding.specs.OptionalLaws.{held_optional}
+use Rattle.encoding.proofs.OptionalLaws.{held_optional}
 use Rattle.table.specs.Tags.{optional_from, Passed}
 use Rattle.level.specs.declared.Optional.{Optional}
 use Rattle.level.specs.declared.Optional.TheVariants.{Known as KnownOptional, Skipped as SkippedOptional, Wrong as WrongOptional}

@@ -1,9 +1,11 @@
 // The walk over the slices of a record, under a prepared table.
 // walks.rt has the walk and its steps.
+#![tactic(auto)]
+
 pub mod walks;
 
 // A slice: skipped whole, with the bytes taken; of a known row, with its bit 2, whether it is sliced, and the start and end of its data; or a refusal's number and place.
-#[derive(Drop)]
+#[derive(Clone, Copy)]
 pub enum Opening {
     Skip(usize),
     Known(usize, bool, bool, usize, usize),
@@ -11,7 +13,7 @@ pub enum Opening {
 }
 
 // What comes next among a slice's optionals: the end marker; a known one, with its member row, its tag, the start of its bytes, the bytes taken; a skipped one, with its tag, the bytes taken; or a refusal's number and place.
-#[derive(Drop)]
+#[derive(Clone, Copy)]
 pub enum Turn {
     End,
     Known(usize, usize, usize, usize),
@@ -20,7 +22,7 @@ pub enum Turn {
 }
 
 // First known type, format, rows, optionals skipped, slices skipped, the end; or a refusal's number and place.
-#[derive(Drop)]
+#[derive(Clone, Copy)]
 pub enum Walk {
     Done(usize, usize, usize, usize, usize, usize),
     Stop(usize, usize),

@@ -46,8 +46,39 @@ fn opening(table: &[u8], begin: usize, top: usize, stage: Stage, s: &[u8]) -> Op
     }
 }
 
-// Reads the next optional, or the end marker (14 if no optional came before it). A tag is looked up among the member rows from `row` to `stop`; those before `limit` lie inside the table. `begin` is where the type rows begin, `first` where the member rows do. A simple optional is read without a call.
+// Reads the next optional, or the end marker (14 if no optional came before it). A tag is looked up among the member rows from `row` to `stop`; `begin` is where the type rows begin, `first` where the member rows do.
 fn next(
+    table: &[u8],
+    begin: usize,
+    first: usize,
+    shapes: &[u8; 256],
+    stop: usize,
+    row: usize,
+    least: usize,
+    s: &[u8],
+) -> Turn
+    requires begin_value { begin ≡ types_at table.now }
+    requires first_value { (first ≡ members_at table.now) × (first < 1048576) }
+    requires shapes_value { shapes.now ≡ shapes_of table.now }
+    requires stop_bound { stop ≤ 131072 }
+    ensures { result ≡ turn_of (optional_from table.now stop row) least s.now }
+{
+    if wire::byte_at(s, 0) == 255 {
+        if least == 0 {
+            return Turn::Wrong(14, 0);
+        }
+        return Turn::End;
+    }
+    let o = level::optionals::optional(table, begin, first, shapes, stop, row, least, s);
+    match o {
+        Optional::Known(m, tag, a, n) => Turn::Known(m, tag, a, n),
+        Optional::Skipped(tag, n) => Turn::Skipped(tag, n),
+        Optional::Wrong(c, p) => Turn::Wrong(c, p),
+    }
+}
+
+// The same; a simple optional is read without a call. The member rows before `limit` lie inside the table.
+fn quick_next(
     table: &[u8],
     begin: usize,
     first: usize,
@@ -65,22 +96,13 @@ fn next(
     requires stop_bound { stop ≤ 131072 }
     ensures { result ≡ turn_of (optional_from table.now stop row) least s.now }
 {
-    if wire::byte_at(s, 0) == 255 {
-        if least == 0 {
-            return Turn::Wrong(14, 0);
+    if wire::byte_at(s, 0) != 255 {
+        let p = level::optionals::any_simple(table, first, limit, shapes, stop, row, least, s);
+        if p.bytes != 0 {
+            return Turn::Known(row, p.tag, p.head, p.bytes);
         }
-        return Turn::End;
     }
-    let p = level::optionals::simple(table, first, limit, shapes, stop, row, least, s);
-    if p.bytes != 0 {
-        return Turn::Known(row, p.tag, p.head, p.bytes);
-    }
-    let o = level::optionals::optional(table, begin, first, shapes, stop, row, least, s);
-    match o {
-        Optional::Known(m, tag, a, n) => Turn::Known(m, tag, a, n),
-        Optional::Skipped(tag, n) => Turn::Skipped(tag, n),
-        Optional::Wrong(c, p) => Turn::Wrong(c, p),
-    }
+    next(table, begin, first, shapes, stop, row, least, s)
 }
 
 // A refusal inside a slice: 14 is at its flags.
@@ -178,7 +200,7 @@ pub fn slices(
                         let mut row = opt;
                         let mut more = has;
                         while more {
-                            let x = next(
+                            let x = quick_next(
                                 table,
                                 begin,
                                 place,
