@@ -1,33 +1,32 @@
 -- The steps of the walk over pairs, one case for each way out of the code. Assumes nothing.
 --
---   first_row, -outside, -unknown   what a type ID means before the first known pair
---   meant_first, -base, -other      what it means at any stage
---   id_length, -order, -within      where the ID lies; opening_named, -unnamed a pair by its ID
---   took_fits .. fault_fits, enter-..   where its data lie, and what follows the ID
---   data-.., turn-..                one pair: where its data lie, and what is answered of it
---   first_here, -kept               the first known type
+--   first_row, _outside, _unknown   what a type ID means before the first known pair
+--   meant_first, _base, _other      what it means at any stage
+--   id_length, _order, _within      where the ID lies; opening_named, _unnamed a pair by its ID
+--   took_fits .. fault_fits, enter_..   where its data lie, and what follows the ID
+--   data_.., turn_..                one pair: where its data lie, and what is answered of it
+--   first_here, _kept               the first known type
 use mathlib.Core.Path.{◌≡◌, refl, sym, ap, ap₂, ◌∙◌}
 use mathlib.Core.Bool.{Bool, true, false, not}
 use mathlib.Core.Option.{Option, none, some}
-use mathlib.Core.List.{List, []}
+use mathlib.Core.List.{List}
 use Prim.Native.Nat.{ℕ, zero, suc, ◌+◌, ◌-◌, ◌^◌, ◌≤◌, ◌<◌}
-use native.Mathlib.Numerals.{sub-one}
 use native.Mathlib.Omega.{arith}
 use lib.ListN.{length, take, drop, length-drop}
 use lib.Seq.{length-take-le}
 use lib.Dec.{eqb}
-use borrow.Author.Tests.{eqb-true, eqb-false, eq-eqb, ne_eqb}
+use borrow.Author.Tests.{eq-eqb, ne_eqb}
 use mir.Syntax.{w64}
 use mir.Val.{Fits}
 use Rattle.encoding.specs.Result.{Res, ok, bad, pick, made, same_bytes}
-use Rattle.encoding.specs.ResultLaws.{ok≢bad, must_ok, Ends, ends_item, ends_bind, ends_chunk, held_took, held_refused}
-use Rattle.encoding.specs.Number.{Content, declared, string, string_bytes}
-use Rattle.encoding.specs.NumberLaws.{held_declared, held_string}
-use Rattle.encoding.specs.WeightLaws.{declared_weight}
+use Rattle.encoding.proofs.ResultLaws.{ok≢bad, must_ok, Ends, ends_item, ends_bind, ends_chunk, held_took, held_refused}
+use Rattle.encoding.specs.Number.{Content, declared, string}
+use Rattle.encoding.proofs.NumberLaws.{held_declared, held_string}
+use Rattle.encoding.proofs.WeightLaws.{declared_weight}
 use Rattle.encoding.specs.Table.{name_of, named, base}
 use Rattle.encoding.specs.Table
 use Rattle.encoding.specs.Optional.{Piece, requireds}
-use Rattle.encoding.specs.Slice.{Slice, known, passed, Meaning, skip, row, wrong, id_of}
+use Rattle.encoding.specs.Slice.{Slice, known, passed, row, wrong, id_of}
 use Rattle.encoding.specs.Old.{members_as, descends, PairStage, any_pair, pair_of, first_meaning, pair_meaning, id_pair, pair_front}
 use Rattle.encoding.specs.Message.{piece_rows}
 use Rattle.wire.specs.declared.Step.{Step}
@@ -52,7 +51,7 @@ use Rattle.pairs.specs.declared.Opening.{Opening}
 use Rattle.pairs.specs.declared.Opening.TheVariants.{Skip, Data, Bad}
 use Rattle.pairs.specs.declared.Turn.TheVariants.{Passed, Known, Wrong}
 use Rattle.pairs.specs.Pairs.{due_of, meant_of, enter_as, open_by, opening, row_of, slice_turn, turn_of, turn_rows, first_by}
-use Rattle.pairs.specs.PairLaws.{front_weight, row_is, Opened, opened_bad, opened_place, opened_skip, opened_data}
+use Rattle.pairs.specs.PairLaws.{front_weight, row_is, Opened, opened_bad, opened_skip, opened_data}
 
 -- ---- what a type ID means
 

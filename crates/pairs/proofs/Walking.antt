@@ -1,12 +1,12 @@
 -- The walk over pairs: what holds at the head of its loop, and what each pair makes of it. Assumes nothing.
 --
 --   credit                how many owners may still come
---   Ahead, ahead-..       at the head of the loop; after a skipped pair, and a known one
+--   Ahead, ahead_..       at the head of the loop; after a skipped pair, and a known one
 --   walk_says, walk_gives an outcome's answer and list are those of the walk
---   stop-.., done-..      the answer and the lent list at a refusal, and at the end
+--   stop_.., done_..      the answer and the lent list at a refusal, and at the end
 use mathlib.Core.Path.{◌≡◌, refl, sym, ap, ap₂, ◌∙◌}
 use mathlib.Core.Bool.{Bool, true, false}
-use mathlib.Core.List.{List, []}
+use mathlib.Core.List.{List}
 use Prim.Native.Nat.{ℕ, zero, suc, ◌+◌, ◌-◌, ◌*◌, ◌^◌, ◌≤◌, ◌<◌}
 use native.Mathlib.Nat.{add-zero}
 use native.Mathlib.Omega.{arith}
@@ -15,13 +15,13 @@ use lib.Seq.{drop-drop}
 use mir.Syntax.{w64}
 use mir.Val.{Fits}
 use Rattle.encoding.specs.Result.{Res, ok, bad}
-use Rattle.encoding.specs.ResultLaws.{held_took, held_refused}
-use Rattle.encoding.specs.Table.{field, base}
-use Rattle.encoding.specs.TableLaws.{base_below}
+use Rattle.encoding.proofs.ResultLaws.{held_took, held_refused}
+use Rattle.encoding.specs.Table.{base}
+use Rattle.encoding.proofs.TableLaws.{base_below}
 use Rattle.encoding.specs.Optional.{Piece}
 use Rattle.encoding.specs.Slice.{Slice, known, passed, row}
 use Rattle.encoding.specs.Old.{PairStage, any_pair, pair_of, pair_meaning, id_pair, none_due, id_pairs}
-use Rattle.encoding.specs.OldLaws.{eats_id_pair, held_id_pair}
+use Rattle.encoding.proofs.OldLaws.{eats_id_pair, held_id_pair}
 use Rattle.encoding.specs.Message.{skipped_in, passed_in, slice_rows}
 use Rattle.wire.specs.StepLaws.{rest_is}
 use Rattle.level.specs.Fill.{fill}
@@ -34,7 +34,7 @@ use Rattle.slices.proofs.Endings.{ends_refused, ends_listed, ends_answer, ends_l
 use Rattle.pairs.specs.declared.Turn.{Turn}
 use Rattle.pairs.specs.declared.Turn.TheVariants.{Passed, Known, Wrong}
 use Rattle.pairs.specs.Pairs.{due_of, row_of, slice_turn, turn_of, turn_rows, first_by, onward, first_from, rows_from, left}
-use Rattle.pairs.specs.PairLaws.{row_is, row_below, row_base, Knew, pair_knew, pair_passing}
+use Rattle.pairs.specs.PairLaws.{row_is, row_below, row_base, Knew, pair_knew}
 use Rattle.pairs.specs.LeftLaws.{left_whole, left_listed, left_refused, left_passed, left_known, left_done}
 
 -- ---- the whole walk

@@ -1,10 +1,10 @@
 -- The outcome of the walk over pairs, pair by pair. Assumes nothing.
 --
---   onward_ended, -bad, -next     the walk over the pairs ahead: ended, refused, one pair further
+--   onward_ended, _bad, _next     the walk over the pairs ahead: ended, refused, one pair further
 --   left_whole, left_listed       the whole walk, from its start: its answer and its rows
---   left_refused, -passed, -known, -done   what the next pair, and the end, make of the outcome
+--   left_refused, _passed, _known, _done   what the next pair, and the end, make of the outcome
 use Rattle.std.specs.Prelude.{◌≡◌, refl, Bool, false, drop}
-use Rattle.std.proofs.Common.{sym, ◌∙◌, add-zero, zero-add}
+use Rattle.std.proofs.Common.{sym, ◌∙◌, zero-add}
 use Rattle.std.proofs.Math.Path.{ap, ap₂}
 use Rattle.std.proofs.Math.Bool.{true}
 use mathlib.Core.List.{List, [], ◌∷◌, ◌++◌}
@@ -12,13 +12,13 @@ use Prim.Native.Nat.{ℕ, suc, ◌+◌}
 use native.Mathlib.Omega.{arith}
 use Rattle.std.proofs.Math.ListN.{length, length-append, length-drop}
 use Rattle.encoding.specs.Result.{Res, ok, bad, Parser, shift, pure, made, mapc}
-use Rattle.encoding.specs.ResultLaws.{bind_bad, bind_next}
+use Rattle.encoding.proofs.ResultLaws.{bind_bad, bind_next}
 use Rattle.encoding.specs.Table.{base, upward, chain}
 use Rattle.encoding.specs.Table
 use Rattle.encoding.specs.Optional.{Piece}
-use Rattle.encoding.specs.Slice.{Slice, known, passed, first, data_bytes}
+use Rattle.encoding.specs.Slice.{Slice, known, passed, first}
 use Rattle.encoding.specs.Old.{members_as, PairStage, any_pair, pair_of, id_pair, none_due, walk_pairs, pair_front}
-use Rattle.encoding.specs.OldLaws.{pairs_ended, pairs_on, pairs_enough}
+use Rattle.encoding.proofs.OldLaws.{pairs_ended, pairs_on, pairs_enough}
 use Rattle.encoding.specs.Message.{v10, Row, piece_rows, slice_rows, first_in, skipped_pieces, skipped_in, passed_in}
 use Rattle.level.specs.Fill.{fill}
 use Rattle.level.specs.FillLaws.{fill_append}
@@ -26,10 +26,10 @@ use Rattle.level.specs.RequiredLaws.{required_count}
 use Rattle.slices.specs.declared.Walk.{Walk}
 use Rattle.slices.specs.declared.Walk.TheVariants.{Done}
 use Rattle.slices.specs.Walks.{pair_rows, pair_walk}
-use Rattle.slices.specs.Left.{WalkEnd, listed, refused, answer_of}
+use Rattle.slices.specs.Left.{listed, refused, answer_of}
 use Rattle.slices.specs.MemberLaws.{required_plain}
-use Rattle.pairs.specs.Pairs.{row_of, turn_rows, first_by, onward, owners, first_from, rows_from, left}
-use Rattle.pairs.specs.PairLaws.{row_is, owners_is, first_is, Knew, pair_knew, Passing, pair_passing}
+use Rattle.pairs.specs.Pairs.{turn_rows, first_by, onward, owners, first_from, rows_from, left}
+use Rattle.pairs.specs.PairLaws.{row_is, owners_is, first_is, Knew, pair_passing}
 
 -- ---- the pairs ahead
 

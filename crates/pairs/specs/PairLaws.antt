@@ -4,29 +4,28 @@
 --   row_below, row_base                    its row is one of the table, or the base that was due
 --   Knew, pair_knew                        a known pair that was read; Passing, pair_passing a skipped one
 --   Opened                                 a pair of a known row, and the part that its data lie in
---   opened_bad, -place, -skip, -data       what the opening of a pair says of it
+--   opened_bad, _place, _skip, _data       what the opening of a pair says of it
 use Rattle.std.proofs.Math.Path.{◌≡◌, refl, ap}
-use Rattle.std.proofs.Common.{sym, ap₂, ◌∙◌, length-append, drop-drop, eqb-true, eq-eqb, ne_eqb}
-use Rattle.std.specs.Prelude.{Bool, take, drop, eqb}
+use Rattle.std.proofs.Common.{sym, ap₂, ◌∙◌, length-append, drop-drop}
+use Rattle.std.specs.Prelude.{Bool, take, drop}
 use Rattle.std.proofs.Math.Bool.{true, false}
 use Rattle.std.proofs.Math.Option.{Option, none, some}
 use mathlib.Core.List.{List, [], ◌∷◌}
 use Prim.Native.Nat.{ℕ, zero, suc, ◌+◌, ◌-◌, ◌≤◌, ◌<◌}
 use native.Mathlib.Omega.{arith}
 use Rattle.std.proofs.Math.ListN.{length, length-drop}
-use Rattle.std.proofs.lemmas.Bool.{eqb-false}
 use Rattle.encoding.specs.Result.{Res, ok, bad, pick, shift, fail, judged, must, made, mapc, leave, enter, inside, same_bytes, concat}
-use Rattle.encoding.specs.ResultLaws.{ok≢bad, same_bytes_ok, bind_bad, bind_next, must_step, mapc_ok, inside_ok, held_took, held_refused}
+use Rattle.encoding.proofs.ResultLaws.{ok≢bad, same_bytes_ok, bind_bad, bind_next, must_step, mapc_ok, inside_ok, held_took, held_refused}
 use Rattle.encoding.specs.Number.{declared, le_bytes, string, string_bytes}
-use Rattle.encoding.specs.NumberLaws.{length_le_bytes, held_declared, held_string, ends_declared, eats_string}
+use Rattle.encoding.proofs.NumberLaws.{length_le_bytes, held_declared, held_string, ends_declared}
 use Rattle.encoding.specs.Table.{types, name_of, named, base, upward, chain}
 use Rattle.encoding.specs.Table
-use Rattle.encoding.specs.RuleLaws.{named_ok, chain_node}
+use Rattle.encoding.proofs.RuleLaws.{named_ok, chain_node}
 use Rattle.encoding.specs.Optional.{Piece, requireds, piece_bytes}
-use Rattle.encoding.specs.WeightLaws.{string_weight, declared_weight, requireds_weight}
-use Rattle.encoding.specs.Slice.{Slice, known, passed, Meaning, skip, row, wrong, meaning_form, any_optional, id_of, data_bytes}
+use Rattle.encoding.proofs.WeightLaws.{string_weight, declared_weight, requireds_weight}
+use Rattle.encoding.specs.Slice.{Slice, known, passed, Meaning, skip, row, wrong, meaning_form, id_of, data_bytes}
 use Rattle.encoding.specs.Old.{members_as, descends, PairStage, any_pair, pair_of, first_meaning, pair_meaning, enter_pair, id_pair, pair_front}
-use Rattle.encoding.specs.OldLaws.{Seventeen, pair_wrong, meant, Paired, pair_ok}
+use Rattle.encoding.proofs.OldLaws.{Seventeen, pair_wrong, meant, Paired, pair_ok}
 use Rattle.encoding.specs.Message.{or_zero, first_in}
 use Rattle.slices.specs.Openings.{ended}
 use Rattle.slices.specs.OpeningLaws.{ended_sliced}

@@ -1,5 +1,4 @@
 -- By the stage. Assumes nothing.
-use borrow.Author.Rules.{rules}
 use Rattle.pairs.proofs.Steps.{first_here, first_kept}
 use Rattle.pairs.proofs.walks.first_of.Statement.{statement}
 use Rattle.pairs.proofs.walks.first_of.Tie as tie
