@@ -1,12 +1,12 @@
 -- A whole message: its encapsulation, the three kinds of top, its end. Assumes nothing.
 --
---   judged-.., known-..                what is handed in of encoding 1.0, and what it says
---   capsule-..                         the cases of size and version
---   marker-.., lead-.., ended-..       those of a class's marker, of the header byte of 1.0, of the end
---   mark-.., lead-..                   the marker, or no byte, and the header byte lie within the message
---   new-.., old-..                     what a walk over a list, slices or pairs makes of the contents, in 1.1 and 1.0
+--   judged_.., known_..                what is handed in of encoding 1.0, and what it says
+--   capsule_..                         the cases of size and version
+--   marker_.., lead_.., ended_..       those of a class's marker, of the header byte of 1.0, of the end
+--   mark_.., lead_..                   the marker, or no byte, and the header byte lie within the message
+--   new_.., old_..                     what a walk over a list, slices or pairs makes of the contents, in 1.1 and 1.0
 --   body_takes                         the top's member rows, by its row
---   body-..                            what a walk over the contents makes of the message
+--   body_..                            what a walk over the contents makes of the message
 use mathlib.Core.Path.{◌≡◌, refl, sym, ap, ap₂, ◌∙◌}
 use mathlib.Core.Bool.{Bool, true, false}
 use mathlib.Core.List.{List, [], ◌∷◌}
@@ -19,9 +19,9 @@ use borrow.Author.Tests.{lt-ltb, le-ltb, le-leb, lt-leb, eq-eqb, ne_eqb}
 use mir.Syntax.{w64}
 use mir.Val.{Fits}
 use Rattle.encoding.specs.Result.{Res, ok, bad, Parser, pick, shift, after, ◌>>=◌, pure, chunk, judged, must, made, mapc}
-use Rattle.encoding.specs.ResultLaws.{ok≢bad, shift_shift, Bound, bind_ok, chunk_ok, must_ok, bind_bad, bind_next, Held, held_took, held_refused, held_pure, held_pick, held_must}
+use Rattle.encoding.proofs.ResultLaws.{ok≢bad, Bound, bind_ok, chunk_ok, must_ok, bind_bad, bind_next, Held, held_took, held_refused, held_pure, held_pick, held_must}
 use Rattle.encoding.specs.Number.{val, byte, number}
-use Rattle.encoding.specs.NumberLaws.{held_byte, byte_canonical}
+use Rattle.encoding.proofs.NumberLaws.{held_byte, byte_canonical}
 use Rattle.encoding.specs.Table.{kind}
 use Rattle.encoding.specs.Table
 use Rattle.encoding.specs.Optional.{Piece, requireds}
@@ -29,7 +29,7 @@ use Rattle.encoding.specs.Old.{members_as, no_old, lead_form, id_pairs}
 use Rattle.encoding.specs.Slice.{sliced, Slice, Chain, slices}
 use Rattle.encoding.specs.Message.{list, exception, class, Encoding, v10, v11, Read, parameters, marker_form, contents, old_contents, outer_form, version_form, old_form, outer, after_version, body, Row, piece_rows, first_known, rows, optionals_skipped, slices_skipped}
 use Rattle.encoding.specs.Message
-use Rattle.encoding.specs.MessageLaws.{ended_ok, held_contents, held_old_contents}
+use Rattle.encoding.proofs.MessageLaws.{ended_ok, held_contents, held_old_contents}
 use Rattle.wire.specs.declared.Step.{Step}
 use Rattle.wire.specs.declared.Step.TheVariants.{Took, Fault}
 use Rattle.wire.specs.declared.Sized.{Sized}

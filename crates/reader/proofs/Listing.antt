@@ -4,10 +4,10 @@
 --   next_simple                a simple optional
 --   told_both                  two results of one answer are the same
 --   list_begin                 what holds at the loop's head does at first
---   listing-..                 what each step makes of it
---   simple-..                  what a simple optional makes of it
+--   listing_..                 what each step makes of it
+--   simple_..                  what a simple optional makes of it
 --   listing_again, listing_ends   the second loop begins where the first one ended, and both are one
---   read-.., refused-..        the answer and the lent list are those of the walk: of the optionals, or where a required member is refused
+--   read_.., refused_..        the answer and the lent list are those of the walk: of the optionals, or where a required member is refused
 use mathlib.Core.Path.{◌≡◌, refl, sym, ap, ap₂, ◌∙◌}
 use mathlib.Core.Bool.{false}
 use mathlib.Core.Option.{none, some}
@@ -32,7 +32,7 @@ use Rattle.table.specs.TagsLaws.{passed_none, passed_still, passed_behind}
 use Rattle.table.proofs.Chains.{passing_begin, passing_end}
 use Rattle.level.specs.Fill.{fill}
 use Rattle.level.specs.TagLaws.{passed_answer, member_tag, member_begun, member_within}
-use Rattle.level.specs.Answers.{members_of, Bare, optional_answer}
+use Rattle.level.specs.Answers.{members_of, Bare, Headed, optional_answer}
 use Rattle.level.specs.AnswersLaws.{KnownRead, known_read, skipped_read, wrong_read, known_within, known_start, known_tag, skipped_some, skipped_within, skipped_tag, wrong_within, members_read, members_start, members_refused, members_within, refused_within}
 use Rattle.level.specs.declared.Members.{Members}
 use Rattle.level.specs.declared.Members.TheVariants.{Read, Refused}
@@ -85,9 +85,14 @@ not_end m at h = go (drop at m) (omega (arith, length-drop at m))
     go (x ∷ l) h = refl
 
 -- an optional that was read without a call
-pub next_simple : (T : List ℕ) (stop row least : ℕ) (s : List ℕ) (tag h n : ℕ) → Bare T stop row least s tag h n → (n ≡ 0 → ⊥)
+pub next_simple : (T : List ℕ) (stop row least : ℕ) (s : List ℕ) (n tag : ℕ) → Bare T stop row least s tag n → (n ≡ 0 → ⊥)
+    → Known row tag 1 n ≡ optional_answer (optional_from T stop row) (next_optional (optional_from T stop row) least s)
+next_simple T stop row least s n tag B z = B.known (omega (arith, z))
+
+-- the same of one whose header has h bytes
+pub next_headed : (T : List ℕ) (stop row least : ℕ) (s : List ℕ) (tag h n : ℕ) → Headed T stop row least s tag h n → (n ≡ 0 → ⊥)
     → Known row tag h n ≡ optional_answer (optional_from T stop row) (next_optional (optional_from T stop row) least s)
-next_simple T stop row least s tag h n B z = B.known (omega (arith, z))
+next_headed T stop row least s tag h n H z = H.known (omega (arith, z))
 
 -- what is left fits
 pub list_asks : (m : List ℕ) (start : ℕ) → start ≤ length m → length m < 2 ^ 63 → start + length (take (length m - start) (drop start m)) < 2 ^ 63
@@ -257,15 +262,15 @@ module _ {T : List ℕ} {top : ℕ} {m : List ℕ} {whole : WalkEnd} {stop at le
 
 -- ---- a simple optional
 
-module _ {T : List ℕ} {top : ℕ} {m : List ℕ} {whole : WalkEnd} {stop at least row k o : ℕ} {out : List ℕ} (inv : Listing T top m whole stop at least row k o out) (on : at < length m) (tag h n : ℕ)
-    (B : Bare T stop row least (take (length m - at) (drop at m)) tag h n) (some : n ≡ 0 → ⊥) where
-  answer : Known row tag h n ≡ optional_answer (optional_from T stop row) (next_optional (optional_from T stop row) least (take (length m - at) (drop at m)))
-  answer = next_simple T stop row least (take (length m - at) (drop at m)) tag h n B some
+module _ {T : List ℕ} {top : ℕ} {m : List ℕ} {whole : WalkEnd} {stop at least row k o : ℕ} {out : List ℕ} (inv : Listing T top m whole stop at least row k o out) (on : at < length m) (n tag : ℕ)
+    (B : Bare T stop row least (take (length m - at) (drop at m)) tag n) (some : n ≡ 0 → ⊥) where
+  answer : Known row tag 1 n ≡ optional_answer (optional_from T stop row) (next_optional (optional_from T stop row) least (take (length m - at) (drop at m)))
+  answer = next_simple T stop row least (take (length m - at) (drop at m)) n tag B some
 
-  pub simple_place : Fits w64 (at + h)
+  pub simple_place : Fits w64 (at + 1)
   simple_place = listing_place inv on answer refl
 
-  pub simple_some : h ≤ n
+  pub simple_some : 1 ≤ n
   simple_some = listing_start inv on answer refl
 
   pub simple_count : Fits w64 (k + 1)
@@ -283,7 +288,7 @@ module _ {T : List ℕ} {top : ℕ} {m : List ℕ} {whole : WalkEnd} {stop at le
   pub simple_less : length m - (at + n) < length m - at
   simple_less = listing_less inv on answer refl
 
-  pub simple_known : {out' : List ℕ} → out' ≡ put (12 * k) (row_bytes (record { member = row; place = at + h; len = n - h })) out → Listing T top m whole stop (at + n) (tag + 1) (row + 1) (k + 1) o out'
+  pub simple_known : {out' : List ℕ} → out' ≡ put (12 * k) (row_bytes (record { member = row; place = at + 1; len = n - 1 })) out → Listing T top m whole stop (at + n) (tag + 1) (row + 1) (k + 1) o out'
   simple_known w = listing_known inv on answer refl w (passing_end T row row tag row (passing_begin T row row tag) (omega arith))
 
 -- ---- one loop after another

@@ -1,6 +1,6 @@
 -- A message whose members may be any bytes: it is read as `list` and `body` read it. Assumes nothing.
 --
---   seated-..     what is found of table and top
+--   seated_..     what is found of table and top
 --   plain_none, plain_not   where nothing is said, of the members and of the message
 --   plain_begin   at the first optional
 --   plain_read    at the end of the list

@@ -1,5 +1,7 @@
 // The walk over a message under a prepared table.
 // lists.rt has a parameter list, plain.rt one whose members may be any bytes; `slices` has the slices of a record, `pairs` the pairs of an exception in encoding 1.0.
+#![tactic(auto)]
+
 pub mod lists;
 pub mod plain;
 
@@ -20,7 +22,7 @@ use slices::Walk;
 use wire::{Sized, Step};
 
 // What a caller that reads many messages finds once of table and top: `old` is what `judge_old` gives. If `stop` is above 0, the top is a parameter list that takes member rows `from` to `stop` - 1, all inside the table, whose member rows begin at `first`; from row `bare` on none of them is required.
-#[derive(Drop)]
+#[derive(Clone, Copy)]
 pub struct Seat {
     pub old: usize,
     pub first: usize,

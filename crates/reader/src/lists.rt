@@ -19,7 +19,7 @@ use level::{Members, Optional};
 use slices::Walk;
 
 // How far the optionals of a list were read without a call: the place, the rows there are, the least tag that may follow, and the member row that is looked at next.
-#[derive(Drop)]
+#[derive(Clone, Copy)]
 pub struct Reached {
     pub at: usize,
     pub count: usize,
@@ -54,13 +54,13 @@ pub fn quick(
     let mut least = 0;
     let mut row = from;
     while at < m.len() {
-        let o = level::optionals::short(table, first, limit, shapes, stop, row, least, &m[at..]);
+        let o = level::optionals::simple(table, first, limit, shapes, stop, row, least, &m[at..]);
         let n = o.bytes;
         let tag = o.tag;
         if n == 0 {
             break;
         }
-        wire::rows::put_row(out, count, row, at + o.head, n - o.head);
+        wire::rows::put_row(out, count, row, at + 1, n - 1);
         count += 1;
         at += n;
         least = tag + 1;
@@ -93,7 +93,7 @@ fn next(
     requires stop_bound { stop ≤ 131072 }
     ensures { result ≡ optional_answer (optional_from table.now stop row) (next_optional (optional_from table.now stop row) least s.now) }
 {
-    let o = level::optionals::simple(table, first, limit, shapes, stop, row, least, s);
+    let o = level::optionals::any_simple(table, first, limit, shapes, stop, row, least, s);
     if o.bytes != 0 {
         return Optional::Known(row, o.tag, o.head, o.bytes);
     }
