@@ -25,7 +25,7 @@ use lib.Dec.{leb, ltb}
 use borrow.Author.Tests.{eq-eqb}
 use Rattle.encoding.specs.Result.{pick}
 use Rattle.encoding.specs.Number.{le_bytes, size_bytes}
-use Rattle.encoding.specs.NumberLaws.{length_le_bytes}
+use Rattle.encoding.proofs.NumberLaws.{length_le_bytes}
 use Rattle.encoding.specs.Types.{Ty, form_of}
 use Rattle.encoding.specs.Table.{field, members, member_type, tag, trees, ty_of, member_ty}
 use Rattle.encoding.specs.Optional.{required, optional, piece_bytes, is_optional}

@@ -2,7 +2,7 @@
 --
 --   found_due, found_other   a member is due: the row is it, or is refused
 --   found_may                none is due, and the row is an optional that may come
---   gone-..                  none is due, and it is none
+--   gone_..                  none is due, and it is none
 use mathlib.Core.Path.{◌≡◌, refl, sym, ap, ◌∙◌}
 use mathlib.Core.Bool.{Bool, true, false, ◌&&◌, not}
 use mathlib.Core.Option.{none, some}

@@ -2,8 +2,8 @@
 --
 --   due_begin, due_more, due_skip, due_none    what is due of an owner, row by row
 --   may_outside, may_inside                    an optional of an owner is found by its row number
---   reach-.. of a state                        what is reached where a member is due, where an optional comes, and above
---   still-.. of a state                        what is still due at the end, here and above
+--   reach_.. of a state                        what is reached where a member is due, where an optional comes, and above
+--   still_.. of a state                        what is still due at the end, here and above
 use Rattle.std.specs.Prelude.{◌≡◌, Bool, ◌&&◌, not, eqb}
 use Rattle.std.proofs.Math.Path.{refl, ap}
 use Rattle.std.proofs.Common.{sym, ◌∙◌, add-zero, add-one}
@@ -17,7 +17,7 @@ use borrow.Author.Tests.{eqb-true, eqb-false, eq-eqb, ne_eqb}
 use Rattle.encoding.specs.Result.{pick}
 use Rattle.encoding.specs.Types.{Ty}
 use Rattle.encoding.specs.Table.{field, mark, tag, range, Member, own_rows, trees, member_ty, requireds_in, required_members, optionals_in, optional_members, any, base, upward}
-use Rattle.encoding.specs.TableLaws.{chain_row}
+use Rattle.encoding.proofs.TableLaws.{chain_row}
 use Rattle.encoding.specs.Old.{any_of}
 use Rattle.encoding.specs.Write.{optional_row, or_above, entered, reach_due, reach_may, reach, still_due}
 use Rattle.pieces.specs.Cursors.{required_in, due_in, due_from, bases, Cursor, due_at, state_of, may_member}

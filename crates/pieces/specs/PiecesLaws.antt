@@ -8,7 +8,7 @@ use Rattle.std.proofs.Common.{arith}
 use borrow.Author.Tests.{lt-ltb, le-ltb, ne_eqb}
 use Rattle.encoding.specs.Number.{le_bytes, size_bytes}
 use Rattle.encoding.specs.Types.{bits, Form, bare, own, counted, sized}
-use Rattle.encoding.specs.TypesLaws.{bits_below}
+use Rattle.encoding.proofs.TypesLaws.{bits_below}
 use Rattle.encoding.specs.Optional.{required, optional, header_bytes, length_bytes, front_bytes, content_bytes, piece_bytes}
 use Rattle.shapes.specs.Shapes.{form_number}
 use Rattle.shapes.specs.FormLaws.{form_bits_lem}

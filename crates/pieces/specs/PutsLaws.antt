@@ -9,7 +9,7 @@ use Rattle.std.specs.Prelude.{◌≡◌, refl, List, [], ◌∷◌, ◌++◌, �
 use Rattle.std.proofs.Common.{sym, ap, ap₂, subst, ◌∙◌, append_assoc, arith, add-zero, length-append, take-take, length-take-le, drop_at}
 use Rattle.std.proofs.lemmas.List.{take-append-le}
 use Rattle.encoding.specs.Number.{le_bytes, size_bytes}
-use Rattle.encoding.specs.NumberLaws.{length_le_bytes}
+use Rattle.encoding.proofs.NumberLaws.{length_le_bytes}
 use Rattle.wire.specs.Put.{put}
 use Rattle.wire.specs.PutLaws.{put_fits, put_none, put_length, put_put}
 use Rattle.pieces.specs.Puts.{Puts, Leaves}
