@@ -2,7 +2,7 @@
 --
 --   still_wrong                  rows that are refused stay refused
 --   data_ended                   the rows of an owner, and the end marker after optionals
---   end-..                       the end marker: its length, and what is put of it
+--   end_..                       the end marker: its length, and what is put of it
 --   flags_over, flags_put        the flags, by the encoding
 --   front_put, front_new         flags, type ID and size, one after another; in 1.1
 --   bare_old, bare_new           how many bytes of it are not the type ID's
@@ -18,7 +18,7 @@ use native.Mathlib.Nat.{add-zero}
 use lib.ListN.{length, length-append}
 use Rattle.encoding.specs.Result.{pick}
 use Rattle.encoding.specs.Number.{le_bytes, string_bytes}
-use Rattle.encoding.specs.NumberLaws.{length_le_bytes}
+use Rattle.encoding.proofs.NumberLaws.{length_le_bytes}
 use Rattle.encoding.specs.Slice.{sliced, worth, flag_bits, any_optional, data_bytes}
 use Rattle.encoding.specs.Table.{name_of}
 use Rattle.wire.specs.Put.{put}

@@ -5,10 +5,10 @@
 --   is_due                               the next required member
 --   row_within, row_inside, row_due      a member row that lies inside the table, and that is the next required member
 --   is_true, is_false                    a test that is turned round
---   pass-..                              a member row that is passed; a required member that is missing, that is another, that is wrong; one more row; all are passed
+--   pass_..                              a member row that is passed; a required member that is missing, that is another, that is wrong; one more row; all are passed
 --   row_over, quick_next, at_small       a member row that is passed; one more row, which is seen to be right without a call; the bytes are few
---   run-..                               the same where bytes of the buffer wait to be put: a row's bytes follow them, or begin anew after they are put
---   tags-..                              one more row of an optional member; a row that is none; a wrong one; no row is left
+--   run_..                               the same where bytes of the buffer wait to be put: a row's bytes follow them, or begin anew after they are put
+--   tags_..                              one more row of an optional member; a row that is none; a wrong one; no row is left
 --   rows_joined, rows_refused            the rows of required members, then those of optional ones
 use mathlib.Core.Path.{◌≡◌, refl, sym, ap, subst, ◌∙◌}
 use mathlib.Core.Bool.{Bool, true, false, ◌||◌, not}

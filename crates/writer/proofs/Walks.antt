@@ -1,8 +1,8 @@
 -- The slices of a chain one after another, and the message. Assumes nothing.
 --
---   Slicing, slicing-..                             what the loop over the owners of a chain keeps
---   Parting, parting-..                             the same of the one owner of a parameter list too
---   long-.., put-..                                 what comes before the members or slices: its length, and what is put of it
+--   Slicing, slicing_..                             what the loop over the owners of a chain keeps
+--   Parting, parting_..                             the same of the one owner of a parameter list too
+--   long_.., put_..                                 what comes before the members or slices: its length, and what is put of it
 --   contents_put                                    it, and the members or slices after it
 --   version_old, version_new                        the version
 --   message_made, message_wrong                     size and version put before the data, if the rows are right
@@ -19,7 +19,7 @@ use Rattle.encoding.specs.Optional.{piece_bytes}
 use borrow.Author.Tests.{lt-ltb, le-ltb, eqb-true, eq-eqb, ne_eqb}
 use Rattle.encoding.specs.Number.{le_bytes}
 use Rattle.encoding.specs.Table.{kind, base, upward, chain}
-use Rattle.encoding.specs.TableLaws.{chain_row}
+use Rattle.encoding.proofs.TableLaws.{chain_row}
 use Rattle.encoding.specs.Slice.{sliced, Stand, first, due, Slice, has_optionals, id_of, is_last, slice_front}
 use Rattle.encoding.specs.Old.{pair_front}
 use Rattle.encoding.specs.Message.{slices_bytes, later_as, lead, minor, encapsulate}

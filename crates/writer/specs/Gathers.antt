@@ -21,12 +21,12 @@ use borrow.Author.Tests.{eq-eqb, ne_eqb}
 use Rattle.encoding.specs.Result.{pick, concat}
 use Rattle.encoding.specs.Value.{exact}
 use Rattle.encoding.specs.Table.{kind, range, Member, required_members, optional_members, name_of, base, upward, chain}
-use Rattle.encoding.specs.TableLaws.{base_below, chain_row}
+use Rattle.encoding.proofs.TableLaws.{base_below, chain_row}
 use Rattle.encoding.specs.Optional.{Piece, piece_bytes}
 use Rattle.encoding.specs.Slice.{first, Slice, known}
 use Rattle.encoding.specs.Old.{type_as}
 use Rattle.encoding.specs.Message.{Row, list, exception, class, slices_bytes, lead, encode}
-use Rattle.encoding.specs.Write.{Out, out, stop, next, State, above, begin, Reached, reach_due, optional_row, or_above, entered, reach_may, reach, still_due, Given, given, part_of, judge, prepend, judge_all, pieces_of, slices_of, gathered, row_at}
+use Rattle.encoding.specs.Write.{Out, out, stop, next, State, begin, Reached, reach_due, optional_row, or_above, entered, reach_may, reach, still_due, Given, given, part_of, judge, prepend, judge_all, pieces_of, slices_of, gathered, row_at}
 use Rattle.pieces.specs.Cursors.{bases, Cursor, due_at, state_of, Gone}
 use Rattle.pieces.specs.CursorsLaws.{due_begin, reach_end, reach_above}
 use Rattle.pieces.specs.JudgedLaws.{judged_up}

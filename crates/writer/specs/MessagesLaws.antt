@@ -11,7 +11,7 @@ use native.Mathlib.Omega.{arith}
 use Rattle.std.proofs.Math.ListN.{length}
 use Rattle.std.proofs.lemmas.Bool.{lt-leb}
 use Rattle.encoding.specs.Table.{base, upward, range, chain}
-use Rattle.encoding.specs.TableLaws.{chain_row}
+use Rattle.encoding.proofs.TableLaws.{chain_row}
 use Rattle.encoding.specs.Message.{encode, encapsulate}
 use Rattle.encoding.specs.Write.{Out, out, stop, next, above, Given, judge_all, gathered, bounded, row_at, rows_given}
 use Rattle.pieces.specs.Cursors.{due_at, state_of}

@@ -1,6 +1,8 @@
 // The whole message from its rows. Each function equals its definition on any table, rows, buffer and output.
 // One pass checks the rows and measures the message (measure.rt), a second one puts it into the output: slice.rt the rows of an owner and its slice, message.rt the slices of all owners.
 // `old` says that the message is of encoding 1.0. Each function is given `begin`, where the table's type rows begin.
+#![tactic(auto)]
+
 pub mod measure;
 pub mod message;
 pub mod slice;
@@ -12,7 +14,7 @@ ghost use Rattle.shapes.specs.Shapes.{shapes_of};
 ghost use Rattle.writer.specs.Messages.{written, outcome_of};
 
 // An owner as each pass looks it up once: its member rows are the b rows from a on, `up` is its base row + 1 or 0, its name is the `long` bytes of the table from `name` on.
-#[derive(Drop)]
+#[derive(Clone, Copy)]
 pub struct Owner {
     pub a: usize,
     pub b: usize,
@@ -22,7 +24,7 @@ pub struct Owner {
 }
 
 // The end of the bytes measured or put, the next row, whether it has an optional member, and the number of the refusal at that row or 0.
-#[derive(Drop)]
+#[derive(Clone, Copy)]
 pub struct Laid {
     pub end: usize,
     pub row: usize,
@@ -43,14 +45,14 @@ fn laid_of(end: usize, row: usize, optionals: bool, fault: usize) -> Laid
 }
 
 // The end of the bytes measured or put, if every row is right; or a refusal's number and place.
-#[derive(Drop)]
+#[derive(Clone, Copy)]
 pub enum Put {
     Made(usize),
     Wrong(usize, usize),
 }
 
 // The message's length; or a refusal's number and place.
-#[derive(Drop)]
+#[derive(Clone, Copy)]
 pub enum Outcome {
     Made(usize),
     Stopped(usize, usize),

@@ -11,7 +11,7 @@ use crate::{Laid, Owner, Put, laid_of, slice};
 use pieces::{Due, May, judge};
 
 // How far rows of required members were measured without a call: the end of their bytes, the next row, and how many member rows are passed.
-#[derive(Drop)]
+#[derive(Clone, Copy)]
 pub struct Begun {
     pub end: usize,
     pub row: usize,
