@@ -7,10 +7,9 @@ use mathlib.Core.List.{List}
 use Prim.Native.Nat.{ℕ, ◌<◌}
 use native.Mathlib.Omega.{arith}
 use Rattle.encoding.specs.Table.{Fault, fine, fault, faults, rule_number, table_verdict}
-use Rattle.encoding.specs.RuleLaws.{fault_place}
-use Rattle.encoding.specs.declared.Verdict.{Verdict}
+use Rattle.encoding.proofs.RuleLaws.{fault_place}
 use Rattle.encoding.specs.declared.Verdict.TheVariants.{Sound, Broken as Breaks}
-use Rattle.laws.specs.TableFault.{fault_class}
+use Rattle.laws.proofs.TableFault.{fault_class}
 use Rattle.rules.specs.Checks.{finding_of}
 use Rattle.rules.specs.declared.Finding.{Finding}
 use Rattle.rules.specs.declared.Finding.TheVariants.{Fine, Broken}
