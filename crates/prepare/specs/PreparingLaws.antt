@@ -13,12 +13,12 @@ use Prim.Native.Nat.{ℕ, zero, suc, ◌≤◌, ◌<◌}
 use Rattle.std.proofs.Math.Dec.{eqb, ltb}
 use borrow.Author.Tests.{ltb-false}
 use Rattle.encoding.specs.Result.{bad, first_of}
-use Rattle.encoding.specs.ResultLaws.{first_of_ok}
+use Rattle.encoding.proofs.ResultLaws.{first_of_ok}
 use Rattle.encoding.specs.Table.{kind, Fault, fine, fault, faults, rule_number}
-use Rattle.encoding.specs.RuleLaws.{types_most}
+use Rattle.encoding.proofs.RuleLaws.{types_most}
 use Rattle.encoding.specs.Old.{no_old}
 use Rattle.encoding.specs.Message.{body, no_top, limit, after_rules, refused_first, rules}
-use Rattle.encoding.specs.MessageLaws.{rules_body, top_there}
+use Rattle.encoding.proofs.MessageLaws.{rules_body, top_there}
 use Rattle.encoding.specs.Write.{no_format}
 use Rattle.prepare.specs.declared.Prepared.{Prepared}
 use Rattle.prepare.specs.declared.Prepared.TheVariants.{Ready, Refused}

@@ -1,4 +1,6 @@
 // What is checked before a message: the table's rules, then 2, 23, 26 and 3. Every call that reads, views or writes a message begins with `prepare`, or with `onepass` and `after_rules`, and nothing after it checks the table again.
+#![tactic(auto)]
+
 ghost use Rattle.std.specs.Prelude.{◌≡◌, ◌&&◌, length, eqb};
 ghost use Rattle.encoding.specs.Number.{Bytes};
 ghost use Rattle.encoding.specs.Table.{types_at, kind, fine, faults};
@@ -10,7 +12,7 @@ ghost use Rattle.prepare.specs.Preparing.{before, checks};
 use rules::Finding;
 
 // Nothing is refused before the message; or a refusal's number and place.
-#[derive(Drop)]
+#[derive(Clone, Copy)]
 pub enum Prepared {
     Ready,
     Refused(usize, usize),
