@@ -5,12 +5,12 @@
 --   struct_passed                    a struct whose members passed
 --   record_rules_lem, list_rules         the rules of the kinds 13 to 15
 --   record_least, record_most        the kind of a record is 13 to 15
---   Usual, usual-..                  the loop over the member rows of these kinds; plain-.. those before the first optional one
+--   Usual, usual_..                  the loop over the member rows of these kinds; plain_.. those before the first optional one
 --   owner_passed, alone_passed, unnamed_passed   a row of each sort
---   StructMembers, structs-..        the loop over the members of a struct, with their widths
---   width-.., shape-..               the width and the shape of a struct, by those of its members
---   Rows, rows-..                    the pass over the rows
---   Blank, blank-..                  the array as it is cleared
+--   StructMembers, structs_..        the loop over the members of a struct, with their widths
+--   width_.., shape_..               the width and the shape of a struct, by those of its members
+--   Rows, rows_..                    the pass over the rows
+--   Blank, blank_..                  the array as it is cleared
 --   no_lists, few_types, pass_fine   the pass after the header
 use Prim.Native.Nat.{ℕ, zero, suc, ◌+◌, ◌-◌, ◌*◌, ◌/◌, ◌%◌, ◌≤◌, ◌<◌, min, max}
 use mathlib.Core.Path.{◌≡◌, refl, sym, ap, ◌∙◌}
@@ -24,11 +24,11 @@ use lib.Seq.{get_or-set_same, get_or-set_other, ext_get_or}
 use lib.Dec.{eqb, leb, ltb}
 use borrow.Author.Tests.{eqb-true, eqb-false, leb-false, ltb-false, not-true, not-false, le-leb, lt-leb, ne_eqb, eq-eqb}
 use Rattle.encoding.specs.Result.{pick, first_of}
-use Rattle.encoding.specs.ResultLaws.{either_false}
+use Rattle.encoding.proofs.ResultLaws.{either_false}
 use Rattle.encoding.specs.Types.{seq, dict, fixed, fixeds}
 use Rattle.encoding.specs.Table.{at, with_lists, types, members, member_at, kind, field, is_record, owns, range, member_type, member_tys, own_rows, tys, part_ty, type_rows, used, no_part, header_tests, header_rules, fault_at, fine, faults}
-use Rattle.encoding.specs.TableLaws.{rows_below, member_in, members_more, members_none}
-use Rattle.encoding.specs.RuleLaws.{header_test}
+use Rattle.encoding.proofs.TableLaws.{rows_below, member_in, members_more, members_none}
+use Rattle.encoding.proofs.RuleLaws.{header_test}
 use Rattle.table.specs.Rows.{IsTypeRow, greatest_of}
 use Rattle.table.specs.declared.TypeRow.{TypeRow}
 use Rattle.rules.specs.Checks.{finding_of, is_set_from, alike_from, record_rules, row_rules, share, is_basic, past, rows_pass, is_usual, owner_pass, owners_pass, OwnersThere}
@@ -184,13 +184,13 @@ module _ (own : TypeRow) (least : 13 ≤ own.kind) (most : own.kind ≤ 15) wher
   usual_begin T o small eo = record { own = own; no_struct = least; rows_left = owner_begin T o own.b own eo (share_own own (owns own.kind) refl owned) small }
 
 pub owner_passed : (T : List ℕ) (o : ℕ) (own : TypeRow) (n : ℕ) (s : Bool) → o < type_rows T → IsTypeRow T o own
-    → (b : Bool) → (b ≡ true → 0 ≡ first_of (row_rules T o own n s)) → (b ≡ true → (13 ≤ own.kind) × (own.kind ≤ 15)) → not b ≡ false
-    → (m : Bool) → (m ≡ true → Fine ≡ finding_of (owner_pass T o)) → not m ≡ false → RowPassed T o own n s 10
+    → (b : Bool) → (b ≡ true → 0 ≡ first_of (row_rules T o own n s)) → (b ≡ true → (13 ≤ own.kind) × (own.kind ≤ 15)) → b ≡ true
+    → (m : Bool) → (m ≡ true → Fine ≡ finding_of (owner_pass T o)) → m ≡ true → RowPassed T o own n s 10
 owner_passed T o own n s h eo b fb kb qb m fm qm =
-    let K = kb (not-false b qb) in
+    let K = kb qb in
     record {
-      rules = fb (not-false b qb);
-      members = fm (not-false m qm);
+      rules = fb qb;
+      members = fm qm;
       shape = row_of_none T o h own.kind eo.kind_is (λ z. omega (arith, K)) (λ z. omega (arith, K)) (λ z. omega (arith, K)) 10 (ten own.kind K.0);
     }
   where

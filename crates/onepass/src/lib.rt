@@ -1,6 +1,8 @@
 // One pass over a table of version 1 that judges each row and computes its shape. A yes says that the table breaks no rule and that the array holds its shapes.
 // A no says nothing: `rules` then decides, and `shapes` fills the array. Usual tables get a yes; a table whose tags fall, or that has lists of enumerators, does not.
 // The functions for a row return its shape, or 256 if it may break a rule.
+#![tactic(auto)]
+
 ghost use Rattle.std.specs.Prelude.{◌≡◌, true, false, ◌&&◌, ◌+◌, ◌≤◌, ◌<◌, length, replicate};
 ghost use Rattle.encoding.specs.Result.{pick, first_of};
 ghost use Rattle.encoding.specs.Table.{with_lists, types, members, types_at, row_at, members_at, member_at, names_at, range, type_rows, fine, faults};
