@@ -9,7 +9,7 @@
 use mathlib.Core.Path.{◌≡◌, refl, sym, ap, ◌∙◌}
 use mathlib.Core.Bool.{Bool, true, false, not}
 use mathlib.Core.List.{List, ◌++◌, append-nil}
-use Prim.Native.Nat.{ℕ, ◌+◌, ◌≤◌, ◌<◌, min}
+use Prim.Native.Nat.{ℕ, ◌≤◌, ◌<◌, min}
 use native.Mathlib.Omega.{arith}
 use lib.ListN.{length, drop, length-append, drop_of_length-le}
 use lib.Dec.{eqb}
@@ -17,7 +17,7 @@ use borrow.Rule.Slice.PartMut.{put_mid}
 use borrow.Author.Tests.{le-leb, lt-leb, eqb-false}
 use Rattle.encoding.specs.Result.{Res, ok, bad, pick, concat}
 use Rattle.encoding.specs.Number.{le_bytes}
-use Rattle.encoding.specs.NumberLaws.{length_le_bytes}
+use Rattle.encoding.proofs.NumberLaws.{length_le_bytes}
 use Rattle.encoding.specs.Message.{Read, rules, optionals_skipped, Answer, refused, reading, listed, reading_of}
 use Rattle.encoding.specs.declared.Reading.{Reading}
 use Rattle.encoding.specs.declared.Reading.TheVariants.{Accepted, Refused}
@@ -26,8 +26,8 @@ use Rattle.wire.specs.PutLaws.{put_put, put_front}
 use Rattle.slices.specs.Walks.{body_walk, read_done}
 use Rattle.slices.specs.declared.Walk.{Walk}
 use Rattle.slices.specs.declared.Walk.TheVariants.{Done}
-use Rattle.laws.specs.Small.{accepted_small}
-use Rattle.laws.specs.Refusals.{reader_refuses}
+use Rattle.laws.proofs.Small.{accepted_small}
+use Rattle.laws.proofs.Refusals.{reader_refuses}
 use Rattle.reading.specs.Told.{Listed, told_of}
 use Rattle.reading.specs.Numbers.{within_numbers, reading_numbered, short_of, five_numbers, five_bytes, with_numbers, FewSkipped}
 

@@ -1,7 +1,8 @@
 -- The answer of a walk is document 01's answer, and the lent list is as document 01 says. Assumes nothing.
 --
 --   same_walk                          a walk taken apart and put together again
---   copy_fits, copy_short, copy_none   the lent list after the rows of a walk are copied, case by case
+--   count_done, count_stop             the rows of a walk, case by case
+--   copy_fits, copy_short              the lent list after the rows of a walk are copied, where they fit and where they do not
 --   told_done, told_short, told_stop   the answer of a walk, case by case
 --   anew_lent, anew_walked, anew_shapes, anew_most, anew_listed, anew_list   what is asked and given of slices taken anew
 --   unasked                            10s are lent where the checks are made; lent_ready: the shapes, where they are not
@@ -11,7 +12,7 @@
 --   stop_walked, body_walked           a check refuses, or the walk over the body says all
 --   told_walked, told_listed           the answer of a walk
 --   rows_put                           a list that holds the rows, after they are put
---   list_few, -some, -more, -many, -all   the lent list after rows are copied from a list of 5 rows, of 21, 128, 512 or 1,024
+--   list_few, _some, _more, _many, _all   the lent list after rows are copied from a list of 5 rows, of 21, 128, 512 or 1,024
 use mathlib.Core.Path.{◌≡◌, refl, sym, ap, ap₂, ◌∙◌}
 use mathlib.Core.Bool.{Bool, true, false}
 use mathlib.Core.List.{List, [], ◌∷◌, ◌++◌}
@@ -22,12 +23,12 @@ use lib.Seq.{take_at}
 use lib.Dec.{eqb, leb}
 use borrow.Author.Tests.{le-leb, lt-leb, leb-true, leb-false, ne_eqb}
 use Rattle.encoding.specs.Result.{Res, ok, bad, pick, concat}
-use Rattle.encoding.specs.ResultLaws.{ok≢bad}
+use Rattle.encoding.proofs.ResultLaws.{ok≢bad}
 use Rattle.encoding.specs.Number.{Bytes}
 use Rattle.encoding.specs.Slice.{sliced, compact}
 use Rattle.encoding.specs.Table.{members}
 use Rattle.encoding.specs.Message.{Encoding, v10, v11, encoding_number, Read, body, limit, rules, Row, rows, row_bytes, first_known, optionals_skipped, slices_skipped, Answer, refused, accepted, answer, room, within, reading, listed, reading_of}
-use Rattle.encoding.specs.MessageLaws.{length_rows}
+use Rattle.encoding.proofs.MessageLaws.{length_rows}
 use Rattle.encoding.specs.declared.Reading.{Reading}
 use Rattle.encoding.specs.declared.Reading.TheVariants.{Accepted, Refused}
 use Rattle.wire.specs.StepLaws.{rest_is}
@@ -38,8 +39,8 @@ use Rattle.level.specs.FillLaws.{fill_listed}
 use Rattle.slices.specs.Walks.{body_walk, read_done}
 use Rattle.slices.specs.declared.Walk.{Walk}
 use Rattle.slices.specs.declared.Walk.TheVariants.{Done, Stop}
-use Rattle.laws.specs.Refusals.{Numbered, refusal_numbered, rules_refused}
-use Rattle.laws.specs.Small.{Small, accepted_small}
+use Rattle.laws.proofs.Refusals.{Numbered, refusal_numbered, rules_refused}
+use Rattle.laws.proofs.Small.{Small, accepted_small}
 use Rattle.prepare.specs.Preparing.{checks}
 use Rattle.prepare.specs.PreparingLaws.{reading_ready, reading_refused}
 use Rattle.prepare.specs.declared.Prepared.{Prepared}
@@ -53,14 +54,18 @@ use Rattle.reading.specs.Told.{Lent, Walked, Listed, low, told_of, row_count, wi
 pub same_walk : (w v : Walk) → w ≡ v → v ≡ w
 same_walk w v e = sym e
 
-module _ (w : Walk) (t g n o s e : ℕ) (q : w ≡ Done t g n o s e) where
-  pub copy_fits : (own R x : List ℕ) → n ≤ length R / 12 → x ≡ put 0 (take (12 * n) (drop 0 own)) R → x ≡ with_rows w own R
-  unfolding with_rows row_count
-  copy_fits own R x h ex = rw (q, row_count, le-leb n (length R / 12) h) ex
+pub copy_fits : (w : Walk) (own R x : List ℕ) (n : ℕ) → n ≡ row_count w → n ≤ length R / 12 → x ≡ put 0 (take (12 * n) (drop 0 own)) R → x ≡ with_rows w own R
+unfolding with_rows
+copy_fits w own R x n e h ex = rw (← e, le-leb n (length R / 12) h) ex
 
-  pub copy_short : (own R : List ℕ) → length R / 12 < n → R ≡ with_rows w own R
-  unfolding with_rows row_count
-  copy_short own R h = rw (q, row_count, lt-leb n (length R / 12) h) refl
+pub copy_short : (w : Walk) (own R : List ℕ) (n : ℕ) → n ≡ row_count w → length R / 12 < n → R ≡ with_rows w own R
+unfolding with_rows
+copy_short w own R n e h = rw (← e, lt-leb n (length R / 12) h) refl
+
+module _ (w : Walk) (t g n o s e : ℕ) (q : w ≡ Done t g n o s e) where
+  pub count_done : n ≡ row_count w
+  unfolding row_count
+  count_done = sym (ap row_count q)
 
   pub told_done : (k : ℕ) → n ≤ k → (a b c d f : ℕ) → a ≡ low t → b ≡ low g → c ≡ low n → d ≡ low o → f ≡ low s → Accepted a b c d f ≡ told_of k w
   unfolding told_of
@@ -71,9 +76,9 @@ module _ (w : Walk) (t g n o s e : ℕ) (q : w ≡ Done t g n o s e) where
   told_short k h c ec = rw (q, told_of, lt-leb n k h) cc
 
 module _ (w : Walk) (c p : ℕ) (q : w ≡ Stop c p) where
-  pub copy_none : (own R : List ℕ) → R ≡ with_rows w own R
-  unfolding with_rows row_count
-  copy_none own R = rw (q, row_count, le-leb 0 (length R / 12) (omega arith)) (sym (put_none 0 R))
+  pub count_stop : 0 ≡ row_count w
+  unfolding row_count
+  count_stop = sym (ap row_count q)
 
   pub told_stop : (k a b : ℕ) → a ≡ low c → b ≡ low p → Refused a b ≡ told_of k w
   unfolding told_of
@@ -121,7 +126,7 @@ unfolding told_of body_walk reading_of within refused
 told_refused T top k c p N =
     let num : low c ≡ c = low_small c (omega (arith, N.known_number)) in
     let at : low p ≡ p = low_small p N.small_place in
-    let some : eqb c 0 ≡ false = ne_eqb c 0 (λ e. omega (arith, N.Some-number)) in
+    let some : eqb c 0 ≡ false = ne_eqb c 0 (λ e. omega (arith, N.some_number)) in
     let it : Refused (low c) (low p) ≡ Refused c p = cc in
     let kept : within k (refused c p) ≡ refused c p = ap (λ (b : Bool). pick b (refused c p) (refused 19 0)) (le-leb 0 k (omega arith)) in
     it ∙ sym (ap reading_of kept ∙ ap (λ (b : Bool). pick b (Accepted 0 0 0 0 0) (Refused c p)) some)

@@ -13,16 +13,16 @@ use Rattle.std.proofs.lemmas.Bool.{false≢true}
 use mathlib.Core.List.{List, [], ◌∷◌}
 use Rattle.std.proofs.Math.Nat.{sub-zero}
 use Rattle.std.proofs.Math.Dec.{eqb}
-use Rattle.encoding.specs.Table.{types, members, owns, mark, any, fine, faults, Member, optional_members, base, upward, chain}
-use Rattle.encoding.specs.RuleLaws.{any_none, chain_node, rows_there}
-use Rattle.encoding.specs.Old.{descends, no_old}
+use Rattle.encoding.specs.Table.{types, members, owns, mark, any, fine, faults, Member, optional_members, base, upward}
+use Rattle.encoding.proofs.RuleLaws.{any_none, chain_node, rows_there}
+use Rattle.encoding.specs.Old.{no_old}
 use Rattle.encoding.specs.Conform.{InLine, a_base, below}
 use Rattle.encoding.specs.Message.{no_top}
 use Rattle.encoding.specs.Write.{slot}
 use Rattle.table.specs.Tags.{has_optional}
 use Rattle.laws.specs.Demands.{All, end, more}
-use Rattle.laws.specs.PlanRules.{Owner, Fit, optional_fit, record_there, base_record, top_owner, chain_top}
-use Rattle.laws.specs.OldLine.{line_bare}
+use Rattle.laws.proofs.PlanRules.{Owner, Fit, optional_fit, record_there, base_record, top_owner, chain_top}
+use Rattle.laws.proofs.OldLine.{line_bare}
 use Rattle.prepare.specs.Preparing.{checks}
 use Rattle.prepare.specs.PreparingLaws.{ready_table, ready_there}
 use Rattle.prepare.specs.declared.Prepared.TheVariants.{Ready}

@@ -1,5 +1,7 @@
 // The reader's calls: the answer, and the rows in a lent list. `read`, `answer` and `read_numbers` ask nothing of their input.
 // `walk` is called with `ready` by a caller that has checked the table, the top and the length, and has the shapes: so none is checked or computed twice.
+#![tactic(auto)]
+
 ghost use Rattle.std.specs.Prelude.{◌≡◌, ◌/◌, ◌≤◌, min, length};
 ghost use Rattle.encoding.specs.Table.{members, types_at};
 ghost use Rattle.encoding.specs.Message.{reading, listed, reading_of};
@@ -7,7 +9,7 @@ ghost use Rattle.prepare.specs.Preparing.{checks};
 ghost use Rattle.prepare.specs.declared.Prepared.TheVariants.{Ready};
 ghost use Rattle.shapes.specs.Shapes.{shapes_of};
 ghost use Rattle.reader.specs.OldUse.{OldUse};
-ghost use Rattle.reading.specs.Told.{Lent, Walked, Listed, low, told_of, with_rows};
+ghost use Rattle.reading.specs.Told.{Lent, Walked, Listed, low, told_of, row_count, with_rows};
 ghost use Rattle.reading.specs.Numbers.{reading_numbered, short_of, five_numbers, with_numbers, FewSkipped};
 
 use encoding::Reading;
@@ -37,20 +39,26 @@ fn told(w: Walk, k: usize) -> Reading
     }
 }
 
+// The rows of an accepted message; none of a refused one.
+fn row_count(w: Walk) -> usize
+    ensures { result ≡ row_count w }
+{
+    match w {
+        Walk::Done(first, format, n, optionals, slices, end) => n,
+        Walk::Stop(c, p) => 0,
+    }
+}
+
 // The same walk. The rows of an accepted message are copied from the call's own list to the lent one, if that holds them all.
 fn copied(w: Walk, own: &[u8], rows: &mut [u8]) -> Walk
     ensures value { result ≡ w }
     ensures rows_after { rows.new ≡ with_rows w own.now rows.old }
 {
-    match w {
-        Walk::Done(first, format, n, optionals, slices, end) => {
-            if n <= rows.len() / 12 {
-                wire::put_part(rows, 0, own, 0, 12 * n);
-            }
-            Walk::Done(first, format, n, optionals, slices, end)
-        }
-        Walk::Stop(c, p) => Walk::Stop(c, p),
+    let count = row_count(w);
+    if count <= rows.len() / 12 {
+        wire::put_part(rows, 0, own, 0, 12 * count);
     }
+    w
 }
 
 // What `prepare` finds; if it refuses nothing, the shapes are filled. Where the caller has both, nothing is done.
@@ -179,7 +187,7 @@ fn walk_some(table: &[u8], top: usize, message: &[u8], rows: &mut [u8]) -> Walk
 }
 
 // The same for at most 128 rows.
-fn walk_more(table: &[u8], top: usize, message: &[u8], rows: &mut [u8]) -> Walk
+fn walk_hundred(table: &[u8], top: usize, message: &[u8], rows: &mut [u8]) -> Walk
     requires { min (length rows.old / 12) (members table.now) ≤ 128 }
     ensures { Listed table.now top message.now result rows.old rows.new }
 {
@@ -201,7 +209,7 @@ fn walk_many(table: &[u8], top: usize, message: &[u8], rows: &mut [u8]) -> Walk
 }
 
 // The same for any number of rows: no table has more than 1,024 members.
-fn walk_all(table: &[u8], top: usize, message: &[u8], rows: &mut [u8]) -> Walk
+fn walk_more(table: &[u8], top: usize, message: &[u8], rows: &mut [u8]) -> Walk
     ensures { Listed table.now top message.now result rows.old rows.new }
 {
     let mut shapes = [10u8; 256];
@@ -218,7 +226,7 @@ fn walk_long(table: &[u8], top: usize, message: &[u8], most: usize, rows: &mut [
     if most <= 512 {
         return walk_many(table, top, message, rows);
     }
-    walk_all(table, top, message, rows)
+    walk_more(table, top, message, rows)
 }
 
 // The reader: the answer, and the rows in the lent list, 12 bytes each; bytes after the rows stay, and on a refusal all of them.
@@ -236,7 +244,7 @@ pub fn read(table: &[u8], top: u32, message: &[u8], rows: &mut [u8]) -> Reading
         return told(walk_some(table, top as usize, message, rows), k);
     }
     if most <= 128 {
-        return told(walk_more(table, top as usize, message, rows), k);
+        return told(walk_hundred(table, top as usize, message, rows), k);
     }
     told(
         walk_long(&table[0..], top as usize, &message[0..], most, rows),
@@ -363,7 +371,11 @@ pub fn read_numbers(
         return numbered(walk_some(table, top as usize, message, rows), room, numbers);
     }
     if most <= 128 {
-        return numbered(walk_more(table, top as usize, message, rows), room, numbers);
+        return numbered(
+            walk_hundred(table, top as usize, message, rows),
+            room,
+            numbers,
+        );
     }
     numbered(
         walk_long(&table[0..], top as usize, &message[0..], most, rows),

@@ -1,6 +1,6 @@
 -- The rows are copied from the call's own list, which holds as many as there can be. Assumes nothing.
 use borrow.Author.Rules.{rules}
-use Rattle.reading.proofs.Telling.{unasked, old_unasked, list_more}
+use Rattle.reading.proofs.Telling.{unasked, old_unasked, list_all}
 use Rattle.reading.proofs.walk_more.Statement.{statement}
 use Rattle.reading.proofs.walk_more.Tie as tie
 
@@ -13,4 +13,4 @@ walk_more_spec =
     (λ c. search rules)  -- slice-aggregate-copied
     (λ c κs. search rules)  -- copied-requires
     (λ c. search rules)  -- same-length
-    (λ c. search list_more))  -- returns
+    (λ c. search list_all))  -- returns
