@@ -13,7 +13,7 @@ use lib.Dec.{leb}
 use borrow.Author.Tests.{leb-true, le-leb, lt-leb}
 use Rattle.encoding.specs.Result.{pick}
 use Rattle.encoding.specs.Message.{row_bytes}
-use Rattle.encoding.specs.MessageLaws.{length_row}
+use Rattle.encoding.proofs.MessageLaws.{length_row}
 use Rattle.wire.specs.Put.{put}
 use Rattle.wire.specs.PutLaws.{put_none, put_front}
 use Rattle.view.specs.Views.{view_short, view_within, view_bytes, with_view}

@@ -1,6 +1,6 @@
 -- The member view: the rows of a walk are read back from its list, and a part lies in the message. Assumes nothing.
 --
---   Seeks, seeks-..                                   the loop that looks for a member in a list
+--   Seeks, seeks_..                                   the loop that looks for a member in a list
 --   look_refused                                      the table, the top or the message is refused
 --   look_few, look_seen, look_inside, look_other      what the view answers of an accepted message
 --   nothing_inside, refused_inside                    no part, so none outside the message
@@ -16,18 +16,18 @@ use lib.Dec.{eqb}
 use borrow.Author.Tests.{eq-eqb, ne_eqb}
 use Rattle.encoding.specs.Result.{Res, ok, bad, pick, concat}
 use Rattle.encoding.specs.Table.{at, members, range, any, takes, chain}
-use Rattle.encoding.specs.Message.{Encoding, Read, limit, rules, Row, rows, row_bytes, first_known}
+use Rattle.encoding.specs.Message.{Encoding, Read, rules, Row, rows, row_bytes, first_known}
 use Rattle.encoding.specs.Write.{row_at}
 use Rattle.encoding.specs.View.{Seen, part, fallback, nothing, row_of, of_chain, seen, viewing, seen_bytes}
 use Rattle.table.proofs.Ranges.{range_more, range_none}
 use Rattle.slices.specs.Walks.{body_walk, read_done}
 use Rattle.slices.specs.declared.Walk.{Walk}
 use Rattle.slices.specs.declared.Walk.TheVariants.{Done, Stop}
-use Rattle.laws.specs.Refusals.{refusal_numbered, rules_refused}
+use Rattle.laws.proofs.Refusals.{refusal_numbered, rules_refused}
 use Rattle.laws.specs.Demands.{All, end, more, RowExact}
-use Rattle.laws.specs.MessageExact.{exact_rows}
-use Rattle.laws.specs.Small.{accepted_small}
-use Rattle.laws.specs.RowsBack.{rows_back, accepted_rows_small}
+use Rattle.laws.proofs.MessageExact.{exact_rows}
+use Rattle.laws.proofs.Small.{accepted_small}
+use Rattle.laws.proofs.RowsBack.{rows_back, accepted_rows_small}
 use Rattle.reading.specs.Told.{Walked, low}
 use Rattle.reading.proofs.Telling.{rows_put}
 use Rattle.view.specs.Views.{view_of, view_answer_of, view_answer, PartInside}

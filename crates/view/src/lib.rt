@@ -1,4 +1,6 @@
 // The member view: a member's bytes, as a part of the message or of a fallback, or where they are, in numbers. It asks nothing of its input.
+#![tactic(auto)]
+
 ghost use Rattle.std.specs.Prelude.{◌≡◌, map, ◌*◌, ◌≤◌, min, length};
 ghost use Rattle.encoding.specs.Table.{range, members};
 ghost use Rattle.encoding.specs.Write.{row_at};
@@ -9,7 +11,7 @@ ghost use Rattle.view.specs.Views.{view_of, view_answer, view_within, view_bytes
 use slices::Walk;
 
 // What the view answers: a part of the message, by its place and length; the whole fallback; an empty part; or a refusal's number and place.
-#[derive(Drop)]
+#[derive(Clone, Copy)]
 pub enum View {
     Part(usize, usize),
     Fallback,
@@ -106,6 +108,8 @@ pub fn member<'r, 'm: 'r, 'f: 'r, 't>(
 ) -> &'r [u8]
     ensures { result.now ≡ seen_bytes message.now fallback.now (viewing table.now top message.now row) }
 {
+    let message: &'r [u8] = message;
+    let fallback: &'r [u8] = fallback;
     seen(table, top, message, row, fallback)
 }
 
