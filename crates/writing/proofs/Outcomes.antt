@@ -1,8 +1,8 @@
 -- The writer's outcome, and the answer made of it. Assumes nothing.
 --
 --   anew_outcome, anew_output                         the outcome and the output of slices passed as new parts
---   refused_outcome, -fits, -output                   if a check before the rows refuses: the outcome, its numbers fit 32 bits, the output
---   rows_outcome, -fits, -output                      the same if none refuses
+--   refused_outcome, _fits, _output                   if a check before the rows refuses: the outcome, its numbers fit 32 bits, the output
+--   rows_outcome, _fits, _output                      the same if none refuses
 --   made_fits, number_fits, place_fits                each number of an outcome fits; fits_made, fits_stopped, fits_needed: outcomes of these numbers
 --   told_made, told_stopped                           the answer of an outcome
 --   fit_made, fit_other, fit_over, fit_room, fit_fits the outcome for a room
@@ -18,7 +18,7 @@ use borrow.Author.Tests.{le-leb, lt-leb, eq-eqb, ne_eqb}
 use Rattle.encoding.specs.Result.{pick}
 use Rattle.encoding.specs.Table.{Fault, fine, fault, faults, rule_number, chain}
 use Rattle.encoding.specs.Message.{limit}
-use Rattle.encoding.specs.MessageLaws.{length_encapsulate}
+use Rattle.encoding.proofs.MessageLaws.{length_encapsulate}
 use Rattle.encoding.specs.declared.Writing.{Writing}
 use Rattle.encoding.specs.declared.Writing.TheVariants.{Written, Rejected}
 use Rattle.encoding.specs.Write.{Out, out, stop, next, begin, above, judge_all, encoding_of, bounded, table_rules, early, stopped_first, rows_given, message, writing, output, writing_of}
@@ -30,9 +30,9 @@ use Rattle.prepare.specs.declared.Prepared.TheVariants.{Ready, Refused}
 use Rattle.writer.specs.declared.Outcome.{Outcome}
 use Rattle.writer.specs.declared.Outcome.TheVariants.{Made, Stopped}
 use Rattle.writer.specs.Messages.{written, outcome_of}
-use Rattle.laws.specs.PlanLaws.{out≢stop}
-use Rattle.laws.specs.MessageWritten.{message_ok, too_long_lem}
-use Rattle.laws.specs.WriteSmall.{Narrow, writing_narrow}
+use Rattle.laws.proofs.PlanLaws.{out≢stop}
+use Rattle.laws.proofs.MessageWritten.{message_ok, too_long_lem}
+use Rattle.laws.proofs.WriteSmall.{Narrow, writing_narrow}
 use Rattle.writing.specs.Tell.{Fits, tells, fitted}
 
 -- ---- slices passed as new parts

@@ -1,4 +1,6 @@
 // The writer's calls: rows and a buffer to a message. None asks anything of its input.
+#![tactic(auto)]
+
 ghost use Rattle.std.specs.Prelude.{◌≡◌, ◌<◌, length, replicate};
 ghost use Rattle.encoding.specs.Table.{types_at};
 ghost use Rattle.encoding.specs.Write.{writing, output, writing_of};
