@@ -18,8 +18,8 @@ use Rattle.encoding.specs.Message.{Read, rules, row_bytes, Answer, refused, acce
 use Rattle.encoding.specs.declared.Reading.{Reading}
 use Rattle.encoding.specs.declared.Reading.TheVariants.{Accepted, Refused}
 use Rattle.laws.specs.Demands.{All, end}
-use Rattle.laws.specs.Small.{accepted_small}
-use Rattle.laws.specs.RowsBack.{SmallRow, rows_back, accepted_rows_small}
+use Rattle.laws.proofs.Small.{accepted_small}
+use Rattle.laws.proofs.RowsBack.{SmallRow, rows_back, accepted_rows_small}
 use Rattle.rowlist.specs.Records.{record_of, records, rows_of}
 
 leb_cut : (l k n : ℕ) → l ≤ n → leb l (min k n) ≡ leb l k

@@ -1,16 +1,13 @@
--- Laws of the definitions of `specs/Records.antt`, for the walks. Pure lists and numbers.
+-- Laws of the definitions of `specs/Records.antt` that the proofs cite. Pure lists and numbers.
 --
---   overlay_length   what is laid over a list does not change its length
 --   overlay_start    nothing is laid over it
 --   overlay_next     row i stored over a list with i rows laid over it: i + 1 rows laid over it
---   count_rows       as many rows as the bytes have, and as there is room for
 --   told_accepted, told_refused   the row count of an answer, case by case
---   all_rows         a list of 1,024 rows has as many as an answer counts
 --   filled           rows past the list's end are lost, so as many as there is room for are enough
 use mathlib.Core.Path.{◌≡◌, refl, sym, ◌∙◌, ap}
 use mathlib.Core.Bool.{Bool, true, false}
 use mathlib.Core.List.{List, [], ◌∷◌}
-use Prim.Native.Nat.{ℕ, zero, suc, ◌+◌, ◌*◌, ◌/◌, ◌<◌, ◌≤◌, min}
+use Prim.Native.Nat.{ℕ, zero, suc, ◌+◌, ◌<◌, ◌≤◌, min}
 use native.Mathlib.Nat.{not-suc-le-zero, le_of_suc-le-suc, add-zero}
 use native.Mathlib.Omega.{arith}
 use lib.ListN.{length, set}
@@ -22,12 +19,6 @@ use Rattle.encoding.specs.declared.Reading.TheVariants.{Accepted, Refused}
 use Rattle.encoding.specs.Table.{range}
 use Rattle.encoding.specs.Write.{row_at}
 use Rattle.rowlist.specs.Records.{record_of, records, overlay, rows_of}
-
-pub overlay_length : (xs ys : List Row) → length (overlay xs ys) ≡ length ys
-unfolding overlay
-overlay_length [] ys = refl
-overlay_length (x ∷ xs) [] = refl
-overlay_length (x ∷ xs) (y ∷ ys) = ap suc (overlay_length xs ys)
 
 pub overlay_start : (s : List ℕ) (ys : List Row) → ys ≡ overlay (records s 0 0) ys
 unfolding overlay records range
@@ -43,9 +34,6 @@ next_from s (y ∷ ys) k (suc i) l =
 
 pub overlay_next : (s : List ℕ) (ys : List Row) (i : ℕ) → i < length ys → set (overlay (records s 0 i) ys) i (record_of (row_at s i)) ≡ overlay (records s 0 (suc i)) ys
 overlay_next s ys i l = ap (λ (j : ℕ). set (overlay (records s 0 i) ys) i (record_of (row_at s j))) (omega arith) ∙ next_from s ys 0 i l
-
-pub count_rows : (l n r m : ℕ) → m ≡ min (min n (l / 12)) r → (m * 12 ≤ l) × (m ≤ r)
-count_rows l n r m e = (omega (arith, e), omega (arith, e))
 
 overlay_cut : (s : List ℕ) (ys : List Row) (k m : ℕ) → length ys ≤ m → overlay (records s k (length ys)) ys ≡ overlay (records s k m) ys
 unfolding overlay records range
@@ -68,7 +56,3 @@ told_accepted a t f n o s e = sym (ap rows_of e)
 pub told_refused : (a : Reading) (n p : ℕ) → a ≡ Refused n p → 0 ≡ rows_of a
 unfolding rows_of
 told_refused a n p e = sym (ap rows_of e)
-
-pub all_rows : (zs : List ℕ) (ws rs us : List Row) (n m : ℕ) → length zs ≡ 12288 → n ≤ 1024 → records zs 0 n ≡ us → m ≡ n → ws ≡ overlay (records zs 0 (min m (length zs / 12))) rs → ws ≡ overlay us rs
-all_rows zs ws rs us n m l h f e g =
-    g ∙ ap (λ (j : ℕ). overlay (records zs 0 j) rs) (omega (arith, l, h, e)) ∙ ap (λ (xs : List Row). overlay xs rs) f

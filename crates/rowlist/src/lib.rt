@@ -1,5 +1,6 @@
 // The reader with a lent list of row records. It asks nothing of its input.
-// `rows_of` and `read_rows` are proved by hand and every edit breaks the proof, so they hold no logic.
+#![tactic(auto)]
+
 ghost use Rattle.std.specs.Prelude.{◌≡◌, ◌+◌, ◌*◌, ◌/◌, ◌≤◌, min, length, map};
 ghost use Rattle.encoding.specs.Message.{reading, reading_of};
 ghost use Rattle.encoding.specs.Write.{row_at};
