@@ -7,32 +7,31 @@
 --   fits_count, fits_type, fits_start, fits_length   what the code asks before it puts the message
 use mathlib.Core.Path.{◌≡◌, refl, sym, ap, ap₂, ◌∙◌, subst}
 use mathlib.Core.Bool.{Bool, true, false, ◌&&◌}
-use mathlib.Core.List.{List, [], ◌∷◌, ◌++◌, map}
-use Prim.Native.Nat.{ℕ, ◌+◌, ◌-◌, ◌*◌, ◌≤◌, ◌<◌, min}
+use mathlib.Core.List.{List, ◌∷◌, ◌++◌, map}
+use Prim.Native.Nat.{ℕ, ◌+◌, ◌*◌, ◌≤◌, ◌<◌, min}
 use native.Mathlib.Nat.{sub-zero}
 use native.Mathlib.Omega.{arith}
 use lib.ListN.{length, drop}
 use lib.Dec.{eqb, leb}
 use borrow.Author.Tests.{leb-true, le-leb, eq-eqb, ne_eqb}
 use Rattle.encoding.specs.Result.{Res, ok, bad, pick, concat}
-use Rattle.encoding.specs.ResultLaws.{both_true}
+use Rattle.encoding.proofs.ResultLaws.{both_true}
 use Rattle.encoding.specs.Number.{Bytes}
 use Rattle.encoding.specs.Table.{members, range, kind, chain}
 use Rattle.encoding.specs.Slice.{compact, sliced, format_number, first}
 use Rattle.encoding.specs.Message.{v10, v11, slices_bytes, Pieces, list, exception, class, Read, encode, encapsulate, rules, limit, Row, rows, row_bytes, first_known, optionals_skipped, slices_skipped}
-use Rattle.encoding.specs.MessageLaws.{length_encapsulate}
+use Rattle.encoding.proofs.MessageLaws.{length_encapsulate}
 use Rattle.encoding.specs.Conform.{Conform}
-use Rattle.encoding.specs.Write.{Out, out, stop, bounded, row_at, output, writing_of}
+use Rattle.encoding.specs.Write.{out, stop, bounded, row_at, output, writing_of}
 use Rattle.encoding.specs.declared.Writing.TheVariants.{Written, Rejected}
 use Rattle.slices.specs.Walks.{body_walk, read_done}
 use Rattle.slices.specs.declared.Walk.{Walk}
-use Rattle.slices.specs.declared.Walk.TheVariants.{Done, Stop}
-use Rattle.laws.specs.Demands.{read_as, Complete}
-use Rattle.laws.specs.MessageExact.{exact_message}
-use Rattle.laws.specs.Refusals.{refusal_numbered, rules_refused}
-use Rattle.laws.specs.Small.{accepted_small}
-use Rattle.laws.specs.WriteSmall.{Narrow as Brief, writing_narrow}
-use Rattle.laws.specs.RowsBack.{rows_back, accepted_rows_small}
+use Rattle.laws.specs.Demands.{read_as}
+use Rattle.laws.proofs.MessageExact.{exact_message}
+use Rattle.laws.proofs.Refusals.{refusal_numbered, rules_refused}
+use Rattle.laws.proofs.Small.{accepted_small}
+use Rattle.laws.proofs.WriteSmall.{Narrow as Brief, writing_narrow}
+use Rattle.laws.proofs.RowsBack.{rows_back, accepted_rows_small}
 use Rattle.reading.specs.Told.{Walked, low}
 use Rattle.reading.proofs.Telling.{rows_put}
 use Rattle.wire.specs.Put.{put}
@@ -42,7 +41,7 @@ use Rattle.convert.specs.declared.Plan.TheVariants.{Fits, Stopped}
 use Rattle.convert.specs.Convert.{converting}
 use Rattle.convert.specs.Demands.{Convertible}
 use Rattle.convert.specs.Reslice.{growth, resliced}
-use Rattle.convert.specs.ConvertLaws.{Answers, is_refused, is_other, is_skipping, is_convertible, answers, convert_is, convert_written, needed_is, resliced_is}
+use Rattle.convert.proofs.ConvertLaws.{Answers, is_refused, is_other, is_skipping, is_convertible, answers, convert_is, convert_written, needed_is, resliced_is}
 use Rattle.convert.specs.Plans.{rows_from, Narrow, fitting, plan_of}
 
 -- ---- what a walk says

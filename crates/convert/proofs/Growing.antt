@@ -1,18 +1,17 @@
 -- The bytes that the sliced form needs, and what is planned of a walk. Assumes nothing.
 --
---   Growing, growing-..     the loop over the bases of a row
---   narrow_first, -len      the first known type of a walk, and the message's length
---   plan-..                 what is planned, case by case
-use mathlib.Core.Path.{◌≡◌, refl, sym, ap, ◌∙◌, subst}
+--   Growing, growing_..     the loop over the bases of a row
+--   narrow_first, _len      the first known type of a walk, and the message's length
+--   plan_..                 what is planned, case by case
+use mathlib.Core.Path.{◌≡◌, sym, ap, ◌∙◌, subst}
 use mathlib.Core.List.{List}
 use Prim.Native.Nat.{ℕ, suc, ◌+◌, ◌-◌, ◌*◌, ◌≤◌, ◌<◌}
 use native.Mathlib.Omega.{arith}
 use lib.ListN.{length}
 use borrow.Author.Tests.{eq-eqb, ne_eqb, le-leb, lt-leb}
-use Rattle.encoding.specs.Result.{pick}
 use Rattle.encoding.specs.Number.{string_bytes}
 use Rattle.encoding.specs.Table.{name_of, base, upward, chain}
-use Rattle.encoding.specs.TableLaws.{chain_row}
+use Rattle.encoding.proofs.TableLaws.{chain_row}
 use Rattle.slices.specs.declared.Walk.{Walk}
 use Rattle.slices.specs.declared.Walk.TheVariants.{Done, Stop}
 use Rattle.convert.specs.declared.Plan.TheVariants.{Fits, Stopped}

@@ -3,3 +3,6 @@ pub mod Growing
 pub mod Owning
 pub mod Moving
 pub mod Answering
+pub mod ConvertLaws
+pub mod ResliceLaws
+pub mod Promised

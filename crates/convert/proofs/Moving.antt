@@ -2,12 +2,12 @@
 --
 --   end_marked, end_plain       where a slice's data end
 --   slice_moved, part_small     one slice, and its end
---   Moving, moving-..           the loop over the slices of a chain
+--   Moving, moving_..           the loop over the slices of a chain
 --   record_put                  size, version and marker before them
 --   first_class, first_other    where the first slice begins
 use mathlib.Core.Path.{◌≡◌, refl, sym, ap, ap₂, ◌∙◌}
 use mathlib.Core.Bool.{Bool, true, false}
-use mathlib.Core.List.{List, [], ◌∷◌, ◌++◌, map}
+use mathlib.Core.List.{List, ◌∷◌, ◌++◌, map}
 use Prim.Native.Nat.{ℕ, zero, suc, ◌+◌, ◌-◌, ◌*◌, ◌≤◌, ◌<◌, min}
 use native.Mathlib.Nat.{add-zero}
 use native.Mathlib.Omega.{arith}
@@ -17,7 +17,7 @@ use borrow.Author.Tests.{eq-eqb, ne_eqb}
 use Rattle.encoding.specs.Result.{pick}
 use Rattle.encoding.specs.Number.{le_bytes, string_bytes}
 use Rattle.encoding.specs.Table.{at, kind, name_of, base, upward, chain}
-use Rattle.encoding.specs.TableLaws.{chain_row}
+use Rattle.encoding.proofs.TableLaws.{chain_row}
 use Rattle.encoding.specs.Slice.{bit}
 use Rattle.encoding.specs.Write.{row_at}
 use Rattle.table.proofs.Ranges.{range_more}

@@ -1,16 +1,14 @@
 -- The loop over the rows of an owner. Assumes nothing.
 --
 --   end_none, end_last   where some rows end
---   Owning, owning-..    what the loop keeps: the rows from k on give the end and the count
+--   Owning, owning_..    what the loop keeps: the rows from k on give the end and the count
 use mathlib.Core.Path.{◌≡◌, refl, sym, ap, ◌∙◌}
-use mathlib.Core.Bool.{Bool, true, false}
+use mathlib.Core.Bool.{true, false}
 use mathlib.Core.List.{List, [], ◌∷◌, map}
 use Prim.Native.Nat.{ℕ, ◌+◌, ◌-◌, ◌*◌, ◌≤◌, ◌<◌}
 use native.Mathlib.Omega.{arith}
 use borrow.Author.Tests.{eq-eqb, ne_eqb, le-leb, lt-leb, le-ltb, lt-ltb}
-use Rattle.encoding.specs.Result.{pick}
 use Rattle.encoding.specs.Table.{at, field, takes}
-use Rattle.encoding.specs.Message.{Row}
 use Rattle.encoding.specs.Write.{row_at}
 use Rattle.table.proofs.Ranges.{range_more, range_none}
 use Rattle.table.specs.Rows.{IsTypeRow}

@@ -1,5 +1,7 @@
 // The converter: a compact record to the sliced one with the same members and bytes. It asks nothing of its input.
 // planning.rt judges what a walk over the message found, slice.rt puts the slices: the data of each stay as they are, and the rows of its owner, which the walk has listed, say where they end.
+#![tactic(auto)]
+
 pub mod planning;
 pub mod slice;
 
@@ -11,21 +13,21 @@ ghost use Rattle.convert.specs.Convert.{converting};
 use encoding::Writing;
 
 // What is to be put: the first known type, the rows, the bytes needed; or a refusal's number and place.
-#[derive(Drop)]
+#[derive(Clone, Copy)]
 pub enum Plan {
     Fits(usize, usize, usize),
     Stopped(usize, usize),
 }
 
 // The place after the rows of an owner, and the next row.
-#[derive(Drop)]
+#[derive(Clone, Copy)]
 pub struct Ended {
     pub end: usize,
     pub row: usize,
 }
 
 // After a slice: the next row, and the ends of the slice in the message and in the output.
-#[derive(Drop)]
+#[derive(Clone, Copy)]
 pub struct Moved {
     pub row: usize,
     pub at: usize,

@@ -7,38 +7,37 @@
 --   converted, convert_written, convert_refuses, convert_numbers, convert_filled   the promises
 use Rattle.std.specs.Prelude.{◌≡◌, Bool, true, false, ◌&&◌, drop, leb, ltb, eqb}
 use Rattle.std.proofs.Math.Path.{refl, sym, ap, ap₂, subst}
-use Rattle.std.proofs.Common.{◌∙◌, subst₂, length-append, length-drop, drop_at, leb-true, ltb-true, ltb-false, lt-ltb}
+use Rattle.std.proofs.Common.{◌∙◌, subst₂, length-append, length-drop, drop_at, ltb-true, ltb-false, lt-ltb}
 use mathlib.Core.List.{List, [], ◌∷◌, ◌++◌, append_assoc, append-nil}
 use Prim.Native.Nat.{ℕ, zero, suc, ◌+◌, ◌-◌, ◌≤◌}
 use native.Mathlib.Omega.{arith}
 use Rattle.std.proofs.Math.ListN.{length, take}
 use Rattle.std.proofs.Math.Seq.{take_at}
 use Rattle.encoding.specs.Result.{Res, ok, bad, pick, concat, first_of}
-use Rattle.encoding.specs.ResultLaws.{both_true}
 use Rattle.encoding.specs.Number.{Bytes, le_bytes, string_bytes}
-use Rattle.encoding.specs.NumberLaws.{length_le_bytes}
-use Rattle.encoding.specs.Table.{name_of, chain, named, kind, fine, faults}
-use Rattle.encoding.specs.RuleLaws.{named_ok}
+use Rattle.encoding.proofs.NumberLaws.{length_le_bytes}
+use Rattle.encoding.specs.Table.{name_of, chain, kind, fine, faults}
+use Rattle.encoding.proofs.RuleLaws.{named_ok}
 use Rattle.encoding.specs.Slice.{compact, sliced, format_number, first, due, Slice, known, passed, id_of}
-use Rattle.encoding.specs.Message.{Encoding, v10, v11, encoding_number, slices_bytes, Pieces, list, exception, class, Read, encode, encapsulate, no_top, rules, limit, Row, slice_rows, rows, row_bytes, first_in, first_known, or_zero, optionals_skipped, slices_skipped, skipped_in, passed_in}
-use Rattle.encoding.specs.MessageLaws.{length_encapsulate}
-use Rattle.encoding.specs.Write.{Out, out, stop, next, stopped_first, bounded, message, writing, output, writing_of, writing_numbers}
+use Rattle.encoding.specs.Message.{Encoding, v10, v11, encoding_number, slices_bytes, Pieces, list, exception, class, Read, encode, encapsulate, no_top, rules, limit, Row, slice_rows, rows, row_bytes, first_in, first_known, or_zero, optionals_skipped, slices_skipped, skipped_in}
+use Rattle.encoding.proofs.MessageLaws.{length_encapsulate}
+use Rattle.encoding.specs.Write.{Out, out, stop, next, stopped_first, bounded, writing, output, writing_of, writing_numbers}
 use Rattle.encoding.specs.Conform.{Conform, Slices, Follow}
 use Rattle.laws.specs.Demands.{read_as, Follows, Complete, SameMembers, UnderTop, row_list, from_above}
-use Rattle.laws.specs.TableExact.{sound}
-use Rattle.laws.specs.MessageExact.{exact_message}
-use Rattle.laws.specs.RowsBack.{rows_back, accepted_rows_small}
-use Rattle.laws.specs.RowsExact.{Stands, stands_next, stands_encapsulated}
-use Rattle.laws.specs.PlanLaws.{out≢stop}
-use Rattle.laws.specs.PlanRules.{record_there, chain_falls, chain_owners}
-use Rattle.laws.specs.Refusals.{rules_refused, refusal_numbered}
-use Rattle.laws.specs.MessageWritten.{message_step, writing_ok}
-use Rattle.laws.specs.WriteAgain.{message_again}
-use Rattle.laws.specs.WriteBack.{read_back}
-use Rattle.laws.specs.WriterAnswers.{encoding_one}
+use Rattle.laws.proofs.TableExact.{sound}
+use Rattle.laws.proofs.MessageExact.{exact_message}
+use Rattle.laws.proofs.RowsBack.{rows_back, accepted_rows_small}
+use Rattle.laws.proofs.RowsExact.{Stands, stands_next, stands_encapsulated}
+use Rattle.laws.proofs.PlanLaws.{out≢stop}
+use Rattle.laws.proofs.PlanRules.{record_there, chain_falls, chain_owners}
+use Rattle.laws.proofs.Refusals.{rules_refused, refusal_numbered}
+use Rattle.laws.proofs.MessageWritten.{message_step, writing_ok}
+use Rattle.laws.proofs.WriteAgain.{message_again}
+use Rattle.laws.proofs.WriteBack.{read_back}
+use Rattle.laws.proofs.WriterAnswers.{encoding_one}
 use Rattle.convert.specs.Convert.{not_compact, not_convertible, slice_out, converting}
 use Rattle.convert.specs.Reslice.{growth, reslices, resliced}
-use Rattle.convert.specs.ResliceLaws.{Before, follow_resliced, first_growth}
+use Rattle.convert.proofs.ResliceLaws.{Before, follow_resliced, first_growth}
 use Rattle.convert.specs.Demands.{Convertible, ConvertedTo, Converted, ConvertWritten, ConvertRefusal, by_reader, not_compact_lem, skips, no_room, ConvertRefuses, ConvertNumbers, ConvertFilled}
 
 -- ---- a compact record

@@ -6,31 +6,31 @@
 --   slice_flagged               bit 2 of a slice's flags
 --   follow_resliced             the slices of a chain
 --   first_growth                how long they are
-use Rattle.std.specs.Prelude.{◌≡◌, Bool, ◌&&◌, take, drop, leb, ltb}
+use Rattle.std.specs.Prelude.{◌≡◌, Bool, take, drop, leb, ltb}
 use Rattle.std.proofs.Math.Path.{refl, ap, ap₂}
-use Rattle.std.proofs.Common.{sym, ◌∙◌, subst, true≢false}
+use Rattle.std.proofs.Common.{sym, ◌∙◌, subst}
 use Rattle.std.proofs.Math.Bool.{true, false}
-use Rattle.std.proofs.Math.Option.{Option, some}
+use Rattle.std.proofs.Math.Option.{some}
 use mathlib.Core.List.{List, [], ◌∷◌, ◌++◌}
 use Prim.Native.Nat.{ℕ, suc, ◌+◌, ◌-◌, ◌≤◌, ◌<◌, min}
 use native.Mathlib.Omega.{arith}
 use Rattle.std.proofs.Math.ListN.{length, length-append}
 use borrow.Author.Tests.{leb-true, ltb-true, le-leb, lt-ltb}
 use Rattle.encoding.specs.Result.{pick, concat}
-use Rattle.encoding.specs.ResultLaws.{both_true}
+use Rattle.encoding.proofs.ResultLaws.{both_true}
 use Rattle.encoding.specs.Number.{le_bytes, string_bytes, val}
-use Rattle.encoding.specs.NumberLaws.{length_le_bytes}
+use Rattle.encoding.proofs.NumberLaws.{length_le_bytes}
 use Rattle.encoding.specs.Table.{at, field, kind, owns, takes, name_of, chain, fine, faults, Member, lookup}
 use Rattle.encoding.specs.Table
-use Rattle.encoding.specs.RuleLaws.{required_own, optional_own, rows_apart}
+use Rattle.encoding.proofs.RuleLaws.{required_own, optional_own, rows_apart}
 use Rattle.encoding.specs.Optional.{Piece, required, optional, skipped, front_bytes, content_bytes, piece_bytes, is_skipped}
-use Rattle.encoding.specs.Slice.{Format, compact, sliced, Stand, first, later, due, bit, Slice, known, passed, any_optional, has_optionals, id_of, is_last, flag_bits, worth, data_bytes, slice_front}
+use Rattle.encoding.specs.Slice.{Format, compact, sliced, Stand, first, later, due, bit, Slice, known, passed, any_optional, has_optionals, id_of, is_last, flag_bits, data_bytes, slice_front}
 use Rattle.encoding.specs.Message.{v11, slices_bytes, Row, list_row, piece_member, piece_rows, slice_rows, skipped_pieces, skipped_in}
 use Rattle.encoding.specs.Conform.{Level, Owned, Follow}
 use Rattle.laws.specs.Demands.{All, end, more}
-use Rattle.laws.specs.RowsExact.{Stands, stands_first, stands_inside, stands_there, all_append, all_map, data_stand, slices_stand, Found, required_found}
-use Rattle.laws.specs.PlanLaws.{Pairs, before}
-use Rattle.laws.specs.PlanRules.{Owner, Falls}
+use Rattle.laws.proofs.RowsExact.{Stands, stands_first, stands_inside, stands_there, all_append, all_map, data_stand, slices_stand, Found, required_found}
+use Rattle.laws.proofs.PlanLaws.{Pairs, before}
+use Rattle.laws.proofs.PlanRules.{Owner, Falls}
 use Rattle.convert.specs.Reslice.{growth, later_growth, own_end, own_count, flagged, data_end, front, reslice, none_above, reslices}
 
 -- ---- the rows of an owner
