@@ -9,7 +9,7 @@
 --   size_after            a length after the exchange
 --   list_spliced          a parameter list with the bytes `from` up to `to` exchanged
 --   slice_spliced         the same in a slice of a record, with its new flags and size
-use Rattle.std.specs.Prelude.{Bool, true, false, ◌&&◌, ◌||◌, not, List, [], ◌∷◌, ◌++◌, ℕ, zero, suc, ◌+◌, ◌-◌, length, take, drop, eqb, ltb}
+use Rattle.std.specs.Prelude.{Bool, true, ◌&&◌, ◌||◌, not, List, [], ◌∷◌, ◌++◌, ℕ, zero, suc, ◌+◌, ◌-◌, length, take, drop, eqb, ltb}
 use Rattle.std.proofs.Math.Option.{Option, none, some}
 use Rattle.encoding.specs.Result.{Res, ok, bad, pick, same_bytes}
 use Rattle.encoding.specs.Number.{le_bytes, declared}

@@ -6,36 +6,36 @@
 --   first_there                          the first known type is a top
 --   sound_of                             new bytes are one value of the member's type
 --   Carried, carried, edited_by, carried_conforms, carried_accepted    the result follows the rules, with the edited pieces
-use Rattle.std.specs.Prelude.{◌≡◌, Bool, not, ◌&&◌, ◌⊎◌, length, ltb}
+use Rattle.std.specs.Prelude.{◌≡◌, Bool, not, ◌&&◌, length, ltb}
 use Rattle.std.proofs.Math.Path.{refl, ap}
-use Rattle.std.proofs.Common.{sym, ◌∙◌, subst, true≢false, inl, inr, arith}
+use Rattle.std.proofs.Common.{sym, ◌∙◌, subst, true≢false, arith}
 use Rattle.std.proofs.Math.Bool.{true, false}
 use Rattle.std.proofs.Math.Option.{Option, none, some}
 use mathlib.Core.List.{List, [], ◌∷◌}
-use Prim.Native.Nat.{ℕ, zero, suc, ◌≤◌, ◌<◌}
+use Prim.Native.Nat.{ℕ, zero, suc, ◌≤◌}
 use Rattle.std.proofs.Math.Dec.{leb}
-use borrow.Author.Tests.{leb-true, leb-false, le-leb, lt-leb, ltb-true, ltb-false, le-ltb, not-false}
-use Rattle.encoding.specs.Result.{Res, ok, bad, pick, first_of}
-use Rattle.encoding.specs.ResultLaws.{first_of_ok, both_true}
-use Rattle.encoding.specs.Number.{Bytes, Short}
+use borrow.Author.Tests.{leb-true, le-leb, ltb-false, le-ltb, not-false}
+use Rattle.encoding.specs.Result.{ok, pick, first_of}
+use Rattle.encoding.proofs.ResultLaws.{first_of_ok, both_true}
+use Rattle.encoding.specs.Number.{Bytes}
 use Rattle.encoding.specs.Grammar.{ListsRise}
-use Rattle.encoding.specs.ExactLaws.{exact_is}
-use Rattle.encoding.specs.ListLaws.{member_rises}
+use Rattle.encoding.proofs.ExactLaws.{exact_is}
+use Rattle.encoding.proofs.ListLaws.{member_rises}
 use Rattle.encoding.specs.Value.{exact}
-use Rattle.encoding.specs.Table.{fine, faults, Member, member_ty, trees, name_of, chain, named}
-use Rattle.encoding.specs.RuleLaws.{named_ok}
+use Rattle.encoding.specs.Table.{fine, faults, Member, name_of, chain}
+use Rattle.encoding.proofs.RuleLaws.{named_ok}
 use Rattle.encoding.specs.Slice.{Format, compact, sliced, is_sliced, Slice, known, passed}
-use Rattle.encoding.specs.Message.{Pieces, list, exception, class, v11, Read, encode, encapsulate, no_top, limit, rules, Row, rows, or_zero, first_in, first_known}
+use Rattle.encoding.specs.Message.{Pieces, list, exception, class, v11, encode, encapsulate, no_top, limit, rules, Row, rows, or_zero, first_in, first_known}
 use Rattle.encoding.specs.Write.{Out, out, stop, next, stopped_first, bounded}
 use Rattle.encoding.specs.Conform.{Slices, Conform}
 use Rattle.laws.specs.Demands.{read_as, Follows}
-use Rattle.laws.specs.TableExact.{sound}
-use Rattle.laws.specs.MessageExact.{exact_message, rules_written}
-use Rattle.laws.specs.PlanRules.{record_there}
-use Rattle.edit.specs.Change.{Target, target, piece_for, edit, lists, change_form, changed_at, changed_as, changed, changing}
-use Rattle.edit.specs.TargetLaws.{Aim, target_aim}
-use Rattle.edit.specs.PieceLaws.{Sound}
-use Rattle.edit.specs.EditLaws.{conform_edit}
+use Rattle.laws.proofs.TableExact.{sound}
+use Rattle.laws.proofs.MessageExact.{exact_message, rules_written}
+use Rattle.laws.proofs.PlanRules.{record_there}
+use Rattle.edit.specs.Change.{Target, target, piece_for, edit, lists, change_form, changed_at, changed_as, changed}
+use Rattle.edit.proofs.TargetLaws.{Aim, target_aim}
+use Rattle.edit.proofs.PieceLaws.{Sound}
+use Rattle.edit.proofs.EditLaws.{conform_edit}
 
 -- an answer is no refusal
 pub out≢stop : {A : Type 0} {o : Out A} {a : A} {n p : ℕ} → o ≡ out a → o ≡ stop n p → ⊥

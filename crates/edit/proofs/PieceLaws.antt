@@ -7,21 +7,20 @@
 --   edit_undone      a piece put where none was is taken out again
 --   skips_kept       the optionals skipped are as many
 use Rattle.std.proofs.Math.Path.{◌≡◌, refl, sym, ap}
-use Rattle.std.proofs.Common.{◌∙◌, subst, true≢false}
+use Rattle.std.proofs.Common.{◌∙◌, subst}
 use Rattle.std.specs.Prelude.{Bool, not, ℕ, suc, ◌+◌, ◌≤◌, ◌<◌, length}
 use Rattle.std.proofs.Math.Bool.{true, false}
-use Rattle.std.proofs.lemmas.Bool.{false≢true}
 use Rattle.std.proofs.Math.Option.{Option, none, some}
 use mathlib.Core.List.{List, [], ◌∷◌}
 use native.Mathlib.Omega.{arith}
 use Rattle.std.proofs.Math.Dec.{eqb, ltb}
-use borrow.Author.Tests.{eqb-true, eqb-false, eq-eqb, ne_eqb, ltb-true, ltb-false, lt-ltb, le-ltb}
+use borrow.Author.Tests.{eqb-true, eqb-false, eq-eqb, ne_eqb, ltb-true, ltb-false, le-ltb}
 use Rattle.encoding.specs.Result.{pick}
-use Rattle.encoding.specs.ResultLaws.{some≢none}
+use Rattle.encoding.proofs.ResultLaws.{some≢none}
 use Rattle.encoding.specs.Number.{Short}
 use Rattle.encoding.specs.Types.{Form, Bits, form_of}
 use Rattle.encoding.specs.Grammar.{IsValue}
-use Rattle.encoding.specs.OptionalFormLaws.{form_has}
+use Rattle.encoding.proofs.OptionalFormLaws.{form_has}
 use Rattle.encoding.specs.Table.{Member, lookup}
 use Rattle.encoding.specs.Optional.{Piece, required, optional, skipped, is_skipped}
 use Rattle.encoding.specs.Message.{skipped_pieces}

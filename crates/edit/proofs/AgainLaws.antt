@@ -13,17 +13,17 @@ use Rattle.std.proofs.lemmas.Bool.{false≢true}
 use Rattle.std.proofs.Math.Logic.{inl, inr, ⊎_elim}
 use Rattle.std.proofs.Math.Option.{Option, none, some}
 use mathlib.Core.List.{List, [], ◌∷◌, ◌++◌, map}
-use Prim.Native.Nat.{ℕ, zero, suc, ◌≤◌, ◌<◌}
+use Prim.Native.Nat.{ℕ, zero, suc, ◌≤◌}
 use Rattle.std.proofs.Math.Dec.{eqb}
-use borrow.Author.Tests.{eqb-true, eqb-false, eq-eqb, leb-true, le-leb, lt-leb, ltb-true, ltb-false, le-ltb}
+use borrow.Author.Tests.{eqb-true, eq-eqb, leb-true, le-leb, ltb-true, ltb-false}
 use Rattle.encoding.specs.Result.{Res, ok, bad, pick, first_of}
-use Rattle.encoding.specs.ResultLaws.{some≢none}
+use Rattle.encoding.proofs.ResultLaws.{some≢none}
 use Rattle.encoding.specs.Number.{Bytes}
 use Rattle.encoding.specs.Types.{Form, form_of}
-use Rattle.encoding.specs.OptionalFormLaws.{is_form}
-use Rattle.encoding.specs.Grammar.{ListsRise, IsValue}
-use Rattle.encoding.specs.ExactLaws.{exact_is, is_exact}
-use Rattle.encoding.specs.ListLaws.{member_rises}
+use Rattle.encoding.proofs.OptionalFormLaws.{is_form}
+use Rattle.encoding.specs.Grammar.{IsValue}
+use Rattle.encoding.proofs.ExactLaws.{is_exact}
+use Rattle.encoding.proofs.ListLaws.{member_rises}
 use Rattle.encoding.specs.Value.{exact}
 use Rattle.encoding.specs.Table.{fine, faults, mark, Member, member_ty, trees, lookup, name_of, chain}
 use Rattle.encoding.specs.Table
@@ -32,22 +32,22 @@ use Rattle.encoding.specs.Slice.{Format, compact, sliced, is_sliced, Slice, know
 use Rattle.encoding.specs.Message.{Pieces, list, exception, class, Encoding, v10, v11, Read, encode, encapsulate, no_top, limit, rules, Row, rows, first_known}
 use Rattle.encoding.specs.Write.{Out, out, stop, next, stopped_first, bounded, part_of, output, writing_of, writing_numbers, plan, Slot}
 use Rattle.encoding.specs.Conform.{Level, Conform}
-use Rattle.laws.specs.Demands.{read_as, All, end, more, In, here, there, RowExact, Follows}
-use Rattle.laws.specs.TableExact.{sound}
-use Rattle.laws.specs.MessageExact.{exact_message, exact_rows, rules_written}
-use Rattle.laws.specs.GatherLaws.{part_length}
-use Rattle.laws.specs.Refusals.{refusal_numbered, rules_refused}
-use Rattle.laws.specs.PlanRules.{Owner, Fit, plan_fit, plan_owner, all_with, all_any}
-use Rattle.laws.specs.RowsExact.{all_map}
-use Rattle.laws.specs.RowsRight.{rows_right, chosen_among}
+use Rattle.laws.specs.Demands.{read_as, All, end, more, In, here, there, Follows}
+use Rattle.laws.proofs.TableExact.{sound}
+use Rattle.laws.proofs.MessageExact.{exact_message, exact_rows}
+use Rattle.laws.proofs.GatherLaws.{part_length}
+use Rattle.laws.proofs.Refusals.{refusal_numbered, rules_refused}
+use Rattle.laws.proofs.PlanRules.{Fit, plan_fit, plan_owner, all_with}
+use Rattle.laws.proofs.RowsExact.{all_map}
+use Rattle.laws.proofs.RowsRight.{rows_right, chosen_among}
 use Rattle.edit.specs.Change.{Target, target, piece_for, edit_pieces, edit_slice, edit, lists, change_form, changed_at, changed_as, changed, changing}
-use Rattle.edit.specs.ChangeDemands.{has_tag, those, Change, Has, SetAgain, SetUndone, ChainOptional, OldChange, Chosen, RefusedAt, the_reader's, not_optional, of_old, not_there, compact_record, over_limit, not_of_type, too_long_lem, ChangeRefused, Doable, ChangeMade, ChangeTooLong, ChangeTold, ChangeFilled}
-use Rattle.edit.specs.TargetLaws.{Aim, target_aim, aim_target, aim_chain, chain_found, not_of_chain}
-use Rattle.edit.specs.PieceLaws.{none_tagged, edit_there, edit_undone}
-use Rattle.edit.specs.EditLaws.{Apart, edit_apart, apart_slices, by_name, list_owner, first_kept}
-use Rattle.edit.specs.HeldLaws.{Held, row_held, Of, piece_held, some_of, held_mine}
-use Rattle.edit.specs.MadeLaws.{out≢stop, Made, result_of, made_step, bounded_ok, bounded_step, Doing, form_ok, form_step, first_there, Carried, carried, edited_by, carried_accepted}
-use Rattle.edit.specs.HereLaws.{owner_pieces, owner_owned, tagged_held, held_here, rows_held, lists_tagged, carried_differs}
+use Rattle.edit.specs.ChangeDemands.{has_tag, those, Has, SetAgain, SetUndone, OldChange, Chosen, RefusedAt, the_reader's, not_optional, of_old, not_there, compact_record, over_limit, not_of_type, too_long_lem, ChangeRefused, Doable, ChangeMade, ChangeTooLong, ChangeTold, ChangeFilled}
+use Rattle.edit.proofs.TargetLaws.{Aim, target_aim, aim_target, aim_chain, chain_found}
+use Rattle.edit.proofs.PieceLaws.{none_tagged, edit_there, edit_undone}
+use Rattle.edit.proofs.EditLaws.{Apart, edit_apart, apart_slices, by_name, first_kept}
+use Rattle.edit.proofs.HeldLaws.{Held, row_held, Of, piece_held, some_of, held_mine}
+use Rattle.edit.proofs.MadeLaws.{out≢stop, result_of, made_step, bounded_ok, bounded_step, Doing, form_step, first_there, carried, edited_by, carried_accepted}
+use Rattle.edit.proofs.HereLaws.{owner_pieces, owner_owned, tagged_held, held_here, rows_held, lists_tagged, carried_differs}
 
 -- ---- rows of a member
 
@@ -153,6 +153,7 @@ all_in [] = end
 all_in (a ∷ l) = more here (all_map (λ _ i. there i) (all_in l))
 
 pub all_at : {A : Type 0} {P : A → Type 0} {l : List A} {a : A} → All P l → In a l → P a
+all_at {A = A} {P = P} {a = a} end x3 = elim x3 [ ]
 all_at (more p L) here = p
 all_at (more p L) (there i) = all_at L i
 
@@ -197,6 +198,7 @@ in_map g here = here
 in_map g (there i) = there (in_map g i)
 
 only_one : {A : Type 0} {a b : A} → In a (b ∷ []) → a ≡ b
+only_one {A = A} {a = a} {b = b} (there x3) = elim x3 [ ]
 only_one here = refl
 
 -- ---- setting the bytes that are there

@@ -7,28 +7,28 @@
 --   slices_spliced          a record with one optional of a slice exchanged
 use Rattle.std.specs.Prelude.{◌≡◌, Bool}
 use Rattle.std.proofs.Math.Path.{refl, sym, ap}
-use Rattle.std.proofs.Common.{ap₂, ◌∙◌, subst, arith}
+use Rattle.std.proofs.Common.{ap₂, ◌∙◌, arith}
 use Rattle.std.proofs.Math.Bool.{true, false}
-use Rattle.std.proofs.Math.Option.{Option, none, some}
-use mathlib.Core.List.{List, [], ◌∷◌, ◌++◌, append_assoc, append-nil}
+use Rattle.std.proofs.Math.Option.{Option, some}
+use mathlib.Core.List.{List, [], ◌∷◌, ◌++◌, append_assoc}
 use Prim.Native.Nat.{ℕ, zero, suc, ◌+◌, ◌-◌, ◌<◌}
 use Rattle.std.proofs.Math.ListN.{length, drop, length-append}
 use Rattle.std.proofs.Math.Seq.{drop_at}
-use Rattle.encoding.specs.Result.{Res, ok, pick, concat, same_bytes, chunk}
-use Rattle.encoding.specs.ResultLaws.{same_bytes_ok, same_bytes_same, item_step, bind_written, chunk_written}
+use Rattle.encoding.specs.Result.{ok, pick, concat, same_bytes, chunk}
+use Rattle.encoding.proofs.ResultLaws.{same_bytes_ok, same_bytes_same, item_step, bind_written, chunk_written}
 use Rattle.encoding.specs.Number.{Short, le_bytes, size, size_bytes, declared, string_bytes}
-use Rattle.encoding.specs.NumberLaws.{length_le_bytes, size_written, declared_written}
+use Rattle.encoding.proofs.NumberLaws.{length_le_bytes, size_written, declared_written}
 use Rattle.encoding.specs.Types.{vsize}
 use Rattle.encoding.specs.Optional.{Piece, extent, piece_bytes}
-use Rattle.encoding.specs.Slice.{Format, sliced, Slice, known, Stand, first, later, due, is_sliced, has_optionals, any_optional, id_of, data_bytes, flag_bits, slice_front, is_last}
+use Rattle.encoding.specs.Slice.{sliced, Slice, known, Stand, first, later, due, has_optionals, any_optional, id_of, data_bytes, flag_bits, slice_front, is_last}
 use Rattle.encoding.specs.Message.{v11, encapsulate, slices_bytes}
-use Rattle.encoding.specs.MessageLaws.{length_encapsulate}
-use Rattle.laws.specs.Demands.{All, end, more}
+use Rattle.encoding.proofs.MessageLaws.{length_encapsulate}
+use Rattle.laws.specs.Demands.{All, more}
 use Rattle.edit.specs.Change.{edit_pieces}
-use Rattle.edit.specs.EditLaws.{Unlike}
-use Rattle.edit.specs.Place.{Gap, gap, cut_end, has_marker, flagged, Seat, size_read, id_read, seek_slice, list_spliced, slice_spliced}
-use Rattle.edit.specs.GapLaws.{before, here_at, behind, cut_spelt, cut_edit, concat_append, cut_of}
-use Rattle.edit.specs.SpliceLaws.{slice_segments, list_segments, fresh_bytes, is_setting, mark, bytes_cut, bytes_now, DataCut}
+use Rattle.edit.proofs.EditLaws.{Unlike}
+use Rattle.edit.specs.Place.{Gap, gap, cut_end, has_marker, flagged, size_read, id_read, seek_slice, list_spliced, slice_spliced}
+use Rattle.edit.proofs.GapLaws.{before, here_at, behind, cut_of}
+use Rattle.edit.proofs.SpliceLaws.{slice_segments, list_segments, fresh_bytes, is_setting, mark, bytes_cut, bytes_now, DataCut}
 
 -- ---- slices one after another
 

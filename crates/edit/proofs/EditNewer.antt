@@ -4,44 +4,43 @@
 --   pieces_lose, slices_lose, edit_lose         an edit, and what an old table makes of pieces, in either order
 --   Twin, twin_of, twin_only                    the new table's member that matches the hub's
 --   changed_alike, changed_newer, changed_reading   the promises
-use Rattle.std.specs.Prelude.{◌≡◌, Bool, not, ◌⊎◌, ℕ, suc, ◌≤◌, ◌<◌, length, eqb, leb, ltb}
+use Rattle.std.specs.Prelude.{◌≡◌, Bool, ℕ, ◌≤◌, ◌<◌, length, eqb, ltb}
 use Rattle.std.proofs.Math.Path.{refl, sym, ap, ap₂, subst}
-use Rattle.std.proofs.Common.{◌∙◌, subst₂, true≢false, inl, inr, ⊎_elim, arith, le-leb}
+use Rattle.std.proofs.Common.{◌∙◌, subst₂, true≢false, ⊎_elim, arith, le-leb}
 use Rattle.std.proofs.Math.Bool.{true, false}
 use Rattle.std.proofs.Math.Option.{Option, none, some}
 use mathlib.Core.List.{List, [], ◌∷◌, ◌++◌, map}
 use Rattle.encoding.specs.Result.{Res, ok, bad, pick, same_bytes}
-use Rattle.encoding.specs.ResultLaws.{ok≢bad, some≢none, same_bytes_ok}
-use Rattle.encoding.specs.Number.{Bytes, Short}
-use Rattle.encoding.specs.Types.{Ty, Form, form_of}
+use Rattle.encoding.proofs.ResultLaws.{ok≢bad, some≢none, same_bytes_ok}
+use Rattle.encoding.specs.Types.{Ty, form_of}
 use Rattle.encoding.specs.Value.{exact}
 use Rattle.encoding.specs.Table.{types, kind, is_record, owns, mark, fine, faults, Member, lookup, name_of, named, chain}
 use Rattle.encoding.specs.Table
-use Rattle.encoding.specs.RuleLaws.{owns_record, named_ok, named_at, required_own, optional_own}
+use Rattle.encoding.proofs.RuleLaws.{owns_record, named_ok, named_at, required_own, optional_own}
 use Rattle.encoding.specs.Optional.{Piece, required, optional, skipped}
-use Rattle.encoding.specs.Slice.{Format, sliced, Slice, known, passed}
-use Rattle.encoding.specs.Message.{Pieces, list, exception, class, v11, Read, encode, encapsulate, limit, rules, Row, rows, first_in, or_zero, first_known, Answer, answer, accepted, within, room, reading}
-use Rattle.encoding.specs.MessageLaws.{top_there, length_encapsulate, rules_ok}
-use Rattle.encoding.specs.Write.{Out, out, stop, next, bounded}
+use Rattle.encoding.specs.Slice.{Format, Slice, known, passed}
+use Rattle.encoding.specs.Message.{Pieces, list, exception, class, v11, Read, encode, encapsulate, rules, Row, rows, first_in, or_zero, first_known, Answer, answer, accepted, within, room, reading}
+use Rattle.encoding.proofs.MessageLaws.{top_there, length_encapsulate, rules_ok}
+use Rattle.encoding.specs.Write.{Out, out, next, bounded}
 use Rattle.encoding.specs.Conform.{Follow, Slices, Conform}
 use Rattle.encoding.specs.Extends.{OwnersMatch, Extends, TopsMatch, as_records, as_lists, SameRecord, SameOwner, as_tops, MembersMatch, both_required, both_optional, Counterpart, type_of}
 use Rattle.encoding.specs.Extends
 use Rattle.laws.specs.Demands.{read_as, Follows, In, here, there, Kept, ended, kept, lost, Newer, Foreign}
-use Rattle.laws.specs.TableExact.{valid, sound}
-use Rattle.laws.specs.MessageExact.{exact_message, rules_written}
+use Rattle.laws.proofs.TableExact.{valid}
+use Rattle.laws.proofs.MessageExact.{exact_message, rules_written}
 use Rattle.laws.specs.Lose.{keep_or, lose_piece, lose_known, lose_slice, lose}
-use Rattle.laws.specs.LoseLaws.{lose_bytes}
-use Rattle.laws.specs.OptionalNewer.{lookup_key, optionals_match}
-use Rattle.laws.specs.RecordNewer.{record_list, new_record}
-use Rattle.laws.specs.MessageNewer.{conform_newer, rows_newer, newer_refused}
-use Rattle.laws.specs.PlanRules.{Owner, list_chain}
-use Rattle.edit.specs.Change.{Target, target, piece_for, put_piece, among, edit_pieces, edit_slice, edit, lists, change_form, changed, changing}
-use Rattle.edit.specs.ChangeDemands.{Fresh, Has, ChangeOf, DiffersIn, StillRead, StillReadBy, ChangedNewer, ChangedAlike, StillAnswered, ChangedReading}
-use Rattle.edit.specs.TargetLaws.{Aim, in_cases, one_row, aim_target}
-use Rattle.edit.specs.EditLaws.{chain_names, apart_slices, by_name, list_owner}
-use Rattle.edit.specs.MadeLaws.{out≢stop, result_of, made_step, bounded_ok, bounded_step, Doing, form_step, first_there, Carried, carried}
-use Rattle.edit.specs.HereLaws.{still_read}
-use Rattle.edit.specs.AgainLaws.{lists_has, has_lists, all_at}
+use Rattle.laws.proofs.LoseLaws.{lose_bytes}
+use Rattle.laws.proofs.OptionalNewer.{lookup_key, optionals_match}
+use Rattle.laws.proofs.RecordNewer.{record_list, new_record}
+use Rattle.laws.proofs.MessageNewer.{conform_newer, rows_newer, newer_refused}
+use Rattle.laws.proofs.PlanRules.{Owner, list_chain}
+use Rattle.edit.specs.Change.{Target, target, piece_for, put_piece, among, edit_pieces, edit_slice, edit, change_form, changed, changing}
+use Rattle.edit.specs.ChangeDemands.{DiffersIn, ChangedNewer, ChangedAlike, ChangedReading}
+use Rattle.edit.proofs.TargetLaws.{Aim, in_cases, one_row, aim_target}
+use Rattle.edit.proofs.EditLaws.{chain_names, apart_slices, by_name, list_owner}
+use Rattle.edit.proofs.MadeLaws.{out≢stop, result_of, made_step, bounded_ok, bounded_step, Doing, form_step, first_there, Carried, carried}
+use Rattle.edit.proofs.HereLaws.{still_read}
+use Rattle.edit.proofs.AgainLaws.{lists_has, has_lists, all_at}
 
 -- ---- an edit of pieces, and what an old owner makes of them
 
@@ -128,6 +127,7 @@ in_middle (b ∷ l) a r = there (in_middle l a r)
 
 lose_in : (old nm : List ℕ) (q : List Piece) (ss : List Slice) → In (known nm q) (map (lose_slice old) ss) → (ps : List Piece) × In (known nm ps) ss
 unfolding lose_slice lose_known
+lose_in old nm q [] j = elim j [ ]
 lose_in old nm q (known i ps ∷ ss) j = ⊎_elim (λ e. first (named old i) e) (λ j. let R = lose_in old nm q ss j in (R.0, there R.1)) (in_cases j)
   where
     first : (w : Option ℕ) → known nm q ≡ lose_known old i ps w → (ps' : List Piece) × In (known nm ps') (known i ps ∷ ss)
@@ -140,6 +140,8 @@ some_one e = cc
 
 -- the row of a known slice is in the chain
 follow_in : (g : Format) (T : List ℕ) (nm : List ℕ) (ps : List Piece) (ts : List ℕ) (ss : List Slice) → Follow T (v11 g) ts ss → In (known nm ps) ss → (t : ℕ) × In t ts × (nm ≡ name_of T t)
+follow_in g T nm ps [] [] F j = elim j [ ]
+follow_in g T nm ps (t ∷ ts) [] F j = elim F [ ]
 follow_in g T nm ps [] (s ∷ ss) F j = absurd F
 follow_in g T nm ps (t ∷ ts) (known i qs ∷ ss) F j =
     ⊎_elim (λ e. let s : nm ≡ i = cc in (t, here, s ∙ F.0)) (λ j. let R = follow_in g T nm ps ts ss F.2 j in (R.0, there R.1, R.2)) (in_cases j)
@@ -148,6 +150,7 @@ follow_in g T nm ps (t ∷ ts) (passed b i z ∷ ss) F j = absurd F
 known_in : (T : List ℕ) → faults T ≡ fine → (top : ℕ) (g : Format) (nm : List ℕ) (ps : List Piece) (ss : List Slice) → Slices T top (v11 g) ss → In (known nm ps) ss
     → (t : ℕ) × In t (chain T (first_in T ss)) × (named T nm ≡ some t)
 unfolding first_in or_zero
+known_in T right top g nm ps [] C j = elim C [ ]
 known_in T right top g nm ps (known i qs ∷ ss) C j =
     let N = named_ok T i C.row C.known in
     let R = follow_in g T nm ps (chain T C.row) (known i qs ∷ ss) C.follow j in
@@ -315,6 +318,7 @@ module _ (old new : List ℕ) (X : Extends old new) (top top' : ℕ) (f : Format
 -- the member that is kept has a row that matches
 module _ (old new : List ℕ) (top top' : ℕ) where
   kept_has : {rs rs' : List Row} → Kept old new top top' rs rs' → (r : Row) → In r rs' → (q : Row) × In q rs × Counterpart old new top top' r.member q.member
+  kept_has ended r i = elim i [ ]
   kept_has (kept {r = a} {r' = b} C p l K) r i =
       ⊎_elim (λ e. (a, here, subst (λ (z : Row). Counterpart old new top top' z.member a.member) (sym e) C)) (λ j. let R = kept_has K r j in (R.0, there R.1, R.2)) (in_cases i)
   kept_has (lost C K) r i = let R = kept_has K r i in (R.0, there R.1, R.2)

@@ -14,20 +14,20 @@ use mathlib.Core.List.{List, [], ◌∷◌}
 use Prim.Native.Nat.{ℕ, zero, suc, ◌+◌, ◌≤◌, ◌<◌}
 use native.Mathlib.Omega.{arith}
 use Rattle.std.proofs.Math.Dec.{eqb, leb, ltb}
-use borrow.Author.Tests.{eqb-true, eqb-false, eq-eqb, ne_eqb, le-leb, leb-true, ltb-true, lt-ltb}
+use borrow.Author.Tests.{eqb-true, eqb-false, le-leb, leb-true, ltb-true, lt-ltb}
 use Rattle.encoding.specs.Result.{pick}
-use Rattle.encoding.specs.ResultLaws.{some≢none, both_true}
+use Rattle.encoding.proofs.ResultLaws.{some≢none}
 use Rattle.encoding.specs.Number.{Short}
 use Rattle.encoding.specs.Types.{Ty}
 use Rattle.encoding.specs.Table.{fine, faults, field, mark, tag, members, takes, any, Member, member_ty, trees, range, lookup, chain, own_rows, optionals_in}
 use Rattle.encoding.specs.Table
-use Rattle.encoding.specs.RuleLaws.{Own, optional_own, rows_apart, rows_there, mark_known}
+use Rattle.encoding.proofs.RuleLaws.{optional_own, rows_apart, rows_there, mark_known}
 use Rattle.encoding.specs.Message.{no_top}
 use Rattle.encoding.specs.View.{of_chain}
 use Rattle.encoding.specs.Write.{optional_row, slot}
 use Rattle.laws.specs.Demands.{All, end, more, In, here, there}
-use Rattle.laws.specs.OptionalNewer.{lookup_key}
-use Rattle.laws.specs.PlanRules.{Owner, Fit, optional_fit, chain_owners}
+use Rattle.laws.proofs.OptionalNewer.{lookup_key}
+use Rattle.laws.proofs.PlanRules.{Owner, optional_fit, chain_owners}
 use Rattle.edit.specs.Change.{Target, or_further, target_in, target}
 use Rattle.edit.specs.ChangeDemands.{ChainOptional, NotOfChain}
 
@@ -105,6 +105,7 @@ module _ (T : List ℕ) (right : faults T ≡ fine) where
   target_in_found : (ts : List ℕ) → All (Owner T) ts → (o k : ℕ) (d : Member) → Owner T o → In o ts → lookup k (Table.optional_members T o) ≡ some d
       → target_in T d.row ts ≡ some (record { owner = o; member = d })
   unfolding target_in or_further slot
+  target_in_found [] _ o k d O i f = elim i [ ]
   target_in_found (t ∷ ts) (more U L) o k d O i f = go (optional_row d.row 0 (Table.optional_members T t)) refl i (λ i. target_in_found ts L o k d O i f)
     where
       go : (w : Option Member) → optional_row d.row 0 (Table.optional_members T t) ≡ w → In o (t ∷ ts) → (In o ts → target_in T d.row ts ≡ some (record { owner = o; member = d }))

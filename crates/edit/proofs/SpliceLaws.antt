@@ -6,18 +6,17 @@
 --   gap_empty, bytes_cut, bytes_now   the gap is empty exactly if the tag is not there; the bytes before and after an edit
 use Rattle.std.specs.Prelude.{◌≡◌, Bool, false, ◌&&◌, ◌||◌, not, eqb, ltb}
 use Rattle.std.proofs.Math.Path.{refl, sym, ap, ap₂}
-use Rattle.std.proofs.Common.{◌∙◌, subst, true≢false, eqb-true, eq-eqb, ne_eqb}
+use Rattle.std.proofs.Common.{◌∙◌, true≢false, eqb-true, eq-eqb, ne_eqb}
 use Rattle.std.proofs.Math.Bool.{true}
-use Rattle.std.proofs.lemmas.Bool.{false≢true, eqb-false}
+use Rattle.std.proofs.lemmas.Bool.{eqb-false}
 use Rattle.std.proofs.Math.Option.{Option, none, some}
 use mathlib.Core.List.{List, [], ◌∷◌, ◌++◌, append_assoc, append-nil}
-use Prim.Native.Nat.{ℕ, zero, suc, ◌+◌, ◌-◌, ◌≤◌, ◌<◌}
+use Prim.Native.Nat.{ℕ, suc, ◌+◌, ◌-◌}
 use native.Mathlib.Omega.{arith}
 use Rattle.std.proofs.Math.ListN.{length, take, drop, length-append}
 use Rattle.std.proofs.Math.Seq.{take_at, drop_at}
 use Rattle.encoding.specs.Result.{pick, concat}
 use Rattle.encoding.specs.Number.{le_bytes}
-use Rattle.encoding.specs.NumberLaws.{length_le_bytes}
 use Rattle.encoding.specs.Types.{bits_of}
 use Rattle.encoding.specs.Table.{Member}
 use Rattle.encoding.specs.Optional.{Piece, required, optional, skipped, header_bytes, length_bytes, front_bytes, content_bytes, piece_bytes, is_optional}
@@ -25,7 +24,7 @@ use Rattle.encoding.specs.Slice.{known, any_optional, data_bytes}
 use Rattle.encoding.specs.Conform.{Level}
 use Rattle.edit.specs.Change.{put_piece, edit_pieces}
 use Rattle.edit.specs.Place.{Gap, gap, flagged, has_marker, cut_end, size_after, list_spliced, slice_spliced}
-use Rattle.edit.specs.GapLaws.{before, here_at, behind, cut_spelt, cut_edit, cut_of, concat_append, header_some}
+use Rattle.edit.proofs.GapLaws.{before, here_at, behind, cut_spelt, cut_edit, cut_of, concat_append, header_some}
 
 -- ---- segments
 

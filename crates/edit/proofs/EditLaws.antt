@@ -6,32 +6,32 @@
 --   slices_edit      the edited slices conform
 --   conform_edit     so does the edited message; same_edit: all else stays
 --   first_kept, optionals_kept, passed_kept     the first known type and the skips stay
-use Rattle.std.specs.Prelude.{◌≡◌, Bool, ◌⊎◌, length}
+use Rattle.std.specs.Prelude.{◌≡◌, Bool}
 use Rattle.std.proofs.Math.Path.{refl, sym, ap, ap₂, subst}
-use Rattle.std.proofs.Common.{◌∙◌, subst₂, true≢false, inl, inr, arith}
+use Rattle.std.proofs.Common.{◌∙◌, subst₂, arith}
 use Rattle.std.proofs.Math.Bool.{true, false}
 use Rattle.std.proofs.Math.Logic.{⊎_elim}
-use Rattle.std.proofs.Math.Option.{Option, none, some}
+use Rattle.std.proofs.Math.Option.{Option, some}
 use mathlib.Core.List.{List, [], ◌∷◌, ◌++◌, map}
-use Prim.Native.Nat.{ℕ, suc, ◌+◌, ◌≤◌, ◌<◌}
+use Prim.Native.Nat.{ℕ, suc, ◌+◌, ◌<◌}
 use Rattle.encoding.specs.Result.{pick, same_bytes}
-use Rattle.encoding.specs.ResultLaws.{some≢none, same_bytes_ok, same_bytes_same}
+use Rattle.encoding.proofs.ResultLaws.{some≢none, same_bytes_ok, same_bytes_same}
 use Rattle.encoding.specs.Table.{types, fine, faults, kind, is_record, Member, name_of, named, chain}
 use Rattle.encoding.specs.Table
-use Rattle.encoding.specs.RuleLaws.{named_ok, named_at}
+use Rattle.encoding.proofs.RuleLaws.{named_ok, named_at}
 use Rattle.encoding.specs.Optional.{Piece}
 use Rattle.encoding.specs.Slice.{Format, Slice, known, passed, id_of}
-use Rattle.encoding.specs.Message.{Pieces, list, exception, class, v11, no_top, or_zero, first_in, first_known, skipped_pieces, skipped_in, passed_in, optionals_skipped, slices_skipped}
-use Rattle.encoding.specs.Conform.{Owned, Follow, Begins, Slices, Conform}
+use Rattle.encoding.specs.Message.{Pieces, list, exception, class, v11, or_zero, first_in, first_known, skipped_pieces, skipped_in, passed_in, optionals_skipped, slices_skipped}
+use Rattle.encoding.specs.Conform.{Owned, Follow, Slices, Conform}
 use Rattle.laws.specs.Demands.{All, end, more, In, here, there}
-use Rattle.laws.specs.RowsExact.{all_append, all_map}
-use Rattle.laws.specs.PlanLaws.{Pairs, alone, before}
-use Rattle.laws.specs.PlanRules.{Owner, Rung, Falls, record_there, list_chain, chain_rungs, chain_falls, all_with}
+use Rattle.laws.proofs.RowsExact.{all_map}
+use Rattle.laws.proofs.PlanLaws.{Pairs, before}
+use Rattle.laws.proofs.PlanRules.{Rung, Falls, record_there, list_chain, chain_rungs, chain_falls}
 use Rattle.edit.specs.Change.{Target, piece_for, edit_pieces, edit_slice, edit}
 use Rattle.edit.specs.ChangeDemands.{SamePieces, SameSlices, Same, a_list, an_exception, a_class}
 use Rattle.edit.specs.ChangeDemands
-use Rattle.edit.specs.TargetLaws.{Aim, in_cases}
-use Rattle.edit.specs.PieceLaws.{Sound, level_edit, same_pieces, skips_kept}
+use Rattle.edit.proofs.TargetLaws.{Aim, in_cases}
+use Rattle.edit.proofs.PieceLaws.{Sound, level_edit, same_pieces, skips_kept}
 
 -- ---- lists
 
@@ -116,6 +116,7 @@ module _ (T : List ℕ) (right : faults T ≡ fine) where
 
   apart_follow : (g : Format) (o : ℕ) → ByName o → (ts : List ℕ) (ss : List Slice) → All ByName ts → Pairs Falls ts → In o ts → Follow T (v11 g) ts ss → Apart (Owned T o) (name_of T o) ss
   unfolding id_of
+  apart_follow g o n [] ss N B i F = elim i [ ]
   apart_follow g o n (t ∷ ts) [] N B i F = absurd F
   apart_follow g o n (t ∷ ts) (known id ps ∷ ss) (more e N) (before b B) i F = ⊎_elim first (λ j. later j (apart_follow g o n ts ss N B j F.2)) (in_cases i)
     where
@@ -131,6 +132,7 @@ module _ (T : List ℕ) (right : faults T ≡ fine) where
       }
 
       below : {l : List ℕ} → All (Falls t) l → In o l → o < t
+      below end x8 = elim x8 [ ]
       below (more h H) here = h
       below (more h H) (there j) = below H j
 
@@ -221,6 +223,7 @@ module _ (T : List ℕ) (right : faults T ≡ fine) (top : ℕ) (g : Format) (m 
       pick_out (chain_names T right C.row N.0 N.1) (subst (λ (z : Option ℕ). In x.owner (chain T (or_zero z))) C.known i)
     where
       pick_out : {l : List ℕ} → All (ByName T right) l → In x.owner l → named T nm ≡ some x.owner
+      pick_out end x7 = elim x7 [ ]
       pick_out (more e N) here = e
       pick_out (more e N) (there j) = pick_out N j
   by_name (passed b id z ∷ ss) C i = by_name ss C.1 i

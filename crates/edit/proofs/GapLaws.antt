@@ -8,26 +8,26 @@ use Rattle.std.specs.Prelude.{◌≡◌, Bool, false, ◌||◌, not, drop, eqb, 
 use Rattle.std.proofs.Math.Path.{refl, ap, subst}
 use Rattle.std.proofs.Common.{sym, ap₂, ◌∙◌, true≢false, arith, drop_at}
 use Rattle.std.proofs.Math.Bool.{true}
-use Rattle.std.proofs.Math.Option.{Option, none, some}
+use Rattle.std.proofs.Math.Option.{Option}
 use mathlib.Core.List.{List, [], ◌∷◌, ◌++◌, append_assoc, append-nil}
 use Prim.Native.Nat.{ℕ, zero, suc, ◌+◌, ◌*◌, ◌≤◌, ◌<◌}
 use Rattle.std.proofs.Math.ListN.{length, length-append}
 use borrow.Author.Tests.{eqb-true, eqb-false, eq-eqb, ne_eqb, ltb-true, ltb-false, lt-ltb, le-ltb}
-use Rattle.encoding.specs.Result.{Res, ok, pick, concat}
+use Rattle.encoding.specs.Result.{ok, pick, concat}
 use Rattle.encoding.specs.Number.{Short, size_bytes}
 use Rattle.encoding.specs.Types.{Ty, Form, Bits, bits, bits_of, form_of}
-use Rattle.encoding.specs.TypesLaws.{bits_below}
+use Rattle.encoding.proofs.TypesLaws.{bits_below}
 use Rattle.encoding.specs.Grammar.{IsValue, IsExtent, ListsRise}
-use Rattle.encoding.specs.ExactLaws.{extent_is}
-use Rattle.encoding.specs.OptionalFormLaws.{is_form}
-use Rattle.encoding.specs.OptionalLaws.{part_extent}
-use Rattle.encoding.specs.ListLaws.{MembersRise, found_rises, required_rise, optional_rise}
+use Rattle.encoding.proofs.ExactLaws.{extent_is}
+use Rattle.encoding.proofs.OptionalFormLaws.{is_form}
+use Rattle.encoding.proofs.OptionalLaws.{part_extent}
+use Rattle.encoding.proofs.ListLaws.{MembersRise, found_rises, required_rise, optional_rise}
 use Rattle.encoding.specs.Table.{fine, faults, Member, lookup}
 use Rattle.encoding.specs.Table
-use Rattle.encoding.specs.Optional.{Piece, required, optional, skipped, part, header_bytes, length_bytes, front_bytes, content_bytes, piece_bytes, is_optional, next_optional, requireds}
+use Rattle.encoding.specs.Optional.{Piece, required, optional, skipped, part, header_bytes, length_bytes, front_bytes, content_bytes, piece_bytes, is_optional, next_optional}
 use Rattle.encoding.specs.Slice.{any_optional}
 use Rattle.encoding.specs.Conform.{Known, Unknown, Level, Owned}
-use Rattle.laws.specs.OptionalExact.{part_written, unknown, optional_written, any_optional_append, Parts, level_parts}
+use Rattle.laws.proofs.OptionalExact.{part_written, unknown, optional_written, any_optional_append, Parts, level_parts}
 use Rattle.edit.specs.Change.{put_piece, among, edit_pieces}
 use Rattle.edit.specs.Place.{Gap, gap, closed, seek_at, seek_piece, seek_next, seek_tag, moved_by, after_required, gap_in}
 

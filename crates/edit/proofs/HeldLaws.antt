@@ -6,9 +6,9 @@
 --   some_of, lists_held                  a list names a member if some entry has it
 --   held_others, slices_others           of edited pieces: the entries of other members stay
 --   held_tagged, held_mine, held_apart, slices_mine     only the owner's piece with the tag has an entry of the member
-use Rattle.std.specs.Prelude.{◌≡◌, Bool, not, ◌||◌, ℕ, suc, ◌+◌, ◌≤◌, ◌<◌, ltb}
+use Rattle.std.specs.Prelude.{◌≡◌, Bool, not, ◌||◌, ℕ, ltb}
 use Rattle.std.proofs.Math.Path.{refl, sym, ap, ap₂}
-use Rattle.std.proofs.Common.{◌∙◌, subst, arith, eqb-true, eq-eqb, ne_eqb}
+use Rattle.std.proofs.Common.{◌∙◌, arith, eqb-true, eq-eqb, ne_eqb}
 use Rattle.std.proofs.Math.Bool.{true, false, true≢false}
 use Rattle.std.proofs.Math.Option.{Option, none, some}
 use mathlib.Core.List.{List, [], ◌∷◌, ◌++◌, map, append-nil, append_assoc}
@@ -16,23 +16,22 @@ use Rattle.std.proofs.Math.ListN.{length}
 use Rattle.std.proofs.Math.Dec.{eqb}
 use Rattle.std.proofs.lemmas.Bool.{eqb-false}
 use Rattle.encoding.specs.Result.{pick, same_bytes}
-use Rattle.encoding.specs.ResultLaws.{some≢none, same_bytes_ok}
+use Rattle.encoding.proofs.ResultLaws.{same_bytes_ok}
 use Rattle.encoding.specs.Types.{form_of}
 use Rattle.encoding.specs.Table.{types, fine, faults, kind, field, mark, tag, is_record, Member, lookup, name_of, named, chain}
 use Rattle.encoding.specs.Table
-use Rattle.encoding.specs.RuleLaws.{Own, required_own, optional_own, owns_record, rows_apart, named_ok}
+use Rattle.encoding.proofs.RuleLaws.{Own, required_own, optional_own, owns_record, rows_apart, named_ok}
 use Rattle.encoding.specs.Optional.{Piece, required, optional, skipped, content_bytes}
-use Rattle.encoding.specs.Slice.{Format, Slice, known, passed, id_of}
+use Rattle.encoding.specs.Slice.{Slice, known, passed, id_of}
 use Rattle.encoding.specs.Message.{Pieces, list, exception, class, Row, piece_member}
 use Rattle.encoding.specs.Write.{part_of}
-use Rattle.encoding.specs.Conform.{Owned}
 use Rattle.laws.specs.Demands.{All, end, more, RowOf, ListedOf, none_left, a_required, an_optional, a_skipped, ListedIn, a_known, a_passed, Listed, SameMembers, no_members, same_member}
 use Rattle.laws.specs.Demands
-use Rattle.laws.specs.OptionalNewer.{lookup_key}
-use Rattle.laws.specs.PlanRules.{Owner}
-use Rattle.edit.specs.Change.{piece_for, put_piece, among, edit_pieces, edit_slice, edit, lists}
-use Rattle.edit.specs.ChangeDemands.{has_tag, those, afterwards}
-use Rattle.edit.specs.EditLaws.{map_append, Unlike, Apart}
+use Rattle.laws.proofs.OptionalNewer.{lookup_key}
+use Rattle.laws.proofs.PlanRules.{Owner}
+use Rattle.edit.specs.Change.{piece_for, put_piece, among, edit_pieces, edit_slice, lists}
+use Rattle.edit.specs.ChangeDemands.{has_tag, those}
+use Rattle.edit.proofs.EditLaws.{map_append, Unlike, Apart}
 
 -- ---- what pieces and rows hold
 

@@ -5,27 +5,26 @@
 --   lists_tagged            the member is listed exactly if the owner's pieces have its tag
 --   carried_differs, still_read     how the lists differ
 --   others_kept, changed_here       the promises
-use Rattle.std.specs.Prelude.{◌≡◌, Bool, true, false, ℕ, ◌≤◌, length, eqb}
+use Rattle.std.specs.Prelude.{◌≡◌, ℕ, ◌≤◌, length}
 use Rattle.std.proofs.Math.Path.{refl, ap, subst}
 use Rattle.std.proofs.Common.{sym, ◌∙◌, subst₂, arith}
 use Rattle.std.proofs.Math.Bool.{not}
 use Rattle.std.proofs.Math.Option.{Option, none, some}
-use mathlib.Core.List.{List, [], ◌∷◌, map}
+use mathlib.Core.List.{List, [], map}
 use Rattle.encoding.specs.Table.{fine, faults, name_of, named, chain}
 use Rattle.encoding.specs.Table
 use Rattle.encoding.specs.Optional.{Piece}
 use Rattle.encoding.specs.Slice.{Format, Slice}
-use Rattle.encoding.specs.Message.{Pieces, list, exception, class, v11, encode, encapsulate, limit, rules, Row, rows, first_in, first_known}
+use Rattle.encoding.specs.Message.{Pieces, list, exception, class, v11, encode, encapsulate, limit, rows, first_in, first_known}
 use Rattle.encoding.specs.Conform.{Owned, Slices, Conform}
-use Rattle.laws.specs.Demands.{read_as}
-use Rattle.laws.specs.RowsListed.{rows_listed}
+use Rattle.laws.proofs.RowsListed.{rows_listed}
 use Rattle.edit.specs.Change.{Target, piece_for, put_piece, edit_pieces, edit_slice, edit, lists, changing}
 use Rattle.edit.specs.ChangeDemands.{has_tag, those, Change, Others, afterwards, DiffersIn, StillRead, ChangedHere}
-use Rattle.edit.specs.TargetLaws.{Aim}
-use Rattle.edit.specs.PieceLaws.{Sound, level_edit}
-use Rattle.edit.specs.EditLaws.{Apart, edit_apart, apart_slices, by_name, list_owner, conform_edit, same_edit, first_kept, passed_kept, optionals_kept}
-use Rattle.edit.specs.HeldLaws.{Held, piece_held, slice_held, all_held, row_held, Of, listed_held, rows_others, rows_there, some_of, lists_held, held_others, held_tagged, held_mine, slices_mine, slices_others}
-use Rattle.edit.specs.MadeLaws.{Carried, carried, bounded_ok, edited_by, carried_conforms, carried_accepted}
+use Rattle.edit.proofs.TargetLaws.{Aim}
+use Rattle.edit.proofs.PieceLaws.{Sound, level_edit}
+use Rattle.edit.proofs.EditLaws.{Apart, edit_apart, apart_slices, by_name, list_owner, conform_edit, same_edit, first_kept, passed_kept, optionals_kept}
+use Rattle.edit.proofs.HeldLaws.{Held, piece_held, slice_held, all_held, row_held, Of, listed_held, rows_others, rows_there, some_of, lists_held, held_others, held_tagged, held_mine, slices_mine, slices_others}
+use Rattle.edit.proofs.MadeLaws.{Carried, carried, bounded_ok, edited_by, carried_accepted}
 
 module _ (T : List ℕ) (right : faults T ≡ fine) (top : ℕ) (f : Format) (m : ℕ) (x : Target) where
   abbrev nm : List ℕ
