@@ -1,17 +1,16 @@
 -- The search for an owner, for a slice and for a tag: what holds at the head of each loop, and what each step makes of it. Assumes nothing.
 --
---   owner-..            the loop up a chain
---   Seeks, seeks-..     the loop over slices
---   id-.., frame-..     one slice
---   end-.., other-..    whether optionals end; whether there are others
---   Tags, tags-..       the loop over optionals
---   members-..          the search after the required members
+--   owner_..            the loop up a chain
+--   Seeks, seeks_..     the loop over slices
+--   id_.., frame_..     one slice
+--   end_.., other_..    whether optionals end; whether there are others
+--   Tags, tags_..       the loop over optionals
+--   members_..          the search after the required members
 use mathlib.Core.Path.{◌≡◌, refl, sym, ap, ap₂, ◌∙◌, subst}
 use mathlib.Core.Bool.{Bool, true, false, ◌&&◌, ◌||◌, not, true≢false}
 use mathlib.Core.Option.{Option, none, some}
 use mathlib.Core.List.{List, [], ◌∷◌}
 use Prim.Native.Nat.{ℕ, zero, suc, ◌+◌, ◌-◌, ◌*◌, ◌≤◌, ◌<◌}
-use native.Mathlib.Nat.{add-zero}
 use native.Mathlib.Numerals.{add-one, sub-one}
 use native.Mathlib.Omega.{arith}
 use lib.ListN.{length, take, drop, length-drop}
@@ -20,17 +19,17 @@ use lib.Dec.{eqb, leb, ltb}
 use mir.Syntax.{w64}
 use mir.Val.{Fits}
 use borrow.Author.Tests.{eqb-true, eqb-false, eq-eqb, ne_eqb, lt-ltb, le-ltb, le-leb, ltb-true, leb-true}
-use Rattle.encoding.specs.Result.{Res, ok, bad, pick, same_bytes}
-use Rattle.encoding.specs.ResultLaws.{some≢none, both_true, held_took}
+use Rattle.encoding.specs.Result.{ok, pick, same_bytes}
+use Rattle.encoding.proofs.ResultLaws.{both_true, held_took}
 use Rattle.encoding.specs.Number.{declared, val}
-use Rattle.encoding.specs.NumberLaws.{held_declared}
-use Rattle.encoding.specs.WeightLaws.{declared_weight}
+use Rattle.encoding.proofs.NumberLaws.{held_declared}
+use Rattle.encoding.proofs.WeightLaws.{declared_weight}
 use Rattle.encoding.specs.Types.{Ty, vsize}
 use Rattle.encoding.specs.Table.{at, field, mark, tag, takes, range, Member, member_ty, trees, own_rows, optionals_in, base, upward, chain}
 use Rattle.encoding.specs.Table
-use Rattle.encoding.specs.TableLaws.{chain_row}
-use Rattle.encoding.specs.Optional.{Piece, required, optional, skipped, extent, next_optional, requireds}
-use Rattle.encoding.specs.OptionalLaws.{ends_extent, held_extent}
+use Rattle.encoding.proofs.TableLaws.{chain_row}
+use Rattle.encoding.specs.Optional.{extent, next_optional, requireds}
+use Rattle.encoding.proofs.OptionalLaws.{ends_extent, held_extent}
 use Rattle.encoding.specs.Write.{optional_row}
 use Rattle.wire.specs.declared.Sized.{Sized}
 use Rattle.wire.specs.declared.Sized.TheVariants.{Is, Isnt}
@@ -55,7 +54,7 @@ use Rattle.seek.specs.declared.Slot.TheVariants.{List as InList, At, Nothing}
 use Rattle.seek.specs.declared.Frame.{Frame}
 use Rattle.seek.specs.declared.Frame.TheVariants.{At as FrameAt, Nothing as NoFrame}
 use Rattle.seek.specs.declared.Spot.{Spot}
-use Rattle.seek.specs.Located.{target_row, slot_of, slices_at, slot_in, SlotInside, Framed, FrameIs, as_gap, SpotInside}
+use Rattle.seek.specs.Located.{target_row, slot_of, slot_in, SlotInside, Framed, FrameIs, as_gap, SpotInside}
 
 -- ---- the owner
 

@@ -1,5 +1,7 @@
 // Finds an optional in an accepted message without a look at values: its owner, the owner's slice, and its place among the slice's optionals.
 // Each function equals a definition on any bytes; what it finds in an accepted message is a law of `edit`.
+#![tactic(auto)]
+
 ghost use Rattle.std.specs.Prelude.{◌≡◌, ◌||◌, not, suc, ◌≤◌, ◌<◌, ltb, length, drop};
 ghost use Rattle.encoding.specs.Table.{types_at, members_at, takes, name_of};
 ghost use Rattle.shapes.specs.Shapes.{shapes_of};
@@ -13,7 +15,7 @@ use table::Found;
 use wire::{Sized, Step};
 
 // Where an owner's members are: in a parameter list; in a slice, with the places of its flags and of its size, and its end; or nowhere.
-#[derive(Drop)]
+#[derive(Clone, Copy)]
 pub enum Slot {
     List,
     At(usize, usize, usize),
@@ -21,14 +23,14 @@ pub enum Slot {
 }
 
 // A slice: where its type ID begins, where its size is, and its end; or none.
-#[derive(Drop)]
+#[derive(Clone, Copy)]
 pub enum Frame {
     At(usize, usize, usize),
     Nothing,
 }
 
 // Where a tag is among the optionals of an owner: from a place up to another, and whether there are other optionals.
-#[derive(Drop)]
+#[derive(Clone, Copy)]
 pub struct Spot {
     pub from: usize,
     pub to: usize,
