@@ -1,29 +1,28 @@
 -- Lengths, and parts put one after another. Assumes nothing.
 --
---   header-.., field-.., piece-.., size-..   lengths by the cases of the code
---   head-.., data-.., slice-.., front-..     what is put before the exchange
+--   header_.., field_.., piece_.., size_..   lengths by the cases of the code
+--   head_.., data_.., slice_.., front_..     what is put before the exchange
 --   piece_put, marker_put, whole_put         the new member, the end marker, the whole
-use mathlib.Core.Path.{◌≡◌, refl, sym, ap, ap₂, ◌∙◌}
+use mathlib.Core.Path.{◌≡◌, sym, ap, ap₂, ◌∙◌}
 use mathlib.Core.Bool.{Bool, true, false}
 use mathlib.Core.List.{List, [], ◌∷◌, ◌++◌, append_assoc}
-use Prim.Native.Nat.{ℕ, ◌+◌, ◌-◌, ◌*◌, ◌%◌, ◌≤◌, ◌<◌}
+use Prim.Native.Nat.{ℕ, ◌+◌, ◌-◌, ◌%◌, ◌≤◌, ◌<◌}
 use native.Mathlib.Omega.{arith}
 use lib.ListN.{length, take, drop, length-append, length-drop}
 use lib.Seq.{take_all}
-use lib.Dec.{eqb, ltb}
 use mir.Syntax.{w64}
 use mir.Val.{Fits}
 use borrow.Author.Tests.{eq-eqb, ne_eqb, lt-ltb, le-ltb}
 use Rattle.encoding.specs.Result.{pick}
 use Rattle.encoding.specs.Number.{le_bytes, size_bytes}
-use Rattle.encoding.specs.NumberLaws.{length_le_bytes}
+use Rattle.encoding.proofs.NumberLaws.{length_le_bytes}
 use Rattle.encoding.specs.Table.{at}
-use Rattle.encoding.specs.Slice.{sliced, compact, bit, worth, flag_bits}
+use Rattle.encoding.specs.Slice.{sliced, compact, bit, flag_bits}
 use Rattle.encoding.specs.Write.{part_of}
 use Rattle.wire.specs.Put.{put}
 use Rattle.wire.specs.PutLaws.{put_put, put_front, put_length}
 use Rattle.pieces.specs.Puts.{Puts}
-use Rattle.pieces.specs.PutsLaws.{puts_one, puts_none, puts_is, puts_byte}
+use Rattle.pieces.specs.PutsLaws.{puts_none, puts_is, puts_byte}
 use Rattle.pieces.specs.Pieces.{optional_field}
 use Rattle.splice.specs.declared.Cut.{Cut}
 use Rattle.splice.specs.Spliced.{header_length, field_length, piece_length, piece_of, marker_of, exchanged, size_of, flag_of, head_of, data_of, slice_middle, front_of, spliced, Cuts, Shaped}

@@ -6,7 +6,7 @@
 --   flag_of, head_of, data_of, slice_middle, front_of    the slice's new flags; the parts before the exchange; all of them
 --   spliced              the whole
 --   Cuts, Shaped         the places of a cut, in order and within a message
-use Rattle.std.specs.Prelude.{◌≡◌, Bool, true, List, [], ◌∷◌, ◌++◌, ℕ, ◌+◌, ◌-◌, ◌≤◌, ◌<◌, length, take, drop, eqb, ltb}
+use Rattle.std.specs.Prelude.{Bool, true, List, [], ◌∷◌, ◌++◌, ℕ, ◌+◌, ◌-◌, ◌≤◌, ◌<◌, length, take, drop, eqb, ltb}
 use Rattle.encoding.specs.Result.{pick}
 use Rattle.encoding.specs.Number.{le_bytes, size_bytes}
 use Rattle.encoding.specs.Table.{at}

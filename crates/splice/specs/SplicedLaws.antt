@@ -5,14 +5,14 @@
 --   spliced_parts                                     the whole from its parts
 use Rattle.std.specs.Prelude.{◌≡◌, Bool, true, false, take, eqb, ltb}
 use Rattle.std.proofs.Math.Path.{refl, ap}
-use Rattle.std.proofs.Common.{sym, ap₂, ◌∙◌, length-take-le, ltb-true, ltb-false, lt-ltb, le-ltb}
+use Rattle.std.proofs.Common.{sym, ap₂, ◌∙◌, length-take-le, ltb-true}
 use mathlib.Core.List.{List, [], ◌∷◌, ◌++◌, append_assoc}
 use Prim.Native.Nat.{ℕ, ◌+◌, ◌-◌, ◌*◌, ◌≤◌, ◌<◌}
 use native.Mathlib.Omega.{arith}
 use Rattle.std.proofs.Math.ListN.{length, drop, length-append, length-drop}
 use Rattle.encoding.specs.Result.{pick}
 use Rattle.encoding.specs.Number.{le_bytes, size_bytes}
-use Rattle.encoding.specs.NumberLaws.{length_le_bytes}
+use Rattle.encoding.proofs.NumberLaws.{length_le_bytes}
 use Rattle.wire.specs.Put.{form_bits}
 use Rattle.pieces.specs.Pieces.{header_field, length_field, optional_field}
 use Rattle.edit.specs.Place.{size_after, list_spliced, slice_spliced}

@@ -1,4 +1,6 @@
 // Puts a message with the bytes of one optional exchanged, in one pass and one copy. Nothing is asked of the bytes that are passed on.
+#![tactic(auto)]
+
 ghost use Rattle.std.specs.Prelude.{◌≡◌, ◌++◌, ◌+◌, ◌≤◌, ◌<◌, length, drop};
 ghost use Rattle.wire.specs.Put.{put};
 ghost use Rattle.pieces.specs.Puts.{Puts};
@@ -8,7 +10,7 @@ use wire::rows::RowNumbers;
 
 // What is put in place of the bytes `from` up to `to` of a message: a member of a tag and form, if one is set, and an end marker.
 // Of a slice: the places of its flags and of its size, its end, and whether it has optionals afterwards. Of a parameter list these are 0.
-#[derive(Drop)]
+#[derive(Clone, Copy)]
 pub struct Cut {
     pub flags: usize,
     pub size: usize,
