@@ -1,15 +1,15 @@
 -- The plan of a change, a case for each way out of the code. Assumes nothing.
 --
---   listed-.., compact-.., fresh-..   whether a member is listed; the refusal of a compact record; 3 and 21
---   end-.., spot-.., slot-..          the exchange at a spot; in a list or a slice
---   read-..                           a message that is read
---   answer-.., output-..              the answer, and the output
---   plan-..                           the plan for an accepted message
+--   listed_.., compact_.., fresh_..   whether a member is listed; the refusal of a compact record; 3 and 21
+--   end_.., spot_.., slot_..          the exchange at a spot; in a list or a slice
+--   read_..                           a message that is read
+--   answer_.., output_..              the answer, and the output
+--   plan_..                           the plan for an accepted message
 use mathlib.Core.Path.{◌≡◌, refl, sym, ap, ap₂, ◌∙◌, subst}
 use mathlib.Core.Bool.{Bool, true, false, ◌&&◌, ◌||◌, not, true≢false}
 use mathlib.Core.Option.{Option, none, some}
 use mathlib.Core.List.{List, [], ◌∷◌, ◌++◌}
-use Prim.Native.Nat.{ℕ, zero, suc, ◌+◌, ◌-◌, ◌≤◌, ◌<◌}
+use Prim.Native.Nat.{ℕ, ◌+◌, ◌-◌, ◌≤◌, ◌<◌}
 use native.Mathlib.Omega.{arith}
 use lib.ListN.{length, take, drop, length-take, length-drop}
 use lib.Dec.{eqb, leb, ltb}
@@ -17,25 +17,24 @@ use mir.Syntax.{w32, w64}
 use mir.Val.{Fits}
 use borrow.Author.Tests.{lt-ltb, le-ltb, ltb-false, eqb-true, eqb-false, ne_eqb, le-leb, lt-leb}
 use Rattle.encoding.specs.Result.{Res, ok, bad, pick, first_of}
-use Rattle.encoding.specs.ResultLaws.{ok≢bad, some≢none}
+use Rattle.encoding.proofs.ResultLaws.{ok≢bad}
 use Rattle.encoding.specs.Number.{Bytes}
 use Rattle.encoding.specs.Types.{Ty, form_of}
 use Rattle.encoding.specs.Value.{exact}
-use Rattle.encoding.specs.Table.{fine, faults, kind, tag, Member, member_ty, trees, ty_of, chain}
-use Rattle.encoding.specs.Table
-use Rattle.encoding.specs.RuleLaws.{optional_own}
+use Rattle.encoding.specs.Table.{fine, faults, kind, tag, member_ty, trees, ty_of, chain}
+use Rattle.encoding.proofs.RuleLaws.{optional_own}
 use Rattle.encoding.specs.Slice.{Format, compact, sliced, format_number}
 use Rattle.encoding.specs.Message.{Pieces, v10, v11, encoding_number, Read, Row, rows, rules, limit, encode, encapsulate, first_known}
-use Rattle.encoding.specs.View.{Seen, part, fallback, nothing, row_of, of_chain, seen}
+use Rattle.encoding.specs.View.{part, nothing, row_of, seen}
 use Rattle.encoding.specs.Write.{Out, out, stop, next, stopped_first, bounded, output, writing_of}
 use Rattle.encoding.specs.Conform.{Conform}
 use Rattle.laws.specs.Demands.{read_as, Follows}
-use Rattle.encoding.specs.MessageLaws.{length_encapsulate}
+use Rattle.encoding.proofs.MessageLaws.{length_encapsulate}
 use Rattle.encoding.specs.declared.Writing.{Writing}
 use Rattle.encoding.specs.declared.Writing.TheVariants.{Written, Rejected}
-use Rattle.laws.specs.Refusals.{rules_refused, refusal_numbered}
-use Rattle.laws.specs.TableExact.{sound}
-use Rattle.laws.specs.MessageExact.{exact_message}
+use Rattle.laws.proofs.Refusals.{rules_refused, refusal_numbered}
+use Rattle.laws.proofs.TableExact.{sound}
+use Rattle.laws.proofs.MessageExact.{exact_message}
 use Rattle.shapes.specs.Shapes.{form_number, shapes_of, form_in}
 use Rattle.shapes.specs.ShapesLaws.{form_row}
 use Rattle.wire.specs.StepLaws.{rest_is}
@@ -48,8 +47,8 @@ use Rattle.view.specs.declared.View.{View}
 use Rattle.view.specs.declared.View.TheVariants.{Part, Fallback, Nothing, Refused}
 use Rattle.view.specs.Views.{view_of, view_answer_of, view_answer, view_within}
 use Rattle.edit.specs.Change.{Target, target, lists, change_form, changed_at, changed_as, changed, changing, set, remove}
-use Rattle.edit.specs.TargetLaws.{Aim, target_aim, aim_chain}
-use Rattle.edit.specs.MadeLaws.{result_of, first_there}
+use Rattle.edit.proofs.TargetLaws.{Aim, target_aim, aim_chain}
+use Rattle.edit.proofs.MadeLaws.{result_of, first_there}
 use Rattle.edit.specs.Place.{Gap, gap_in, flagged, has_marker, cut_end}
 use Rattle.seek.specs.declared.Slot.{Slot}
 use Rattle.seek.specs.declared.Slot.TheVariants.{List as InList, At, Nothing as NoSlot}

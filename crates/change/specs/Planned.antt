@@ -9,9 +9,9 @@
 --   Ripe                  the same as a record
 --   PlanFits              what a plan asks before it is carried out
 --   PlannedFor            `Planned` for an accepted message with this first known type and format
-use Rattle.std.specs.Prelude.{◌≡◌, Bool, true, false, ◌&&◌, ◌||◌, not, List, [], ℕ, ◌+◌, ◌-◌, ◌≤◌, ◌<◌, length, take, drop, eqb, ltb}
+use Rattle.std.specs.Prelude.{◌≡◌, Bool, true, false, ◌&&◌, ◌||◌, not, List, ℕ, ◌+◌, ◌-◌, ◌≤◌, ◌<◌, length, take, drop, eqb, ltb}
 use Rattle.std.proofs.Math.Option.{Option, none, some}
-use Rattle.encoding.specs.Result.{Res, ok, pick}
+use Rattle.encoding.specs.Result.{ok, pick}
 use Rattle.encoding.specs.Number.{Bytes}
 use Rattle.encoding.specs.Types.{Ty, form_of}
 use Rattle.encoding.specs.Table.{kind, tag, member_ty, trees}

@@ -5,54 +5,50 @@
 --   planned_at              the plan at a gap of the owner's members
 --   last_there, data_there, slot_there    the slice, and its data, in the bytes of a record
 --   planned_list, planned_slices, planned_located    the plan is what the definition gives: of a parameter list, a record, any message
-use Rattle.std.specs.Prelude.{◌≡◌, Bool, ◌&&◌, ◌||◌, ◌⊎◌, take, eqb, ltb}
+use Rattle.std.specs.Prelude.{◌≡◌, Bool, ◌&&◌, take, eqb, ltb}
 use Rattle.std.proofs.Math.Path.{refl, sym, ap, ap₂, subst}
-use Rattle.std.proofs.Common.{◌∙◌, true≢false, take_at, take_all, eqb-true, ne_eqb, lt-ltb, le-ltb, ltb-true, ltb-false}
+use Rattle.std.proofs.Common.{◌∙◌, true≢false, take_at, eqb-true, ne_eqb, lt-ltb, ltb-true, ltb-false}
 use Rattle.std.proofs.Math.Bool.{true, false, not}
-use Rattle.std.proofs.lemmas.Bool.{false≢true, eqb-false}
+use Rattle.std.proofs.lemmas.Bool.{false≢true}
 use Rattle.std.proofs.Math.Logic.{⊎_elim}
 use Rattle.std.proofs.Math.Option.{Option, none, some}
 use mathlib.Core.List.{List, [], ◌∷◌, ◌++◌, map, append_assoc, append-nil}
-use Prim.Native.Nat.{ℕ, suc, ◌+◌, ◌-◌, ◌*◌, ◌≤◌, ◌<◌}
+use Prim.Native.Nat.{ℕ, suc, ◌+◌, ◌-◌, ◌*◌, ◌≤◌}
 use native.Mathlib.Omega.{arith}
 use Rattle.std.proofs.Math.ListN.{length, drop, length-append}
 use Rattle.std.proofs.Math.Seq.{drop_at}
-use Rattle.encoding.specs.Result.{Res, ok, pick, first_of, concat}
-use Rattle.encoding.specs.ResultLaws.{some≢none}
-use Rattle.encoding.specs.Number.{Short, le_bytes, string_bytes, val}
-use Rattle.encoding.specs.NumberLaws.{length_le_bytes}
+use Rattle.encoding.specs.Result.{ok, pick, first_of, concat}
+use Rattle.encoding.specs.Number.{le_bytes, string_bytes, val}
+use Rattle.encoding.proofs.NumberLaws.{length_le_bytes}
 use Rattle.encoding.specs.Types.{form_of}
 use Rattle.encoding.specs.Value.{exact}
 use Rattle.encoding.specs.Table.{at, fine, faults, kind, Member, lookup, name_of, named, chain}
 use Rattle.encoding.specs.Table
 use Rattle.encoding.specs.Optional.{Piece, required, optional, skipped, piece_bytes, is_optional}
-use Rattle.encoding.specs.Slice.{Format, sliced, Slice, known, first, later, bit, any_optional, has_optionals, id_of, data_bytes, flag_bits, is_last}
-use Rattle.encoding.specs.Message.{Pieces, list, exception, class, v11, slices_bytes, encode, encapsulate, Read, rules, rows, first_in, first_known}
-use Rattle.encoding.specs.MessageLaws.{length_encapsulate}
+use Rattle.encoding.specs.Slice.{Format, sliced, Slice, known, first, later, bit, any_optional, data_bytes, flag_bits, is_last}
+use Rattle.encoding.specs.Message.{Pieces, list, exception, class, v11, slices_bytes, encode, encapsulate, rows, first_known}
+use Rattle.encoding.proofs.MessageLaws.{length_encapsulate}
 use Rattle.encoding.specs.Write.{Out, out, stop, next, stopped_first}
-use Rattle.encoding.specs.Conform.{Level, Owned, Slices, Conform}
+use Rattle.encoding.specs.Conform.{Level, Owned, Conform}
 use Rattle.laws.specs.Demands.{read_as, All}
 use Rattle.shapes.specs.Shapes.{form_number}
-use Rattle.pieces.specs.Pieces.{optional_field}
 use Rattle.pieces.specs.PiecesLaws.{optional_bytes}
 use Rattle.edit.specs.Change.{Target, target, piece_for, put_piece, edit_pieces, edit_slice, edit, lists, change_form, changed_at, changed_as, changed}
 use Rattle.edit.specs.ChangeDemands.{has_tag, those}
-use Rattle.edit.specs.TargetLaws.{Aim}
-use Rattle.edit.specs.PieceLaws.{none_tagged}
-use Rattle.edit.specs.EditLaws.{Unlike, Apart, edit_apart, apart_slices, by_name, list_owner}
-use Rattle.edit.specs.HeldLaws.{Of, piece_held, some_of, held_mine}
-use Rattle.edit.specs.HereLaws.{owner_pieces, owner_owned, lists_tagged}
-use Rattle.edit.specs.AgainLaws.{tagged_one}
-use Rattle.edit.specs.MadeLaws.{result_of, made_step, Doing, form_step}
-use Rattle.edit.specs.Place.{Gap, gap, closed, gap_in, flagged, has_marker, cut_end, Seat, seek_slice, list_spliced, slice_spliced}
-use Rattle.edit.specs.GapLaws.{before, here_at, behind, cut_of, gap_owned}
-use Rattle.edit.specs.SpliceLaws.{bytes_cut, fresh_bytes, is_setting, mark, gap_empty, DataCut, cut_set, cut_removed}
-use Rattle.edit.specs.SeatLaws.{whole, laid, slices_laid, laid_append, seek_laid, whole_length, list_spliced_lem, spelt, slices_spliced, flags_at, size_at, end_at, message, message_length}
-use Rattle.seek.specs.declared.Slot.TheVariants.{List as InList, At, Nothing as NoSlot}
+use Rattle.edit.proofs.TargetLaws.{Aim}
+use Rattle.edit.proofs.PieceLaws.{none_tagged}
+use Rattle.edit.proofs.EditLaws.{Unlike, Apart, edit_apart, apart_slices, by_name, list_owner}
+use Rattle.edit.proofs.HeldLaws.{Of, piece_held, some_of, held_mine}
+use Rattle.edit.proofs.HereLaws.{owner_pieces, owner_owned, lists_tagged}
+use Rattle.edit.proofs.AgainLaws.{tagged_one}
+use Rattle.edit.proofs.MadeLaws.{result_of, made_step, Doing, form_step}
+use Rattle.edit.specs.Place.{Gap, gap, closed, gap_in, flagged, has_marker, cut_end, seek_slice, list_spliced, slice_spliced}
+use Rattle.edit.proofs.GapLaws.{before, here_at, behind, cut_of, gap_owned}
+use Rattle.edit.proofs.SpliceLaws.{bytes_cut, fresh_bytes, is_setting, mark, gap_empty, DataCut, cut_set, cut_removed}
+use Rattle.edit.proofs.SeatLaws.{whole, laid, slices_laid, seek_laid, whole_length, list_spliced_lem, spelt, slices_spliced, flags_at, size_at, end_at, message, message_length}
+use Rattle.seek.specs.declared.Slot.TheVariants.{List as InList, At}
 use Rattle.seek.specs.Located.{slot_of, slot_in, slices_at}
-use Rattle.splice.specs.declared.Cut.{Cut}
 use Rattle.splice.specs.Spliced.{piece_of, marker_of, exchanged, flag_of, spliced, Shaped}
-use Rattle.change.specs.declared.Plan.{Plan}
 use Rattle.change.specs.declared.Plan.TheVariants.{Make, Stop}
 use Rattle.change.specs.Planned.{cut_at, at_spot, at_slot, located_plan, content_of, Planned}
 

@@ -1,5 +1,7 @@
 // Sets or removes one optional of an accepted message and passes on the rest. No public call asks anything of its input.
 // planning.rt decides what is exchanged, or why not; `seek` finds the place, `splice` puts the result.
+#![tactic(auto)]
+
 mod planning;
 
 ghost use Rattle.std.specs.Prelude.{◌≡◌, List, ℕ, length};
@@ -12,7 +14,7 @@ use encoding::Writing;
 use splice::Cut;
 
 // What is to be done with the message; or a refusal's number and place.
-#[derive(Drop)]
+#[derive(Clone, Copy)]
 pub enum Plan {
     Make(Cut),
     Stop(usize, usize),
