@@ -1,9 +1,5 @@
 -- Many messages in one buffer: the definition of the call, and what is promised of it.
 pub mod Night
 pub mod NightDemands
-pub mod NightLaws
-pub mod NightFits
-pub mod NightProofs
 pub mod NightPromises
 pub mod Steps
-pub mod StopLaws
