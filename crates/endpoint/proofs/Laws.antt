@@ -1,23 +1,21 @@
 -- The cases of an address's fields, by the bytes at the head or by the answers of the readers that they call. Assumes nothing.
 --
---   port-.., timeout-.., flag-..     one field, by its bytes
---   settings-.., tail-.., address-..  one reader after another
---   versioned-.., enclosed-..        the version before the fields; the encapsulation around them
+--   port_.., timeout_.., flag_..     one field, by its bytes
+--   settings_.., tail_.., address_..  one reader after another
+--   versioned_.., enclosed_..        the version before the fields; the encapsulation around them
 use mathlib.Core.Path.{◌≡◌, refl, sym, ap, ap₂, ◌∙◌}
-use mathlib.Core.Bool.{Bool, true, false}
 use mathlib.Core.List.{List}
-use Prim.Native.Nat.{ℕ, zero, suc, ◌+◌, ◌-◌, ◌^◌, ◌≤◌, ◌<◌}
+use Prim.Native.Nat.{ℕ, ◌+◌, ◌-◌, ◌^◌, ◌≤◌, ◌<◌}
 use native.Mathlib.Omega.{arith}
-use native.Mathlib.Nat.{add-zero}
 use lib.ListN.{length, take, drop, length-drop}
 use lib.Seq.{length-take-le}
 use borrow.Author.Tests.{le-leb, lt-leb, lt-ltb, le-ltb, eq-eqb, ne_eqb}
 use mir.Syntax.{w64}
 use mir.Val.{Fits}
-use Rattle.encoding.specs.Result.{Res, ok, bad, Parser, pick, shift, after, ◌>>=◌, pure, chunk, judged, must, made, mapc, leave, enter, inside}
-use Rattle.encoding.specs.ResultLaws.{Bound, bind_ok, chunk_ok, item_ok, must_ok, held_took, held_refused}
+use Rattle.encoding.specs.Result.{Res, ok, bad, Parser, shift, after, ◌>>=◌, pure, chunk, judged, must, made, mapc, leave, enter, inside}
+use Rattle.encoding.proofs.ResultLaws.{Bound, bind_ok, chunk_ok, item_ok, must_ok, held_took, held_refused}
 use Rattle.encoding.specs.Number.{val, number, byte, bool_form, length_form, string, declared}
-use Rattle.encoding.specs.NumberLaws.{held_string, held_declared}
+use Rattle.encoding.proofs.NumberLaws.{held_string, held_declared}
 use Rattle.encoding.specs.Table.{at}
 use Rattle.wire.specs.declared.Step.{Step}
 use Rattle.wire.specs.declared.Step.TheVariants.{Took, Fault}
@@ -28,7 +26,7 @@ use Rattle.wire.specs.StepLaws.{rest_is, step_took, step_fault, sized_is, sized_
 use Rattle.endpoint.specs.declared.fields.Fields.{Fields}
 use Rattle.endpoint.specs.declared.fields.Fields.TheVariants.{Are, Arent}
 use Rattle.endpoint.specs.Endpoint.{endpoint_version, Address, timed, no_port, port_form, port, timeout, flag, address, versioned}
-use Rattle.endpoint.specs.RefusalLaws.{held_port, held_timeout, held_flag, held_settings, held_tail, held_address, held_versioned}
+use Rattle.endpoint.proofs.RefusalLaws.{held_port, held_timeout, held_flag, held_settings, held_tail, held_address, held_versioned}
 use Rattle.endpoint.specs.Parts.{settings, tail, Four, fields_of, settings_fields, tail_fields, address_fields}
 
 -- ---- one field

@@ -2,3 +2,9 @@
 pub mod Laws
 pub mod Openings
 pub mod Writings
+pub mod EndpointCases
+pub mod EndpointLaws
+pub mod OpenRefusals
+pub mod RefusalLaws
+pub mod Promised
+pub mod LayoutLaws

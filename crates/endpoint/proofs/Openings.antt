@@ -1,14 +1,14 @@
 -- The cases of opening, by the answers of the readers that it calls; the numbers of each answer fit 32 bits, and are put all at once. Assumes nothing.
 --
---   whole_more, -done, -bad      the type's bytes and its encapsulation, then nothing or 18
---   unopened-.., dialled-..      an endpoint that is not opened; one that is
---   typed-..                     by the type
---   open-..                      3 first
---   within-..                    22 last
---   seven_put, put-..            the seven numbers
+--   whole_more, _done, _bad      the type's bytes and its encapsulation, then nothing or 18
+--   unopened_.., dialled_..      an endpoint that is not opened; one that is
+--   typed_..                     by the type
+--   open_..                      3 first
+--   within_..                    22 last
+--   seven_put, put_..            the seven numbers
 use mathlib.Core.Path.{◌≡◌, refl, sym, ap, ◌∙◌, subst}
 use mathlib.Core.Bool.{Bool, true, false}
-use mathlib.Core.List.{List, [], ◌∷◌, ◌++◌}
+use mathlib.Core.List.{List, ◌++◌}
 use Prim.Native.Nat.{ℕ, zero, suc, ◌+◌, ◌-◌, ◌^◌, ◌≤◌, ◌<◌}
 use native.Mathlib.Omega.{arith}
 use native.Mathlib.Nat.{add-zero}
@@ -18,13 +18,13 @@ use borrow.Author.Tests.{leb-true, le-leb, lt-leb, lt-ltb, le-ltb}
 use mir.Syntax.{w64}
 use mir.Val.{Fits}
 use Rattle.encoding.specs.Result.{Res, ok, bad, Parser, pick, shift, after, ◌>>=◌, chunk, skip, made, mapc, inside, first_of}
-use Rattle.encoding.specs.ResultLaws.{held_took, held_refused}
-use Rattle.encoding.specs.ValueLaws.{held_endpoint}
+use Rattle.encoding.proofs.ResultLaws.{held_took, held_refused}
+use Rattle.encoding.proofs.ValueLaws.{held_endpoint}
 use Rattle.encoding.specs.Number.{Bytes, number, le_bytes, size_bytes, declared}
-use Rattle.encoding.specs.NumberLaws.{bytes_drop, length_le_bytes}
+use Rattle.encoding.proofs.NumberLaws.{bytes_drop, length_le_bytes}
 use Rattle.encoding.specs.Proxy.{endpoint}
 use Rattle.encoding.specs.Table.{at}
-use Rattle.encoding.specs.Message.{ended, limit, refused_first}
+use Rattle.encoding.specs.Message.{limit, refused_first}
 use Rattle.wire.specs.declared.Step.{Step}
 use Rattle.wire.specs.declared.Step.TheVariants.{Took, Fault}
 use Rattle.wire.specs.Steps.{step_of}
@@ -38,8 +38,8 @@ use Rattle.endpoint.specs.declared.fields.Fields.TheVariants.{Are, Arent}
 use Rattle.endpoint.specs.Endpoint.{Address, Endpoint, opened, unopened, opens, versioned, encapsulated, typed, open_endpoint, host_place, opened_of, seven_bytes, opened_within, with_opened}
 use Rattle.endpoint.specs.Parts.{fields_of, address_fields, any_inside, address_inside, whole, Roomy}
 use Rattle.endpoint.specs.EndpointDemands.{Dials, tcp, ssl, udp, OpenNumber}
-use Rattle.endpoint.specs.EndpointLaws.{opens_step, opens_not, Narrow, enclosed_narrow}
-use Rattle.endpoint.specs.RefusalLaws.{ended_more, ended_done, held_enclosed, refuses_enclosed, refuses_endpoint, told_bad, few_numbers}
+use Rattle.endpoint.proofs.EndpointLaws.{opens_step, opens_not, Narrow, enclosed_narrow}
+use Rattle.endpoint.proofs.RefusalLaws.{ended_more, ended_done, held_enclosed, refuses_enclosed, refuses_endpoint, told_bad, few_numbers}
 use Rattle.endpoint.proofs.Laws.{fields_are, fields_arent}
 
 -- ---- nothing after it

@@ -1,23 +1,23 @@
 -- The writer's cases: its arguments judged, the length it needs, the two parts of the endpoint put one after the other. Assumes nothing.
 --
---   judge-..          the first of 2, 3, 24 and 27
---   needed-..         the length, by the type
---   written-..        a refusal of the arguments, 22, and what is written
---   head_put, tail_put, -udp   the parts of the head and of the tail put one after another
---   write-..          the endpoint put, or the output as it was
+--   judge_..          the first of 2, 3, 24 and 27
+--   needed_..         the length, by the type
+--   written_..        a refusal of the arguments, 22, and what is written
+--   head_put, tail_put, _udp   the parts of the head and of the tail put one after another
+--   write_..          the endpoint put, or the output as it was
 use mathlib.Core.Path.{◌≡◌, refl, sym, ap, ◌∙◌}
 use mathlib.Core.Bool.{Bool, true, false}
 use mathlib.Core.List.{List, [], ◌∷◌, ◌++◌, append_assoc}
-use Prim.Native.Nat.{ℕ, zero, suc, ◌+◌, ◌-◌, ◌^◌, ◌≤◌, ◌<◌}
+use Prim.Native.Nat.{ℕ, zero, suc, ◌+◌, ◌-◌, ◌≤◌, ◌<◌}
 use native.Mathlib.Omega.{arith}
 use lib.ListN.{length, take, drop, length-append}
 use lib.Seq.{take-length}
 use borrow.Author.Tests.{ltb-false, le-leb, lt-leb, lt-ltb, le-ltb, ne_eqb}
 use Rattle.encoding.specs.Result.{first_of}
-use Rattle.encoding.specs.ResultLaws.{first_of_ok}
+use Rattle.encoding.proofs.ResultLaws.{first_of_ok}
 use Rattle.encoding.specs.Utf8.{is_utf8}
 use Rattle.encoding.specs.Number.{le_bytes, size_bytes}
-use Rattle.encoding.specs.NumberLaws.{length_le_bytes}
+use Rattle.encoding.proofs.NumberLaws.{length_le_bytes}
 use Rattle.encoding.specs.Message.{limit}
 use Rattle.encoding.specs.Write.{Out, out, stop, next, stopped_first, bounded, output, writing_of}
 use Rattle.encoding.specs.declared.Writing.{Writing}
@@ -25,8 +25,9 @@ use Rattle.encoding.specs.declared.Writing.TheVariants.{Written, Rejected}
 use Rattle.wire.specs.Put.{put}
 use Rattle.wire.specs.PutLaws.{put_put, put_front, put_length}
 use Rattle.endpoint.specs.Endpoint.{opens, timed, no_port, timeout_bytes, endpoint_bytes, address_of, argument_form, endpoint_writing}
-use Rattle.endpoint.specs.EndpointLaws.{opens_step, opens_not, is_timed, written_ok, bounded_ok}
-use Rattle.endpoint.specs.Layout.{bit, needed_length, head_bytes, tail_bytes, length_head, needed_is, layout}
+use Rattle.endpoint.proofs.EndpointLaws.{opens_step, opens_not, is_timed, written_ok, bounded_ok}
+use Rattle.endpoint.specs.Layout.{bit, needed_length, head_bytes, tail_bytes}
+use Rattle.endpoint.proofs.LayoutLaws.{length_head, needed_is, layout}
 use Rattle.endpoint.proofs.Openings.{not_dialled, one_of, next_put}
 
 -- ---- the arguments

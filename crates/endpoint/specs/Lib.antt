@@ -2,9 +2,5 @@
 pub mod Endpoint
 pub mod Parts
 pub mod EndpointDemands
-pub mod EndpointLaws
-pub mod RefusalLaws
 pub mod Layout
-pub mod OpenRefusals
-pub mod EndpointCases
 pub mod Promises

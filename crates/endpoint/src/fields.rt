@@ -9,7 +9,7 @@ ghost use Rattle.endpoint.specs.Parts.{settings, tail, settings_fields, tail_fie
 use wire::{Sized, Step};
 
 // The host's length, port, timeout, compress and the bytes taken; or a refusal's number and place.
-#[derive(Drop)]
+#[derive(Clone, Copy)]
 pub enum Fields {
     Are(usize, usize, usize, usize, usize),
     Arent(usize, usize),

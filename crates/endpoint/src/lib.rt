@@ -1,5 +1,7 @@
 // One endpoint of a proxy, opened and written (document 02, M-106). No public call asks anything of its input.
 // fields.rt reads what an endpoint of TCP, SSL and UDP holds, writes.rt puts it.
+#![tactic(auto)]
+
 pub mod fields;
 pub mod writes;
 
@@ -13,7 +15,7 @@ use wire::Step;
 pub use writes::{endpoint_written, write_endpoint};
 
 // Type, place and length of the host, port, timeout, compress; the type of an endpoint that is not opened; or a refusal's number and place.
-#[derive(Drop)]
+#[derive(Clone, Copy)]
 pub enum Opened {
     Is(u32, u32, u32, u32, u32, u32),
     Unopened(u32),

@@ -1,6 +1,6 @@
 -- The answer of the proxy reader to one endpoint, then 18. The numbers fit 32 bits.
 use borrow.Author.Rules.{rules}
-use Rattle.endpoint.proofs.Openings.{unopened_fit, unopened_more, unopened_done, unopened_number, unopened_place, unopened_bad}
+use Rattle.endpoint.proofs.Openings.{unopened_more, unopened_done, unopened_number, unopened_place, unopened_bad}
 use Rattle.endpoint.proofs.unopened.Statement.{statement}
 use Rattle.endpoint.proofs.unopened.Tie as tie
 

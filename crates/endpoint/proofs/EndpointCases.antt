@@ -6,7 +6,7 @@
 --   written_right            the writer makes just these bytes; a timeout given for UDP is not written
 use Rattle.std.specs.Prelude.{◌≡◌, refl, List, [], ◌∷◌, ◌++◌, map, ℕ}
 use Rattle.encoding.specs.Write
-use Rattle.encoding.specs.Cases.{computed}
+use Rattle.encoding.proofs.Cases.{computed}
 use Rattle.endpoint.specs.Endpoint
 
 abbrev pub tcp : List ℕ

@@ -2,23 +2,23 @@
 --
 --   in_endpoint, over_endpoint   an endpoint that is opened, by what its declared bytes give
 --   open_refused                 all of them
-use Rattle.std.specs.Prelude.{◌≡◌, refl, Bool, true, false, List, [], ◌∷◌, ◌++◌, ℕ, zero, suc, ◌+◌, ◌-◌, ◌*◌, ◌^◌, ◌≤◌, ◌<◌, take, eqb, leb, ltb}
+use Rattle.std.specs.Prelude.{◌≡◌, refl, Bool, true, false, List, [], ◌∷◌, ◌++◌, ℕ, suc, ◌+◌, ◌-◌, ◌*◌, ◌^◌, ◌≤◌, ◌<◌, take}
 use Rattle.std.proofs.Common.{sym, ◌∙◌, subst, append-nil, length-append, length-drop}
 use Rattle.std.proofs.Math.Path.{ap}
 use native.Mathlib.Omega.{arith}
 use Rattle.std.proofs.Math.ListN.{length, drop}
 use Rattle.std.proofs.Math.Seq.{drop_at}
 use borrow.Author.Tests.{le-leb, lt-leb, lt-ltb, le-ltb, ne_eqb}
-use Rattle.encoding.specs.Result.{Res, ok, bad, Parser, pick, shift, after, ◌>>=◌, pure, chunk, at_first, item, judged, must, made, mapc, leave, enter, inside, first_of}
-use Rattle.encoding.specs.ResultLaws.{bind_bad, bind_next, chunk_step, chunk_written, must_step}
+use Rattle.encoding.specs.Result.{ok, bad, Parser, pick, shift, after, ◌>>=◌, pure, chunk, at_first, item, judged, must, made, mapc, leave, enter, inside, first_of}
+use Rattle.encoding.proofs.ResultLaws.{bind_bad, bind_next, chunk_step, chunk_written, must_step}
 use Rattle.encoding.specs.Utf8.{Utf8}
 use Rattle.encoding.specs.Number.{val, negative, number, byte, bool_form, le_bytes, length_form, size_bytes, string, string_bytes, declared}
-use Rattle.encoding.specs.NumberLaws.{length_le_bytes, number_written, byte_written, content_step, string_written, declared_written}
+use Rattle.encoding.proofs.NumberLaws.{length_le_bytes, number_written, byte_written, content_step, string_written, declared_written}
 use Rattle.encoding.specs.Message.{ended, limit, refused_first}
 use Rattle.endpoint.specs.Endpoint.{endpoint_version, Address, Endpoint, opened, unopened, opens, timed, port_form, address_bytes, endpoint_bytes, port, timeout, flag, address, versioned, encapsulated, typed, open_endpoint}
-use Rattle.endpoint.specs.EndpointDemands.{Dials, Proper, Port, Framed, port_place, Timeout, four, none, compress_place, OpenRefusals, OpenRefused}
-use Rattle.endpoint.specs.EndpointLaws.{opens_step, opens_not, dials_few, is_timed, wrong_port, four_written, port_written, address_written, version_written, host_within, lastly, after_port, after_host, typed_written, other_written}
-use Rattle.endpoint.specs.RefusalLaws.{ended_more}
+use Rattle.endpoint.specs.EndpointDemands.{Dials, Proper, Port, Framed, port_place, Timeout, four, none, compress_place, OpenRefused}
+use Rattle.endpoint.proofs.EndpointLaws.{opens_step, dials_few, is_timed, wrong_port, four_written, port_written, address_written, version_written, host_within, lastly, after_port, after_host, typed_written, other_written}
+use Rattle.endpoint.proofs.RefusalLaws.{ended_more}
 
 -- ---- what was written before the reader that refuses
 

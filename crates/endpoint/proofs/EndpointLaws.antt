@@ -5,7 +5,7 @@
 --   endpoint_back, endpoint_again  both round trips
 --   host_there                     the host's place and length
 --   write_refused                  the writer's refusals
-use Rattle.std.specs.Prelude.{◌≡◌, Bool, ◌&&◌, ◌||◌, not, ℕ, zero, suc, ◌+◌, ◌*◌, ◌^◌, ◌≤◌, ◌<◌, take, drop, eqb, leb, ltb}
+use Rattle.std.specs.Prelude.{◌≡◌, Bool, ◌&&◌, ◌||◌, ℕ, zero, suc, ◌+◌, ◌^◌, ◌≤◌, ◌<◌, take, drop, eqb, leb, ltb}
 use Rattle.std.proofs.Math.Path.{refl, ap, ap₂, subst}
 use Rattle.std.proofs.Common.{sym, ◌∙◌, arith, length-append, take-append-drop, drop_at, take_at, eqb-true, leb-true, ltb-true, ltb-false, lt-ltb, le-ltb, le-leb, eq-eqb, ne_eqb}
 use Rattle.std.proofs.Math.Bool.{true, false, true≢false}
@@ -13,18 +13,18 @@ use mathlib.Core.List.{List, [], ◌∷◌, ◌++◌, append_assoc, append-nil}
 use Rattle.std.proofs.Math.ListN.{length}
 use Rattle.std.proofs.Math.Seq.{drop-length, take-length}
 use Rattle.std.proofs.lemmas.Bool.{eqb-false, not-false}
-use Rattle.encoding.specs.Result.{Res, ok, bad, Parser, pick, ◌>>=◌, pure, must, mapc, inside, first_of}
-use Rattle.encoding.specs.ResultLaws.{ok≢bad, both_true, either_false, first_of_ok, pick_ok, pick_true, Bound, bind_ok, bind_step, bind_take, pure_ok, must_ok, must_step, mapc_ok, mapc_step, Entered, inside_ok, inside_step}
+use Rattle.encoding.specs.Result.{ok, Parser, pick, ◌>>=◌, pure, must, mapc, inside, first_of}
+use Rattle.encoding.proofs.ResultLaws.{ok≢bad, both_true, either_false, first_of_ok, pick_ok, pick_true, Bound, bind_ok, bind_step, bind_take, pure_ok, must_ok, must_step, mapc_ok, mapc_step, Entered, inside_ok, inside_step}
 use Rattle.encoding.specs.Utf8.{is_utf8, Utf8}
-use Rattle.encoding.specs.Utf8Laws.{utf8_ok, utf8_step}
+use Rattle.encoding.proofs.Utf8Laws.{utf8_ok, utf8_step}
 use Rattle.encoding.specs.Number.{Bytes, number, byte, le_bytes, size_bytes, string, string_bytes, declared, bool_form}
-use Rattle.encoding.specs.NumberLaws.{bytes_take, bytes_drop, bytes_end, length_le_bytes, number_written, number_canonical, byte_written, byte_canonical, content_ok, content_step, string_written, string_canonical, declared_written, declared_canonical}
+use Rattle.encoding.proofs.NumberLaws.{bytes_take, bytes_drop, bytes_end, length_le_bytes, number_written, number_canonical, byte_written, byte_canonical, content_ok, content_step, string_written, string_canonical, declared_written, declared_canonical}
 use Rattle.encoding.specs.Slice.{sliced}
 use Rattle.encoding.specs.Message.{v11, encapsulate, ended, limit, refused_first}
-use Rattle.encoding.specs.MessageLaws.{ended_ok, length_encapsulate}
+use Rattle.encoding.proofs.MessageLaws.{ended_ok, length_encapsulate}
 use Rattle.encoding.specs.Write.{Out, out, stop, next, stopped_first, bounded}
 use Rattle.endpoint.specs.Endpoint.{endpoint_version, Address, Endpoint, opened, unopened, opens, timed, no_port, port_form, timeout_bytes, address_bytes, endpoint_bytes, port, timeout, flag, address, versioned, encapsulated, typed, open_endpoint, host_place, address_of, argument_form, endpoint_writing}
-use Rattle.endpoint.specs.EndpointDemands.{Dials, tcp, ssl, udp, Proper, EndpointExact, Other, OtherExact, EndpointBack, EndpointAgain, HostThere, Port, Needed, WriteRefusals, WriteRefused}
+use Rattle.endpoint.specs.EndpointDemands.{Dials, tcp, ssl, udp, Proper, EndpointExact, Other, OtherExact, EndpointBack, EndpointAgain, HostThere, Port, WriteRefused}
 
 -- ---- tests
 

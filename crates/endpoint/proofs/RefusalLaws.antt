@@ -1,18 +1,18 @@
 -- Every refusal of opening is one of those that M-106 lists, within the bytes: each way of joining readers keeps this. Assumes nothing.
 --
 --   ended_more, ended_done   bytes left, or none, after what was read
---   held-..        what the readers take, and where they refuse, lies within the input
---   Refuses Q p    each refusal number of p has the property Q; refuses-..: each way of joining readers keeps this
+--   held_..        what the readers take, and where they refuse, lies within the input
+--   Refuses Q p    each refusal number of p has the property Q; refuses_..: each way of joining readers keeps this
 --   open_within    both of opening
 use Rattle.std.specs.Prelude.{◌≡◌, refl, Bool, List, [], ◌∷◌, length, take, drop, eqb, leb, ltb}
-use Rattle.std.proofs.Common.{sym, ap, ◌∙◌, subst, arith, ne_eqb}
+use Rattle.std.proofs.Common.{sym, subst, arith, ne_eqb}
 use Rattle.std.proofs.Math.Bool.{true, false}
-use Prim.Native.Nat.{ℕ, zero, suc, ◌+◌, ◌≤◌, ◌<◌}
+use Prim.Native.Nat.{ℕ, zero, suc, ◌≤◌, ◌<◌}
 use Rattle.encoding.specs.Result.{Res, ok, bad, Parser, pick, shift, after, ◌>>=◌, pure, chunk, skip, at_first, item, judged, must, made, mapc, leave, enter, inside, first_of}
-use Rattle.encoding.specs.ResultLaws.{Lies, Held, held_bind, held_pure, held_pick, held_chunk, held_must, held_mapc, held_inside}
+use Rattle.encoding.proofs.ResultLaws.{Lies, Held, held_bind, held_pure, held_pick, held_chunk, held_must, held_mapc, held_inside}
 use Rattle.encoding.specs.Utf8.{is_utf8}
 use Rattle.encoding.specs.Number.{negative, number, byte, bool_form, size_form, size_tail, size, length_form, Content, string, declared}
-use Rattle.encoding.specs.NumberLaws.{held_byte, held_string, held_declared, ends_declared}
+use Rattle.encoding.proofs.NumberLaws.{held_byte, held_string, held_declared, ends_declared}
 use Rattle.encoding.specs.Proxy.{endpoint}
 use Rattle.encoding.specs.Message.{ended, limit, refused_first}
 use Rattle.endpoint.specs.Endpoint.{endpoint_version, Endpoint, opened, unopened, opens, timed, no_port, port_form, port, timeout, flag, address, versioned, encapsulated, typed, open_endpoint}
