@@ -1,31 +1,31 @@
 -- The cases of finding an endpoint in its proxy, by the answers of the readers that are called; every number fits 32 bits. Assumes nothing.
 --
---   counted-.., referenced-.., generals-..   the general parameters, one reader after another
---   passed-..         the endpoints before the wanted one, then that one
---   spot-..           by the number of endpoints
---   at-..             3, the proxy's own refusals, 18
---   near-.., three_put, put-.., room_at, roomy_at   22 last; the three numbers
+--   counted_.., referenced_.., generals_..   the general parameters, one reader after another
+--   passed_..         the endpoints before the wanted one, then that one
+--   spot_..           by the number of endpoints
+--   at_..             3, the proxy's own refusals, 18
+--   near_.., three_put, put_.., room_at, roomy_at   22 last; the three numbers
 use mathlib.Core.Path.{◌≡◌, refl, sym, ap, ◌∙◌, subst}
 use mathlib.Core.Bool.{Bool, true, false}
-use mathlib.Core.List.{List, [], ◌∷◌, ◌++◌}
-use Prim.Native.Nat.{ℕ, zero, suc, ◌+◌, ◌-◌, ◌^◌, ◌≤◌, ◌<◌}
+use mathlib.Core.List.{List, ◌++◌}
+use Prim.Native.Nat.{ℕ, ◌+◌, ◌-◌, ◌^◌, ◌≤◌, ◌<◌}
 use native.Mathlib.Omega.{arith}
 use native.Mathlib.Nat.{add-zero}
 use lib.ListN.{length, take, drop, length-append, length-drop}
 use lib.Seq.{drop-drop}
-use lib.Dec.{eqb, leb, ltb}
+use lib.Dec.{eqb, leb}
 use borrow.Author.Tests.{leb-true, le-leb, lt-leb, lt-ltb, le-ltb, ne_eqb}
 use mir.Syntax.{w64}
 use mir.Val.{Fits}
-use Rattle.encoding.specs.Result.{Res, ok, bad, Parser, pick, shift, after, ◌>>=◌, pure, chunk, skip, made, mapc, times, first_of}
-use Rattle.encoding.specs.ResultLaws.{Bound, bind_ok, pure_ok, Held, held_took, held_refused, held_bind, held_pure, held_pick, held_skip, held_mapc, held_times}
+use Rattle.encoding.specs.Result.{ok, bad, Parser, pick, shift, after, ◌>>=◌, pure, chunk, skip, made, mapc, times, first_of}
+use Rattle.encoding.proofs.ResultLaws.{Bound, bind_ok, pure_ok, Held, held_took, held_refused, held_times}
 use Rattle.encoding.specs.Number.{size, le_bytes}
-use Rattle.encoding.specs.NumberLaws.{held_size, length_le_bytes}
+use Rattle.encoding.proofs.NumberLaws.{held_size, length_le_bytes}
 use Rattle.encoding.specs.Types.{proxy as proxy-type}
 use Rattle.encoding.specs.Value.{value}
-use Rattle.encoding.specs.ValueLaws.{held_value, held_endpoint, held_identity}
-use Rattle.encoding.specs.Proxy.{identity, facets, endpoint, proxy}
-use Rattle.encoding.specs.Message.{ended, limit, refused_first}
+use Rattle.encoding.proofs.ValueLaws.{held_value, held_endpoint}
+use Rattle.encoding.specs.Proxy.{facets, endpoint, proxy}
+use Rattle.encoding.specs.Message.{limit, refused_first}
 use Rattle.wire.specs.declared.Step.{Step}
 use Rattle.wire.specs.declared.Step.TheVariants.{Took, Fault}
 use Rattle.wire.specs.declared.Sized.{Sized}
@@ -38,8 +38,8 @@ use Rattle.wire.specs.PutLaws.{put_front}
 use Rattle.proxy.specs.Parts.{named}
 use Rattle.locate.specs.declared.Located.{Located}
 use Rattle.locate.specs.declared.Located.TheVariants.{At, Refused}
-use Rattle.locate.specs.Locate.{Spot, counted, referenced, generals, started, apart, placed, spot_at, unless_bad, locating, located_of, three_bytes, located_within, with_located, RoomyAt}
-use Rattle.endpoint.specs.RefusalLaws.{ended_more, ended_done, told_bad}
+use Rattle.locate.specs.Locate.{counted, referenced, generals, started, apart, placed, spot_at, unless_bad, locating, located_of, three_bytes, located_within, with_located, RoomyAt}
+use Rattle.endpoint.proofs.RefusalLaws.{ended_more, ended_done, told_bad}
 use Rattle.locate.specs.ProxyRefusals.{held_facets, held_counted, held_referenced, held_named, held_generals, Few, few_endpoint, few_endpoint_list, few_proxy, few_generals}
 use Rattle.endpoint.proofs.Openings.{next_put}
 

@@ -3,9 +3,9 @@
 --   full, adapted    a proxy with two endpoints; one with an adapter
 --   found            how many endpoints there are, place and length of one; a proxy that is refused
 use Rattle.std.specs.Prelude.{◌≡◌, refl, List, [], ◌∷◌, ◌++◌, ℕ}
-use Rattle.encoding.specs.Cases.{computed}
+use Rattle.encoding.proofs.Cases.{computed}
 use Rattle.proxy.specs.Parts
-use Rattle.endpoint.specs.EndpointCases.{tcp, udp}
+use Rattle.endpoint.proofs.EndpointCases.{tcp, udp}
 use Rattle.locate.specs.Locate
 
 -- identity `n`, no category, no facet, twoway, not secure, protocol 1.0, encoding 1.1

@@ -3,19 +3,19 @@
 --   Counts, proxy_counts    how many endpoints an accepted proxy has, and that they follow
 --   times_part              one reading of many
 --   locate_refused, locate_there    the promises
-use Rattle.std.specs.Prelude.{◌≡◌, refl, Bool, true, false, List, ℕ, zero, suc, ◌+◌, ◌≤◌, ◌<◌, length, take, drop, eqb, ltb}
+use Rattle.std.specs.Prelude.{◌≡◌, refl, Bool, true, false, List, ℕ, zero, suc, ◌+◌, ◌≤◌, ◌<◌, length, drop, eqb, ltb}
 use Rattle.std.proofs.Common.{sym, ap, ◌∙◌, arith, add-zero, length-drop, drop-drop, eqb-true, ltb-true, ltb-false, lt-ltb, le-ltb}
-use Rattle.encoding.specs.Result.{Res, ok, bad, Parser, pick, shift, after, ◌>>=◌, pure, chunk, skip, must, made, mapc, times, first_of}
-use Rattle.encoding.specs.ResultLaws.{Bound, bind_ok, bind_step, pure_ok, chunk_ok, chunk_step, must_ok, mapc_ok, mapc_step, held_took, held_times}
+use Rattle.encoding.specs.Result.{ok, Parser, pick, shift, after, ◌>>=◌, pure, chunk, skip, must, made, mapc, times, first_of}
+use Rattle.encoding.proofs.ResultLaws.{Bound, bind_ok, bind_step, pure_ok, chunk_ok, chunk_step, must_ok, mapc_ok, mapc_step, held_took, held_times}
 use Rattle.encoding.specs.Number.{byte, bool, bool_form, size}
-use Rattle.encoding.specs.NumberLaws.{held_byte, byte_canonical}
-use Rattle.encoding.specs.ValueLaws.{held_endpoint}
+use Rattle.encoding.proofs.NumberLaws.{held_byte, byte_canonical}
+use Rattle.encoding.proofs.ValueLaws.{held_endpoint}
 use Rattle.encoding.specs.Proxy.{identity, text, facets, mode_form, endpoint, endpoints, versions, reference, proxy}
-use Rattle.encoding.specs.Message.{ended, limit, refused_first}
+use Rattle.encoding.specs.Message.{limit, refused_first}
 use Rattle.proxy.specs.Parts.{named}
 use Rattle.locate.specs.Locate.{Spot, counted, referenced, generals, started, apart, placed, spot_at, unless_bad, locating}
-use Rattle.locate.specs.LocateDemands.{LocateRefusals, LocateRefused, Found, LocateThere}
-use Rattle.endpoint.specs.RefusalLaws.{ended_more, ended_done}
+use Rattle.locate.specs.LocateDemands.{LocateRefused, Found, LocateThere}
+use Rattle.endpoint.proofs.RefusalLaws.{ended_more, ended_done}
 use Rattle.locate.specs.ProxyRefusals.{held_generals}
 
 -- ---- refusals

@@ -1,19 +1,19 @@
 -- What is read of a proxy lies within it, and every refusal of it has a small number. Assumes nothing.
 --
---   held-..          what is read before the endpoints
+--   held_..          what is read before the endpoints
 --   Few              at most 27
---   few-..           the refusals of a proxy, of what is read before its endpoints, of its endpoints
+--   few_..           the refusals of a proxy, of what is read before its endpoints, of its endpoints
 use Rattle.std.specs.Prelude.{false, ◌&&◌, ℕ, zero, suc, ◌≤◌, length, eqb, ltb}
 use Rattle.std.proofs.Common.{arith}
-use Rattle.encoding.specs.Result.{Parser, pick, ◌>>=◌, pure, skip, must, mapc, times}
-use Rattle.encoding.specs.ResultLaws.{Held, held_bind, held_pure, held_pick, held_skip, held_must, held_mapc, held_times}
+use Rattle.encoding.specs.Result.{Parser, pick, pure, skip, must, times}
+use Rattle.encoding.proofs.ResultLaws.{Held, held_bind, held_pure, held_pick, held_skip, held_must, held_mapc, held_times}
 use Rattle.encoding.specs.Number.{byte, bool, bool_form, size, string}
-use Rattle.encoding.specs.NumberLaws.{held_size}
-use Rattle.encoding.specs.ValueLaws.{held_text, held_identity}
+use Rattle.encoding.proofs.NumberLaws.{held_size}
+use Rattle.encoding.proofs.ValueLaws.{held_text, held_identity}
 use Rattle.encoding.specs.Proxy.{identity_form, identity, facet_form, text, facets, mode_form, endpoint, endpoints, versions, reference, proxy}
 use Rattle.proxy.specs.Parts.{named}
 use Rattle.locate.specs.Locate.{counted, referenced, generals}
-use Rattle.endpoint.specs.RefusalLaws.{Refuses, Judged, refuses_bind, refuses_pure, refuses_pick, pick_judges, refuses_must, refuses_mapc, refuses_chunk, refuses_number, refuses_bool, refuses_size, refuses_string, refuses_endpoint}
+use Rattle.endpoint.proofs.RefusalLaws.{Refuses, Judged, refuses_bind, refuses_pure, refuses_pick, pick_judges, refuses_must, refuses_mapc, refuses_chunk, refuses_number, refuses_bool, refuses_size, refuses_string, refuses_endpoint}
 
 -- ---- within the input
 

@@ -1,4 +1,6 @@
 // Where an endpoint is in its proxy (document 02, M-106): the general parameters and the endpoints before it are passed over. No public call asks anything of its input.
+#![tactic(auto)]
+
 ghost use Rattle.std.specs.Prelude.{◌≡◌, ◌++◌, ◌≤◌, ◌<◌, length, drop};
 ghost use Rattle.encoding.specs.Result.{shift};
 ghost use Rattle.wire.specs.Steps.{sized_of};
@@ -7,7 +9,7 @@ ghost use Rattle.locate.specs.Locate.{counted, referenced, generals, placed, spo
 use wire::{Sized, Step};
 
 // How many endpoints a proxy has, and place and length of the wanted one, both 0 if there is none; or a refusal's number and place.
-#[derive(Drop)]
+#[derive(Clone, Copy)]
 pub enum Located {
     At(u32, u32, u32),
     Refused(u32, u32),
