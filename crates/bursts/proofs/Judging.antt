@@ -1,6 +1,6 @@
 -- One entry by the code's tests, and the loop of the check over the entries. Assumes nothing.
 --
---   enter-..                         an entry's message and burst by their tests
+--   enter_..                         an entry's message and burst by their tests
 --   Passed                           what the loop keeps of the entries so far
 --   judged_begin, judged_astray      before the first entry, by its burst number
 --   judged_stuck, judged_late        an entry that breaks a rule
@@ -18,8 +18,8 @@ use Rattle.bursts.specs.declared.Risen.TheVariants.{To, Late}
 use Rattle.bursts.specs.Bursts.{Entry, waitings, entries, checking}
 use Rattle.bursts.specs.BurstDemands.{entry_at}
 use Rattle.bursts.specs.Running.{Known, rising, opening, packing, entering}
-use Rattle.bursts.specs.RunningLaws.{Running, Opens, opens_of, opens_not, running_begin, running_before, running_broken, running_late, running_stuck, running_known, running_next, running_missing, running_sound}
-use Rattle.bursts.specs.PairLaws.{waitings_count, entries_count, length_at, entry_pair}
+use Rattle.bursts.proofs.RunningLaws.{Running, Opens, opens_of, opens_not, running_begin, running_before, running_broken, running_late, running_stuck, running_known, running_next, running_missing, running_sound}
+use Rattle.bursts.proofs.PairLaws.{waitings_count, entries_count, length_at, entry_pair}
 
 module _ (ms : List ℕ) (last left m b : ℕ) where
   pub enter_unknown : length ms / 2 ≤ m → Full ≡ entering (waitings ms) last left m b

@@ -3,3 +3,9 @@ pub mod Packing
 pub mod Looking
 pub mod Putting
 pub mod Judging
+pub mod BurstCounts
+pub mod BurstLaws
+pub mod BurstPlans
+pub mod PairLaws
+pub mod RunningLaws
+pub mod BurstPromised

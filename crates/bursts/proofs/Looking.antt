@@ -1,8 +1,8 @@
 -- The loops that look through entries and messages: what is left of them decides the answer. Assumes nothing.
 --
---   Looking, looking-..    whether an entry before clashes with a message
---   Seeking, seeking-..    the first message that is too long
---   risen-..               entries are looked through only for a message that is not above all of theirs
+--   Looking, looking_..    whether an entry before clashes with a message
+--   Seeking, seeking_..    the first message that is too long
+--   risen_..               entries are looked through only for a message that is not above all of theirs
 use Rattle.std.proofs.Common.{◌≡◌, ℕ, suc, ◌+◌, ◌*◌, ◌/◌, ◌<◌, ◌≤◌, Bool, true, false, ◌||◌, List, [], ◌∷◌, length, get_or, take, drop, sym, refl, ap, ◌∙◌, subst, add-one, arith, length-take-le, drop-cons, get_or-take, le-ltb, lt-ltb, le-leb}
 use mathlib.Core.Option.{some}
 use borrow.Author.Tests.{lt-leb}
@@ -11,8 +11,8 @@ use Rattle.bursts.specs.declared.Found.TheVariants.{At, Nowhere}
 use Rattle.bursts.specs.Bursts.{Waiting, Entry, most, waitings, entries, message_at, length_of, any_entry, too_long}
 use Rattle.bursts.specs.BurstDemands.{no_entry, entry_at}
 use Rattle.bursts.specs.Running.{Known, clashing, clashes, rising, found_of}
-use Rattle.bursts.specs.RunningLaws.{drop_all}
-use Rattle.bursts.specs.PairLaws.{waitings_count, entries_count, length_at, message_at_lem}
+use Rattle.bursts.proofs.RunningLaws.{drop_all}
+use Rattle.bursts.proofs.PairLaws.{waitings_count, entries_count, length_at, message_at_lem}
 
 -- ---- the entries before
 

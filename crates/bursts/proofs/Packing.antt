@@ -1,11 +1,11 @@
 -- What a burst has left after one message more, the burst that a message goes to, and a message's cabin, by the code's tests. Assumes nothing.
 --
---   put-.., pack-..          what a burst has left, or that it is full
---   opens-..                 the first burst number
---   in-.., new-.., whole-..  the burst that a message goes to
---   room-..                  the bytes left in a burst
+--   put_.., pack_..          what a burst has left, or that it is full
+--   opens_..                 the first burst number
+--   in_.., new_.., whole_..  the burst that a message goes to
+--   room_..                  the bytes left in a burst
 --   cabin_known              the cabin of a message
---   clash-..                 whether a message may not be before another
+--   clash_..                 whether a message may not be before another
 use Rattle.std.proofs.Common.{◌≡◌, ℕ, suc, ◌+◌, ◌-◌, ◌*◌, ◌/◌, ◌%◌, ◌^◌, ◌<◌, ◌≤◌, Bool, true, false, ◌||◌, eqb, leb, List, [], ◌∷◌, length, get_or, sym, refl, ap, ◌∙◌, arith, eq-eqb, ne_eqb, eqb-true, le-leb}
 use borrow.Author.Tests.{eqb-false, lt-leb}
 use Rattle.encoding.specs.Result.{pick}
@@ -13,7 +13,7 @@ use Rattle.bursts.specs.declared.Packed.{Packed}
 use Rattle.bursts.specs.declared.Packed.TheVariants.{Holds, Full}
 use Rattle.bursts.specs.Bursts.{most, waitings, entries, cabin_of}
 use Rattle.bursts.specs.Running.{clashing, opening, may_follow, packed, packing}
-use Rattle.bursts.specs.PairLaws.{cabin_at}
+use Rattle.bursts.proofs.PairLaws.{cabin_at}
 
 module _ (room n : ℕ) where
   pub put_in : n ≤ room → Holds (room - n) ≡ packed room n

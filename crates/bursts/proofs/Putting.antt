@@ -2,9 +2,9 @@
 --
 --   plan_count               a plan has an entry for each message
 --   filled                   the lent list after the loop
---   Putting, putting-..      the messages left make the rest of the lent list
---   answer-..                the answer by the first message that is too long and the room
---   listed-..                the lent list after the call
+--   Putting, putting_..      the messages left make the rest of the lent list
+--   answer_..                the answer by the first message that is too long and the room
+--   listed_..                the lent list after the call
 use Rattle.std.proofs.Common.{◌≡◌, ℕ, suc, ◌+◌, ◌-◌, ◌*◌, ◌/◌, ◌<◌, ◌≤◌, Bool, true, false, leb, List, [], ◌∷◌, ◌++◌, length, get_or, take, drop, set, sym, refl, ap, ◌∙◌, ap₂, append_assoc, add-one, arith, length-set, take-append-drop, drop-cons, take-suc-set, drop-set-lt, le-leb, leb-true}
 use mathlib.Core.Option.{Option, none, some}
 use borrow.Author.Tests.{lt-leb}
@@ -15,8 +15,8 @@ use Rattle.bursts.specs.declared.Planned.{Planned}
 use Rattle.bursts.specs.declared.Planned.TheVariants.{Made, Unplanned}
 use Rattle.bursts.specs.Bursts.{Waiting, most, waitings, message_at, length_of, too_long, fill, plan, Plan, plan_of, no_plan, entry_room, plan_within, planning, entry_numbers, plan_listed, planned_of}
 use Rattle.bursts.specs.Running.{found_of}
-use Rattle.bursts.specs.RunningLaws.{drop_all}
-use Rattle.bursts.specs.PairLaws.{waitings_count, length_at}
+use Rattle.bursts.proofs.RunningLaws.{drop_all}
+use Rattle.bursts.proofs.PairLaws.{waitings_count, length_at}
 
 -- ---- the loop
 

@@ -2,9 +2,4 @@
 pub mod Bursts
 pub mod Running
 pub mod BurstDemands
-pub mod PairLaws
-pub mod BurstLaws
-pub mod BurstCounts
-pub mod RunningLaws
-pub mod BurstPlans
 pub mod BurstPromises

@@ -1,48 +1,50 @@
 // Satellite bursts of at most 340 bytes: the check of a plan, and a simple planner.
 // Lent lists hold pairs of numbers: length and cabin of a waiting message, message number and burst number of an entry. Half a pair at the end is ignored.
 // The check needs no memory of its own. While message numbers rise it looks at each entry once; if one does not rise, it looks through the entries before it.
+#![tactic(auto)]
+
 ghost use Rattle.std.specs.Prelude.{◌≡◌, suc, ◌-◌, ◌*◌, ◌/◌, ◌<◌, ◌≤◌, ◌++◌, length, take, drop, ◌==◌, nat_le};
 ghost use Rattle.encoding.specs.Result.{pick};
 ghost use Rattle.bursts.specs.Bursts.{most, waitings, entries as entries_of, cabin_of, checking, too_long, plan as plan_of, entry_numbers, planning, planned_of, plan_listed};
 ghost use Rattle.bursts.specs.Running.{Known, clashing, clashes, rising, opening, packed, packing, entering, found_of};
 
 // The plan is accepted; or the place of its 46.
-#[derive(Drop)]
+#[derive(Clone, Copy)]
 pub enum Checked {
     Sound,
     Breaks(u64),
 }
 
 // The number of entries; or a refusal's number and place.
-#[derive(Drop)]
+#[derive(Clone, Copy)]
 pub enum Planned {
     Made(u64),
     Unplanned(u32, u64),
 }
 
 // The bytes that a burst has left after one message more; or the message cannot go there.
-#[derive(Drop)]
+#[derive(Clone, Copy)]
 enum Packed {
     Holds(u64),
     Full,
 }
 
 // A number above a message and all before it; or the message may not come after one of them.
-#[derive(Drop)]
+#[derive(Clone, Copy)]
 enum Risen {
     To(u64),
     Late,
 }
 
 // A burst's number and the bytes that it has left.
-#[derive(Drop)]
+#[derive(Clone, Copy)]
 struct Burst {
     number: u64,
     left: u64,
 }
 
 // The number of a message; or there is none.
-#[derive(Drop)]
+#[derive(Clone, Copy)]
 enum Found {
     At(u64),
     Nowhere,

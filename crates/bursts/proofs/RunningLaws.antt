@@ -7,7 +7,7 @@ use Rattle.std.proofs.Common.{◌∙◌, subst, true≢false, take-suc, take_all
 use native.Mathlib.Omega.{arith}
 use borrow.Author.Tests.{eqb-true, eqb-false, leb-true, leb-false, ltb-true, ltb-false, lt-ltb, le-ltb, le-leb, lt-leb, eq-eqb, ne_eqb}
 use Rattle.encoding.specs.Result.{pick}
-use Rattle.encoding.specs.ResultLaws.{both_true}
+use Rattle.encoding.proofs.ResultLaws.{both_true}
 use Rattle.bursts.specs.declared.Checked.TheVariants.{Sound, Breaks}
 use Rattle.bursts.specs.declared.Packed.{Packed}
 use Rattle.bursts.specs.declared.Packed.TheVariants.{Holds, Full}
@@ -15,8 +15,8 @@ use Rattle.bursts.specs.declared.Risen.{Risen}
 use Rattle.bursts.specs.declared.Risen.TheVariants.{To, Late}
 use Rattle.bursts.specs.Bursts.{Waiting, Entry, most, length_of, cabin_of, bytes_in, broken_by, first_broken, verdict, judge, missing}
 use Rattle.bursts.specs.BurstDemands.{no_entry, entry_at, Or, one, other, Begun}
-use Rattle.bursts.specs.BurstLaws.{any_found, any_none, Fits, fits_of, of_fits, begun_snoc, begun_empty, broken_here, broken_step, bytes_append, bytes_one, bytes_other}
-use Rattle.bursts.specs.BurstCounts.{missing_counted}
+use Rattle.bursts.proofs.BurstLaws.{any_found, any_none, Fits, fits_of, of_fits, begun_snoc, begun_empty, broken_here, broken_step, bytes_append, bytes_one, bytes_other}
+use Rattle.bursts.proofs.BurstCounts.{missing_counted}
 use Rattle.bursts.specs.Running.{Known, clashing, clashes, rising, opening, may_follow, packed, packing, entering}
 
 pub drop_all : {A : Type 0} (n : ℕ) (l : List A) → length l ≤ n → drop n l ≡ []

@@ -7,11 +7,11 @@ use Rattle.std.proofs.Math.Option.{Option, none, some}
 use Rattle.std.proofs.Math.Seq.{get_or-append_seam, take-append_seam}
 use Rattle.std.proofs.lemmas.List.{take-append-le}
 use Rattle.std.proofs.lemmas.Bool.{lt-leb}
-use Rattle.encoding.specs.ResultLaws.{some≢none}
+use Rattle.encoding.proofs.ResultLaws.{some≢none}
 use Rattle.bursts.specs.Bursts.{Waiting, Entry, most, message_at, length_of, bytes_in, waitings, entries, judge, checking, checked_numbers, too_long, fill, plan, Plan, plan_of, no_plan, entry_room, plan_within, planning, planned_of, planned_numbers, entry_numbers, plan_listed}
 use Rattle.bursts.specs.BurstDemands.{entry_at, Or, one, other, Begun, ProperPlan, PlanPasses, FirstLong, NoneLong, PlanRefused, PlanListed, PlanThrifty}
-use Rattle.bursts.specs.PairLaws.{waitings_count}
-use Rattle.bursts.specs.BurstLaws.{Fits, Spot, inner, last, spot, bytes_append, bytes_one, bytes_other, begun_snoc, begun_empty, judge_checked}
+use Rattle.bursts.proofs.PairLaws.{waitings_count}
+use Rattle.bursts.proofs.BurstLaws.{Fits, Spot, inner, last, spot, bytes_append, bytes_one, bytes_other, begun_snoc, begun_empty, judge_checked}
 
 -- ---- filling
 

@@ -8,7 +8,7 @@ use Rattle.std.proofs.Math.Option.{Option, none, some}
 use Rattle.std.proofs.Math.ListN.{get_or-append}
 use Rattle.std.proofs.Math.Seq.{take-append_seam, get_or-append_seam}
 use Rattle.encoding.specs.Result.{pick}
-use Rattle.encoding.specs.ResultLaws.{some≢none, both_true, either_false}
+use Rattle.encoding.proofs.ResultLaws.{some≢none, both_true, either_false}
 use Rattle.encoding.specs.Table.{range}
 use Rattle.bursts.specs.declared.Checked.{Checked}
 use Rattle.bursts.specs.declared.Checked.TheVariants.{Sound, Breaks}
