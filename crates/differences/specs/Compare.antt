@@ -11,9 +11,9 @@
 --   base_difference, required_differences, optional_differences, differences
 --   same_record, owners_match, matched_by, all_matched, tops_match, extending     document 01's "extends" and the match of the tops, as tests
 --   Comparison, comparing    the call's answer: 1, 1 with the place + 1,000,000, 2, 19; differences_listed: the lent list after it
-use Rattle.std.specs.Prelude.{Bool, true, false, ◌&&◌, ◌||◌, not, List, [], ◌∷◌, ◌++◌, ℕ, zero, suc, ◌+◌, ◌-◌, ◌*◌, ◌/◌, length, drop, eqb, leb, ltb}
+use Rattle.std.specs.Prelude.{Bool, true, false, ◌&&◌, ◌||◌, not, List, [], ◌∷◌, ◌++◌, ℕ, zero, suc, ◌+◌, ◌*◌, ◌/◌, length, drop, eqb, leb, ltb}
 use Rattle.std.proofs.Math.Option.{Option, none, some}
-use Rattle.encoding.specs.Result.{pick, first_of, same_bytes, concat}
+use Rattle.encoding.specs.Result.{pick, same_bytes, concat}
 use Rattle.encoding.specs.Number.{le_bytes}
 use Rattle.encoding.specs.Types.{Allowed, upto, only, Num, short, int, long, float, double, Ty, Tys, nil, cons, broken, bool, byte, string, proxy, old_proxy, num, enum, old_enum, struct, seq, dict}
 use Rattle.encoding.specs.Table.{types, kind, is_record, Fault, fine, fault, faults, rule_number, Member, lookup, search, range, name_of, base}

@@ -10,8 +10,7 @@
 --   CompareOrder     each difference comes before all later ones, so each is listed once
 --   OrderStrict      no difference comes before itself
 --   CompareRefused   when 1, 2 and 19 come, and where
-use Rattle.std.specs.Prelude.{◌≡◌, Bool, true, false, ◌⊎◌, List, [], ◌∷◌, ◌++◌, ℕ, zero, suc, ◌+◌, ◌*◌, ◌≤◌, ◌<◌, length, get_or, eqb}
-use Rattle.std.proofs.Math.Option.{Option, none, some}
+use Rattle.std.specs.Prelude.{◌≡◌, true, false, ◌⊎◌, List, [], ◌∷◌, ℕ, zero, suc, ◌+◌, ◌≤◌, ◌<◌, length, get_or, eqb}
 use Rattle.encoding.specs.Result.{ok, pick}
 use Rattle.encoding.specs.Table.{types, kind, is_record, Fault, fine, fault, faults, rule_number, Member, lookup, name_of, base}
 use Rattle.encoding.specs.Table
@@ -20,7 +19,7 @@ use Rattle.encoding.specs.Slice.{Format}
 use Rattle.encoding.specs.Number.{Bytes}
 use Rattle.laws.specs.Demands.{read_as, Foreign, Understood}
 use Rattle.encoding.specs.Extends.{Extends, TopsMatch, SameRecord, BasesMatch, type_of}
-use Rattle.differences.specs.Compare.{Difference, differences, precedes, member_row, difference_room, Comparison, incomparable, comparing}
+use Rattle.differences.specs.Compare.{Difference, differences, precedes, member_row, difference_room, incomparable, comparing}
 
 -- ---- yes
 

@@ -1,20 +1,20 @@
 -- The further answer of a comparison is yes exactly if the new table extends the old one and the tops match: `compare_yes` of CompareDemands; its refusals: `compare_refused`.
 -- The idea: each test is true exactly if its part of `Extends` or `TopsMatch` holds; a record's partner is the only one, as names differ.
 -- Assumes nothing.
-use Rattle.std.specs.Prelude.{◌≡◌, refl, Bool, true, false, ◌&&◌, ◌||◌, not, ◌⊎◌, List, [], ◌∷◌, ◌++◌, map, ℕ, zero, suc, ◌+◌, ◌-◌, ◌≤◌, ◌<◌, length, get_or, eqb, leb, ltb}
-use Rattle.std.proofs.Common.{sym, ap, ap₂, ◌∙◌, subst, true≢false, inl, inr, arith, eqb-true, leb-true, leb-false, ltb-false, le-leb, le-ltb, eq-eqb}
+use Rattle.std.specs.Prelude.{◌≡◌, refl, Bool, true, false, ◌&&◌, ◌||◌, ◌⊎◌, List, [], ◌∷◌, map, ℕ, zero, suc, ◌+◌, ◌≤◌, ◌<◌, length, get_or, eqb, leb}
+use Rattle.std.proofs.Common.{sym, ap, ap₂, ◌∙◌, true≢false, inl, inr, arith, eqb-true, leb-false, le-leb, le-ltb, eq-eqb}
 use Rattle.std.proofs.lemmas.Bool.{false≢true, lt-leb}
 use Rattle.std.proofs.Math.Option.{Option, none, some}
-use Rattle.encoding.specs.Result.{pick, same_bytes}
-use Rattle.encoding.specs.ResultLaws.{some≢none, both_true, either_false, same_bytes_ok, same_bytes_same}
+use Rattle.encoding.specs.Result.{pick}
+use Rattle.encoding.proofs.ResultLaws.{some≢none, both_true, either_false, same_bytes_ok, same_bytes_same}
 use Rattle.encoding.specs.Types.{Allowed, upto, only, Num, short, int, long, float, double, Ty, Tys, nil, cons, broken, bool, byte, string, proxy, old_proxy, num, enum, old_enum, struct, seq, dict}
 use Rattle.encoding.specs.Table.{types, kind, is_record, Fault, fine, fault, faults, rule_number, Member, lookup, search, range, name_of, base}
 use Rattle.encoding.specs.Table
-use Rattle.encoding.specs.RuleLaws.{names_differ, base_right, record_kind}
+use Rattle.encoding.proofs.RuleLaws.{names_differ, base_right, record_kind}
 use Rattle.encoding.specs.Message.{no_top}
 use Rattle.encoding.specs.Extends.{Extends, TopsMatch, SameRecord, BasesMatch, OwnersMatch, OptionalsMatch, RecordMatch, type_of, as_records, as_lists}
 use Rattle.differences.specs.Compare.{num_index, same_allowed, shape, enums_of, members_of, element_of, value_of, same_ty, same_tys, those, rows_of, records, same_record, row_or_none, partner, agree, required_match, optionals_match, owners_match, bases_match, matched_by, all_matched, tops_match, extending, Comparison, incomparable, no_tops, compared_within, after_both, difference_room, comparing, differences}
-use Rattle.differences.specs.CompareDemands.{CompareYes, CompareRefusals, CompareRefused}
+use Rattle.differences.specs.CompareDemands.{CompareYes, CompareRefused}
 
 -- ---- types
 

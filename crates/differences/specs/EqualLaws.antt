@@ -4,23 +4,23 @@
 --   self_owners       an owner matches itself: the tags of its optionals differ
 --   no_difference     no difference of a table from itself
 --   compare_equal     the promise
-use Rattle.std.specs.Prelude.{◌≡◌, Bool, ◌⊎◌, List, [], ◌∷◌, length, leb, ltb}
+use Rattle.std.specs.Prelude.{◌≡◌, Bool, ◌⊎◌, List, [], ◌∷◌, ltb}
 use Rattle.std.proofs.Math.Path.{refl, ap}
 use Rattle.std.proofs.Common.{sym, ◌∙◌, subst, true≢false, inl, inr, arith, eqb-true, ltb-true, ltb-false, le-leb, eq-eqb}
 use Rattle.std.proofs.Math.Bool.{true, false}
-use Rattle.std.proofs.Math.Option.{Option, none, some}
+use Rattle.std.proofs.Math.Option.{some}
 use Prim.Native.Nat.{ℕ, zero, suc, ◌+◌, ◌-◌, ◌≤◌, ◌<◌}
 use Rattle.std.proofs.Math.Dec.{eqb}
 use Rattle.std.proofs.lemmas.Bool.{eqb-false}
 use Rattle.encoding.specs.Result.{pick}
-use Rattle.encoding.specs.ResultLaws.{some≢none}
+use Rattle.encoding.proofs.ResultLaws.{some≢none}
 use Rattle.encoding.specs.Types.{Ty}
 use Rattle.encoding.specs.Table.{types, kind, is_record, owns, fine, faults, Member, lookup, range, field, mark, tag, member_ty, optionals_in, required_members, optional_members, own_rows, trees, base}
-use Rattle.encoding.specs.RuleLaws.{Own, optional_own, owns_record, record_kind, names_differ, base_right, kind_known, mark_known, tags_differ}
+use Rattle.encoding.proofs.RuleLaws.{optional_own, owns_record, names_differ, base_right, kind_known, mark_known, tags_differ}
 use Rattle.encoding.specs.Message.{no_top}
-use Rattle.encoding.specs.MessageLaws.{top_there}
-use Rattle.encoding.specs.Extends.{SameRecord, BasesMatch, OptionalsMatch, OwnersMatch, RecordMatch, Extends, TopsMatch, as_records, as_lists, type_of}
-use Rattle.laws.specs.MessageNewer.{newer_read}
+use Rattle.encoding.proofs.MessageLaws.{top_there}
+use Rattle.encoding.specs.Extends.{SameRecord, BasesMatch, OptionalsMatch, OwnersMatch, Extends, TopsMatch, as_records, as_lists, type_of}
+use Rattle.laws.proofs.MessageNewer.{newer_read}
 use Rattle.differences.specs.Compare.{Difference, differences, extending, no_tops, compared_within, after_both, difference_room, comparing}
 use Rattle.differences.specs.CompareDemands.{ShippedSafely, CompareEqual, lists_before, ListNumber, Paired, Differs, record_only_old, record_only_new, list_only_old, list_only_new, base_differs, required_differs, optional_differs, In}
 use Rattle.differences.specs.CompareDemands

@@ -1,9 +1,9 @@
 -- The list of differences holds exactly the differences: membership goes through each step that builds the list. Assumes nothing.
 --
---   in-..           members of lists that are joined, put in order, chosen and paired
---   pair-..         which pairs are set against each other
+--   in_..           members of lists that are joined, put in order, chosen and paired
+--   pair_..         which pairs are set against each other
 --   difference_ok, difference_step, compare_finds    each listed difference is one, and each one is listed; the promise
-use Rattle.std.specs.Prelude.{◌≡◌, Bool, ◌&&◌, ◌⊎◌, length, leb, ltb}
+use Rattle.std.specs.Prelude.{◌≡◌, Bool, ◌⊎◌, length, leb, ltb}
 use Rattle.std.proofs.Math.Path.{refl, sym, ap, subst}
 use Rattle.std.proofs.Common.{ap₂, ◌∙◌, add-zero}
 use Rattle.std.proofs.Math.Bool.{true, false, not, true≢false}
@@ -14,13 +14,13 @@ use mathlib.Core.List.{List, [], ◌∷◌, ◌++◌}
 use Prim.Native.Nat.{ℕ, zero, suc, ◌+◌, ◌-◌, ◌≤◌, ◌<◌}
 use native.Mathlib.Omega.{arith}
 use Rattle.std.proofs.Math.Dec.{eqb}
-use borrow.Author.Tests.{eqb-true, eqb-false, leb-true, leb-false, not-true, not-false, eq-eqb, ne_eqb}
+use borrow.Author.Tests.{eqb-true, leb-true, leb-false, not-true, eq-eqb}
 use Rattle.encoding.specs.Result.{pick, same_bytes}
-use Rattle.encoding.specs.ResultLaws.{some≢none, same_bytes_ok, same_bytes_same}
+use Rattle.encoding.proofs.ResultLaws.{some≢none, same_bytes_ok, same_bytes_same}
 use Rattle.encoding.specs.Types.{Ty}
 use Rattle.encoding.specs.Table.{types, kind, is_record, Fault, fine, faults, Member, lookup, range, name_of, base}
 use Rattle.encoding.specs.Table
-use Rattle.encoding.specs.RuleLaws.{names_differ, base_right}
+use Rattle.encoding.proofs.RuleLaws.{names_differ, base_right}
 use Rattle.encoding.specs.Extends.{SameRecord, BasesMatch, type_of}
 use Rattle.differences.specs.Compare
 use Rattle.differences.specs.Compare.{same_ty, insert, ordered, those, rows_of, records, lists, same_record, partner, Pair, old_pairs, new_pairs, record_pairs, paired, list_pairs, Difference, bases_differ, given, base_difference, agree, member_row, member_differences, longer, required_differences, is_there, keys, keys_without, tags_of, optional_differences, owner_differences, pair_differences, all_differences, differences}

@@ -1,13 +1,12 @@
 -- No difference comes before itself: a name, a number, a position and a tag belong to one owner or one member. Assumes nothing.
-use Rattle.std.specs.Prelude.{◌≡◌, refl, Bool, true, false, ◌⊎◌, List, [], ◌∷◌, ℕ, zero, suc, ◌+◌, ◌≤◌, ◌<◌, eqb}
+use Rattle.std.specs.Prelude.{◌≡◌, refl, Bool, true, false, ◌⊎◌, List, [], ◌∷◌, ℕ, zero, suc, ◌≤◌, ◌<◌, eqb}
 use Rattle.std.proofs.Common.{sym, ap, ◌∙◌, subst, true≢false, inl, inr, arith, eqb-true}
 use Rattle.std.proofs.Math.Option.{Option, none, some}
 use Rattle.encoding.specs.Result.{pick}
-use Rattle.encoding.specs.ResultLaws.{some≢none}
+use Rattle.encoding.proofs.ResultLaws.{some≢none}
 use Rattle.encoding.specs.Types.{Ty}
 use Rattle.encoding.specs.Table.{kind, is_record, Member, lookup, range, field, mark, tag, member_ty, requireds_in, required_members, optional_members, own_rows, trees, name_of}
-use Rattle.encoding.specs.RuleLaws.{Own, required_among, optional_own, record_kind}
-use Rattle.encoding.specs.Extends.{type_of}
+use Rattle.encoding.proofs.RuleLaws.{required_among, optional_own}
 use Rattle.differences.specs.Compare.{Difference, member_row, precedes}
 use Rattle.differences.specs.CompareDemands.{ListNumber, MembersDiffer, Differs, record_only_old, record_only_new, list_only_old, list_only_new, base_differs, required_differs, optional_differs, Named, Numbered, Before, by_name, old_first, records_first, by_number, by_what, by_place, OrderStrict}
 use Rattle.differences.specs.CompareDemands
