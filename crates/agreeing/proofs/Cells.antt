@@ -1,17 +1,17 @@
 -- A row's cell, by the cells of the rows below. Types are compared by their cells, so no type tree is walked. Assumes nothing.
 --
---   sort-.., row-..               what the sort of an index says of its type and of its row
---   below-.., index_is            an index as a part, and of a row; member-.. that of a member's type
---   alike-.., part-..             two cells that are there say whether two indexes agree, and two parts
---   Structs, structs-..           the loop over the members of two structs
---   listed-.., Lists, lists-..    the lists of two enums; enums-.. what two enums allow
---   rows-..                       two rows
---   Passed, passed-.., first_broken, agrees-..   the search for the first index that agrees
---   firsts-..                     two first indexes are equal exactly if the types agree
---   rank-.., place-..             ranks, and the place of a cell; Sums, sums-.. the sum of ranks
---   weight-.., weights-.., weighed-..   the weights of indexes
---   own-..                        the cells of the old table as they fill
---   Filled, filled-..             those of both tables; all_members: when all are there
+--   sort_.., row_..               what the sort of an index says of its type and of its row
+--   below_.., index_is            an index as a part, and of a row; member_.. that of a member's type
+--   alike_.., part_..             two cells that are there say whether two indexes agree, and two parts
+--   Structs, structs_..           the loop over the members of two structs
+--   listed_.., Lists, lists_..    the lists of two enums; enums_.. what two enums allow
+--   rows_..                       two rows
+--   Passed, passed_.., first_broken, agrees_..   the search for the first index that agrees
+--   firsts_..                     two first indexes are equal exactly if the types agree
+--   rank_.., place_..             ranks, and the place of a cell; Sums, sums_.. the sum of ranks
+--   weight_.., weights_.., weighed_..   the weights of indexes
+--   own_..                        the cells of the old table as they fill
+--   Filled, filled_..             those of both tables; all_members: when all are there
 use Prim.Native.Nat.{ℕ, zero, suc, ◌+◌, ◌-◌, ◌*◌, ◌≤◌, ◌<◌}
 use mathlib.Core.Path.{◌≡◌, refl, sym, ap, ap₂, ◌∙◌}
 use mathlib.Core.Bool.{Bool, true, false, ◌&&◌, not, true≢false}
@@ -25,10 +25,10 @@ use lib.Seq.{get_or-set_same, get_or-set_other}
 use lib.Dec.{eqb, leb, ltb}
 use borrow.Author.Tests.{leb-true, leb-false, le-leb, lt-leb, lt-ltb, le-ltb, ltb-true, ltb-false, eq-eqb, ne_eqb, not-true, not-false}
 use Rattle.encoding.specs.Result.{pick, same_bytes}
-use Rattle.encoding.specs.ResultLaws.{same_bytes_ok}
+use Rattle.encoding.proofs.ResultLaws.{same_bytes_ok}
 use Rattle.encoding.specs.Types.{upto, only, allowed_of, short, int, long, float, double, Ty, nil, broken, bool, byte, string, proxy, old_proxy, num, enum, old_enum, struct, seq, dict}
 use Rattle.encoding.specs.Table.{with_lists, kind, field, greatest, members, member_type, list_entry, entries_of, allowed, range, member_ty, member_tys, own_rows, tys, part_ty, type_rows, trees, ty_of}
-use Rattle.encoding.specs.TableLaws.{rows_below, ty_past, below_ty, below_none, member_in, member_past, members_more, members_none, row_bool, row_byte, row_short, row_int, row_long, row_float, row_double, row_string, row_enum, row_struct, row_seq, row_dict, row_proxy, row_other}
+use Rattle.encoding.proofs.TableLaws.{rows_below, ty_past, below_ty, below_none, member_in, member_past, members_more, members_none, row_bool, row_byte, row_short, row_int, row_long, row_float, row_double, row_string, row_enum, row_struct, row_seq, row_dict, row_proxy, row_other}
 use Rattle.differences.specs.Compare.{same_allowed, shape, enums_of, members_of, element_of, value_of, same_ty, same_tys}
 use Rattle.differences.specs.CompareLaws.{ty_ok, ty_equal}
 use Rattle.agreeing.specs.Agreeing.{indexed, sort_at, below, is_listed, IsFirst, Firsts, Alike, Agreed, rank_from, rank, Ranked, weigh, Weighed}

@@ -2,6 +2,8 @@
 // A cell is set from the cells of the rows below, and no type tree is walked. The old table's cells come first, the new one's begin at place 257.
 // The weight of a struct is the sum of its members' cells: most structs that differ have different weights and are not compared further.
 // A row's index is its number + 1; index 0 is a broken type, also for a row that the table does not have.
+#![tactic(auto)]
+
 ghost use Rattle.std.specs.Prelude.{◌≡◌, map, ◌+◌, ◌≤◌, ◌<◌, length, get_or, eqb};
 ghost use Rattle.encoding.specs.Result.{same_bytes};
 ghost use Rattle.encoding.specs.Table.{types_at, members_at, entries_at, kind, field, list_entry, allowed, entries_of, range, member_ty, member_tys, own_rows, tys, part_ty, type_rows, trees, ty_of};
