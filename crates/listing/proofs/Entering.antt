@@ -3,17 +3,17 @@
 --   five_put                      five numbers put one after another
 --   entry_put                     a difference in its own bytes of the list
 --   put_here, put_past            listed where there is room, and where there is none
-use mathlib.Core.Path.{◌≡◌, refl, sym, ap, ◌∙◌}
+use mathlib.Core.Path.{◌≡◌, sym, ap, ◌∙◌}
 use mathlib.Core.List.{List, [], ◌∷◌, ◌++◌, append_assoc, append-nil}
-use Prim.Native.Nat.{ℕ, ◌+◌, ◌-◌, ◌*◌, ◌/◌, ◌≤◌, ◌<◌}
+use Prim.Native.Nat.{ℕ, ◌+◌, ◌-◌, ◌*◌, ◌/◌, ◌≤◌}
 use native.Mathlib.Omega.{arith}
 use lib.ListN.{length, take, drop, length-append, drop_of_length-le}
 use lib.Seq.{drop-drop}
 use borrow.Rule.Slice.PartMut.{put_mid}
 use Rattle.encoding.specs.Number.{le_bytes}
-use Rattle.encoding.specs.NumberLaws.{length_le_bytes}
+use Rattle.encoding.proofs.NumberLaws.{length_le_bytes}
 use Rattle.wire.specs.Put.{put}
-use Rattle.wire.specs.PutLaws.{put_put, put_front, put_fits, put_over, put_length}
+use Rattle.wire.specs.PutLaws.{put_put, put_front, put_fits, put_over}
 use Rattle.differences.specs.Compare.{Difference, difference_bytes}
 use Rattle.listing.specs.Listing.{Listed}
 use Rattle.listing.specs.ListingLaws.{length_difference, listed_one}

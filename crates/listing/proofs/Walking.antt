@@ -1,16 +1,16 @@
 -- The differences of members and owners, listed. Assumes nothing.
 --
---   agree-..                      two member rows agree
---   member-..                     the difference of two member rows
---   next-.., follow-..            the loop that looks for a required member, and the next one
---   walk-..                       the loop over required members; required-.. from the first ones on
---   tag-.., tags-.., optional-..  the loop over tags
---   differ-.., bases-..           the bases
---   owner-.., pair-..             two owners, a pair of rows
+--   agree_..                      two member rows agree
+--   member_..                     the difference of two member rows
+--   next_.., follow_..            the loop that looks for a required member, and the next one
+--   walk_..                       the loop over required members; required_.. from the first ones on
+--   tag_.., tags_.., optional_..  the loop over tags
+--   differ_.., bases_..           the bases
+--   owner_.., pair_..             two owners, a pair of rows
 use mathlib.Core.Path.{◌≡◌, refl, sym, ap, ap₂, ◌∙◌}
 use mathlib.Core.Bool.{Bool, true, false, not}
 use mathlib.Core.List.{List, [], ◌∷◌, ◌++◌}
-use Prim.Native.Nat.{ℕ, zero, suc, ◌+◌, ◌-◌, ◌*◌, ◌≤◌, ◌<◌}
+use Prim.Native.Nat.{ℕ, zero, suc, ◌+◌, ◌-◌, ◌≤◌, ◌<◌}
 use native.Mathlib.Numerals.{add-one}
 use native.Mathlib.Omega.{arith}
 use lib.ListN.{length, drop, get_or, length-append, drop_of_length-le}
@@ -18,7 +18,7 @@ use lib.Seq.{drop-cons}
 use lib.Dec.{eqb}
 use borrow.Author.Tests.{eq-eqb, ne_eqb}
 use Rattle.encoding.specs.Result.{pick, same_bytes}
-use Rattle.encoding.specs.Table.{field, mark, range, trees, member_ty, lookup, own_rows, optional_members, name_of, base}
+use Rattle.encoding.specs.Table.{field, range, trees, member_ty, lookup, own_rows, optional_members, name_of, base}
 use Rattle.table.specs.declared.MemberRow.{MemberRow}
 use Rattle.table.specs.Rows.{IsMemberRow}
 use Rattle.table.proofs.Ranges.{range_more, range_none}

@@ -1,34 +1,33 @@
 -- Laws of differences in a lent list. Assumes nothing.
 --
---   listed-..               none, one, some after others
+--   listed_..               none, one, some after others
 --   enter_listed            where all fit: their bytes one after another, and the rest as it was
---   listing-..              a loop that lists
+--   listing_..              a loop that lists
 --   left_all, left_follow, left_none, left_falls    the rows left, from one on
---   paired-..               two lists of rows set against each other, one pair after another
+--   paired_..               two lists of rows set against each other, one pair after another
 --   required_is             the differences of required members, pair by pair
 --   tags_next               those of optional members, tag by tag
 --   required_match_lem          required members match exactly if they have no difference
 --   required_most, optional_most   how many differences there are at most
 use Prim.Native.Nat.{ℕ, zero, suc, ◌+◌, ◌-◌, ◌*◌, ◌≤◌, ◌<◌}
-use Rattle.std.specs.Prelude.{◌≡◌, Bool, ◌&&◌, not, take, drop, leb, ltb}
+use Rattle.std.specs.Prelude.{◌≡◌, Bool, ◌&&◌, not, drop, leb, ltb}
 use Rattle.std.proofs.Math.Path.{refl, ap, ap₂}
 use Rattle.std.proofs.Common.{sym, ◌∙◌, add-zero, leb-true, leb-false, le-leb, eq-eqb, ne_eqb}
 use Rattle.std.proofs.Math.Bool.{true, false}
 use Rattle.std.proofs.Math.Option.{Option, none, some}
-use mathlib.Core.List.{List, [], ◌∷◌, ◌++◌, append_assoc}
+use mathlib.Core.List.{List, [], ◌∷◌, ◌++◌}
 use native.Mathlib.Omega.{arith}
 use Rattle.std.proofs.Math.ListN.{length, length-append}
 use Rattle.std.proofs.Math.Dec.{eqb}
 use Rattle.std.proofs.lemmas.Bool.{lt-leb}
 use Rattle.encoding.specs.Result.{pick, concat}
-use Rattle.encoding.specs.NumberLaws.{length_le_bytes}
+use Rattle.encoding.proofs.NumberLaws.{length_le_bytes}
 use Rattle.encoding.specs.Number.{le_bytes}
-use Rattle.encoding.specs.Types.{Ty}
-use Rattle.encoding.specs.RuleLaws.{length_range, own_sum}
+use Rattle.encoding.proofs.RuleLaws.{length_range, own_sum}
 use Rattle.encoding.specs.Table.{field, mark, tag, range, trees, member_ty, Member, lookup, requireds_in, optionals_in, own_rows, required_members, optional_members}
 use Rattle.wire.specs.Put.{put}
 use Rattle.wire.specs.PutLaws.{put_length, put_none, put_put, put_front}
-use Rattle.differences.specs.Compare.{same_ty, insert, ordered, those, paired, Pair, Difference, given, agree, member_row, member_differences, longer, required_differences, is_there, keys, keys_without, optional_differences, tags_of, required_match, difference_bytes}
+use Rattle.differences.specs.Compare.{same_ty, insert, ordered, those, paired, Difference, given, agree, member_row, member_differences, longer, required_differences, is_there, keys, keys_without, optional_differences, tags_of, required_match, difference_bytes}
 use Rattle.listing.specs.Listing.{enter, Listed, Listing, agree_rows, member_difference, is_required, head_row, next_of, follow_of, left_of, row_differences, tag_difference}
 
 -- ---- differences in a list
