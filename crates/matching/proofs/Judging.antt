@@ -1,10 +1,10 @@
 -- The match of two tables, function by function. Assumes nothing.
 --
---   optional-..                   a member row; Every, every-.. the loop over them; optionals-..
---   required-..                   required members, counted
---   owners-.., same-.., bases-..  two owners; one kind and name; two bases
---   by-.., matched-..             a record and its partner; All, all-.. the loop over the records
---   tops-.., extending-..
+--   optional_..                   a member row; Every, every_.. the loop over them; optionals_..
+--   required_..                   required members, counted
+--   owners_.., same_.., bases_..  two owners; one kind and name; two bases
+--   by_.., matched_..             a record and its partner; All, all_.. the loop over the records
+--   tops_.., extending_..
 use Prim.Native.Nat.{ℕ, zero, suc, ◌+◌, ◌-◌, ◌≤◌, ◌<◌}
 use mathlib.Core.Path.{◌≡◌, refl, sym, ap, ap₂, ◌∙◌}
 use mathlib.Core.Bool.{Bool, true, false, ◌&&◌, ◌||◌, not, true≢false}
@@ -15,8 +15,8 @@ use lib.ListN.{length}
 use lib.Dec.{eqb}
 use borrow.Author.Tests.{eq-eqb, ne_eqb, not-true, not-false}
 use Rattle.encoding.specs.Result.{pick, same_bytes}
-use Rattle.encoding.specs.Table.{types, kind, is_record, owns, field, fine, faults, mark, tag, range, lookup, own_rows, required_members, optional_members, name_of, base}
-use Rattle.encoding.specs.RuleLaws.{types_most}
+use Rattle.encoding.specs.Table.{types, kind, is_record, field, fine, faults, mark, range, lookup, own_rows, required_members, optional_members, name_of, base}
+use Rattle.encoding.proofs.RuleLaws.{types_most}
 use Rattle.table.specs.declared.MemberRow.{MemberRow}
 use Rattle.table.specs.Rows.{IsMemberRow}
 use Rattle.table.proofs.Ranges.{range_more, range_none, range_left, range_empty}

@@ -2,18 +2,18 @@
 --
 --   optionals_are      optional members match exactly if each row does
 --   few_owner          an owner in a table that breaks no rule has at most 1,024 members; few_record, few_partner of a record and its partner
-use Rattle.std.specs.Prelude.{◌≡◌, Bool, ◌&&◌, ℕ, zero, suc, ◌+◌, ◌-◌, ◌≤◌, ◌<◌, eqb}
+use Rattle.std.specs.Prelude.{◌≡◌, Bool, ◌&&◌, ℕ, suc, ◌-◌, ◌≤◌, ◌<◌, eqb}
 use Rattle.std.proofs.Math.Path.{refl}
 use Rattle.std.proofs.Common.{sym, ap, ◌∙◌, arith}
 use Rattle.std.proofs.Math.Bool.{true, false}
 use Rattle.std.proofs.Math.Option.{some}
 use mathlib.Core.List.{List, [], ◌∷◌}
 use Rattle.encoding.specs.Result.{pick}
-use Rattle.encoding.specs.Table.{types, members, kind, is_record, owns, field, fine, faults, taken, mark, tag, trees, member_ty, lookup, own_rows, optionals_in, optional_members}
-use Rattle.encoding.specs.RuleLaws.{owns_record, taken_next, taken_rises, taken_whole, members_most}
-use Rattle.differences.specs.Compare.{agree, member_row, partner, optionals_match}
+use Rattle.encoding.specs.Table.{types, kind, is_record, owns, field, fine, faults, mark, tag, trees, member_ty, lookup, own_rows, optionals_in, optional_members}
+use Rattle.encoding.proofs.RuleLaws.{owns_record, taken_next, taken_rises, taken_whole, members_most}
+use Rattle.differences.specs.Compare.{agree, partner, optionals_match}
 use Rattle.differences.specs.CompareLaws.{Partnered, found, alone, partnered}
-use Rattle.listing.specs.Listing.{FewMembers, agree_rows}
+use Rattle.listing.specs.Listing.{FewMembers}
 use Rattle.listing.specs.ListingLaws.{optional_agrees}
 use Rattle.matching.specs.Matching.{optional_matches, every_row}
 

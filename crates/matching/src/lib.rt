@@ -1,4 +1,6 @@
 // Whether a new table extends an old one and the tops match. `begin` and `start` are where the type rows of the old and the new table begin, and the cells say which of their rows agree.
+#![tactic(auto)]
+
 ghost use Rattle.std.specs.Prelude.{◌≡◌, ◌+◌, ◌≤◌, ◌<◌};
 ghost use Rattle.encoding.specs.Table.{types, types_at, members_at, field, fine, faults, range, required_members, optional_members};
 ghost use Rattle.agreeing.specs.Agreeing.{Agreed};
