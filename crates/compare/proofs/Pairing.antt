@@ -1,12 +1,11 @@
 -- The differences of all pairs, listed. Assumes nothing.
 --
---   next-..                  the loop that looks for a parameter list; first-.., follow-..
---   item-..                  an item's pair; slot-.., slots-.. the loop over the items of an array
---   lists-..                 the loop over parameter lists; list-.. from the first ones on
---   all-..                   records, then parameter lists
-use Prim.Native.Nat.{ℕ, zero, suc, ◌+◌, ◌-◌, ◌*◌, ◌≤◌, ◌<◌}
+--   next_..                  the loop that looks for a parameter list; first_.., follow_..
+--   item_..                  an item's pair; slot_.., slots_.. the loop over the items of an array
+--   lists_..                 the loop over parameter lists; list_.. from the first ones on
+--   all_..                   records, then parameter lists
+use Prim.Native.Nat.{ℕ, zero, suc, ◌+◌, ◌-◌, ◌≤◌, ◌<◌}
 use mathlib.Core.Path.{◌≡◌, refl, sym, ap, ap₂, ◌∙◌, subst}
-use mathlib.Core.Bool.{Bool, true, false}
 use mathlib.Core.Logic.{inl, inr}
 use mathlib.Core.List.{List, [], ◌∷◌, ◌++◌, map}
 use native.Mathlib.Numerals.{add-one}
@@ -17,7 +16,7 @@ use lib.Dec.{eqb}
 use borrow.Author.Tests.{lt-ltb, le-ltb, eq-eqb, ne_eqb}
 use Rattle.encoding.specs.Result.{pick}
 use Rattle.encoding.specs.Table.{types, kind, fine, faults, range}
-use Rattle.encoding.specs.RuleLaws.{types_most}
+use Rattle.encoding.proofs.RuleLaws.{types_most}
 use Rattle.table.proofs.Ranges.{range_more, range_none}
 use Rattle.differences.specs.Compare.{those, rows_of, lists, partner, Pair, Difference, paired, list_pairs, pair_differences, all_differences, differences}
 use Rattle.differences.specs.CompareDemands.{In}

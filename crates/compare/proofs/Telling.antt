@@ -1,8 +1,8 @@
 -- The answer of comparing two tables. Assumes nothing.
 --
---   top-..         2
---   told-..        19, or all differences
---   sound-..       tables that break no rule; broken-.. those that do
+--   top_..         2
+--   told_..        19, or all differences
+--   sound_..       tables that break no rule; broken_.. those that do
 use Prim.Native.Nat.{ℕ, ◌+◌, ◌/◌, ◌≤◌, ◌<◌}
 use mathlib.Core.Path.{◌≡◌, refl, sym, ap, ◌∙◌}
 use mathlib.Core.Bool.{Bool, true, false, ◌||◌}
@@ -13,10 +13,10 @@ use lib.Dec.{leb, ltb}
 use borrow.Author.Tests.{leb-true, le-leb, lt-leb}
 use Rattle.encoding.specs.Result.{pick}
 use Rattle.encoding.specs.Table.{types, kind, Fault, fine, fault, faults, rule_number}
-use Rattle.encoding.specs.RuleLaws.{fault_place}
+use Rattle.encoding.proofs.RuleLaws.{fault_place}
 use Rattle.encoding.specs.Message.{no_top}
-use Rattle.encoding.specs.MessageLaws.{top_there}
-use Rattle.laws.specs.TableFault.{fault_class}
+use Rattle.encoding.proofs.MessageLaws.{top_there}
+use Rattle.laws.proofs.TableFault.{fault_class}
 use Rattle.rules.specs.Checks.{finding_of}
 use Rattle.rules.specs.declared.Finding.{Finding}
 use Rattle.rules.specs.declared.Finding.TheVariants.{Fine, Broken}

@@ -1,29 +1,29 @@
 -- Laws of all differences of two tables. Assumes nothing.
 --
 --   next_few           a parameter list that is looked for has at most 1,024 members
---   item-few-..        the rows of an item have at most 1,024 members
+--   item_few_..        the rows of an item have at most 1,024 members
 --   pair_most          a pair has at most 4,097 differences
 --   differences_sum, differences_few    the differences are those of records, then lists; two tables that break no rule have less than 2^32 of them
 use Prim.Native.Nat.{ℕ, zero, suc, ◌+◌, ◌-◌, ◌*◌, ◌≤◌, ◌<◌}
-use Rattle.std.specs.Prelude.{◌≡◌, Bool, ◌&&◌, ◌⊎◌}
+use Rattle.std.specs.Prelude.{◌≡◌, Bool, ◌&&◌}
 use Rattle.std.proofs.Math.Path.{refl, sym, ap}
-use Rattle.std.proofs.Common.{◌∙◌, inl, inr, ⊎_elim}
+use Rattle.std.proofs.Common.{◌∙◌, inl, inr}
 use Rattle.std.proofs.Math.Bool.{true, false}
 use mathlib.Core.List.{List, [], ◌∷◌, ◌++◌, append_assoc, map}
 use native.Mathlib.Omega.{arith}
 use Rattle.std.proofs.Math.ListN.{length, length-append}
 use Rattle.std.proofs.Math.Dec.{eqb, ltb}
-use borrow.Author.Tests.{ltb-true, ltb-false, lt-ltb, le-ltb, eqb-true}
+use borrow.Author.Tests.{ltb-true, ltb-false, eqb-true}
 use Rattle.encoding.specs.Result.{pick}
 use Rattle.encoding.specs.Table.{types, kind, is_record, owns, field, fine, faults, range}
-use Rattle.encoding.specs.RuleLaws.{types_most, length_range}
+use Rattle.encoding.proofs.RuleLaws.{types_most, length_range}
 use Rattle.differences.specs.Compare.{insert, ordered, those, rows_of, lists, partner, Pair, Difference, given, bases_differ, paired, record_pairs, list_pairs, base_difference, required_differences, optional_differences, owner_differences, pair_differences, all_differences, differences}
 use Rattle.differences.specs.CompareDemands.{In}
-use Rattle.encoding.specs.ResultLaws.{both_true}
+use Rattle.encoding.proofs.ResultLaws.{both_true}
 use Rattle.differences.specs.FindLaws.{ordered_ok, those_ok}
 use Rattle.ordering.specs.Ordering.{is_item, item_pair, before, items}
 use Rattle.ordering.specs.OrderingLaws.{pairs_items}
-use Rattle.listing.specs.Listing.{is_list, head_row, next_of, left_of, FewMembers}
+use Rattle.listing.specs.Listing.{is_list, head_row, next_of, FewMembers}
 use Rattle.listing.specs.ListingLaws.{required_most, optional_most}
 use Rattle.matching.specs.MatchingLaws.{few_owner, few_record, few_partner}
 

@@ -1,5 +1,7 @@
 // Two tables compared: pairs.rt lists the differences of all pairs of records and parameter lists, this file has the call.
 // Stack: the tags of two owners (16,384 bytes), a cell for each row of both tables (4,112) and the records in order (4,096).
+#![tactic(auto)]
+
 mod pairs;
 
 ghost use Rattle.std.specs.Prelude.{◌≡◌, ◌+◌, ◌<◌, length};

@@ -1,8 +1,8 @@
 -- By the row, then its kind. Assumes nothing.
 use Rattle.compare.proofs.Telling.{top_beyond, top_kind}
 use borrow.Author.Rules.{rules}
-use Rattle.compare.proofs.no_top_lem.Statement.{statement}
-use Rattle.compare.proofs.no_top_lem.Tie as tie
+use Rattle.compare.proofs.no_top.Statement.{statement}
+use Rattle.compare.proofs.no_top.Tie as tie
 
 pub no_top_spec : {M : Type 1} → statement M
 no_top_spec =
