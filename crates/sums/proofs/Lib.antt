@@ -1,2 +1,3 @@
 -- Laws for the proofs of the numbers of a sheet.
 pub mod Summing
+pub mod SumLaws
