@@ -6,7 +6,7 @@ use Rattle.std.specs.Prelude.{◌≡◌, refl, ◌||◌, List, [], ◌++◌, ℕ
 use Rattle.std.proofs.Common.{sym, ap, ap₂, ◌∙◌, append_assoc, append-nil, arith, take_at, drop_at, le-ltb}
 use Rattle.std.proofs.Math.ListN.{length-append}
 use Rattle.encoding.specs.Number.{val, le_bytes}
-use Rattle.encoding.specs.NumberLaws.{length_le_bytes, val_le_bytes}
+use Rattle.encoding.proofs.NumberLaws.{length_le_bytes, val_le_bytes}
 use Rattle.encoding.specs.Table.{at}
 use Rattle.sums.specs.declared.Extreme.{Extreme}
 use Rattle.sums.specs.declared.Extreme.TheVariants.{Absent, Is}

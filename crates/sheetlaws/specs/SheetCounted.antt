@@ -15,17 +15,17 @@ use Rattle.std.proofs.Math.Dec.{eqb}
 use borrow.Author.Tests.{le-leb, ne_eqb, eq-eqb}
 use Rattle.encoding.specs.Result.{Res, ok, bad, pick}
 use Rattle.encoding.specs.Number.{Bytes, negative}
-use Rattle.encoding.specs.NumberLaws.{bytes_take, bytes_drop}
+use Rattle.encoding.proofs.NumberLaws.{bytes_take, bytes_drop}
 use Rattle.encoding.specs.Message.{Read, limit, rules, Row, rows, Answer, refused, accepted, answer, room, within, reading}
 use Rattle.encoding.specs.View.{Seen, part, fallback, nothing, row_of}
-use Rattle.laws.specs.Refusals.{refusal_numbered, rules_refused}
-use Rattle.laws.specs.Small.{accepted_small}
+use Rattle.laws.proofs.Refusals.{refusal_numbered, rules_refused}
+use Rattle.laws.proofs.Small.{accepted_small}
 use Rattle.prepare.specs.Preparing.{checks}
 use Rattle.prepare.specs.declared.Prepared.{Prepared}
 use Rattle.prepare.specs.declared.Prepared.TheVariants.{Ready, Refused}
 use Rattle.night.specs.Night.{size_at, stretch_at, advance, stretch_read, stretch_answer, night, Night}
-use Rattle.night.specs.NightLaws.{night_none, night_pass, night_stop}
-use Rattle.night.specs.StopLaws.{stop_read_lem}
+use Rattle.night.proofs.NightLaws.{night_none, night_pass, night_stop}
+use Rattle.night.proofs.StopLaws.{stop_read_lem}
 use Rattle.night.specs.Steps.{stop_number, stop_read}
 use Rattle.sums.specs.declared.Sheet.{Sheet}
 use Rattle.sums.specs.declared.Says.{Says}

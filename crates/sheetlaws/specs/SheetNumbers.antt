@@ -18,7 +18,7 @@ use Rattle.sums.specs.declared.Sheet.{Sheet}
 use Rattle.sums.specs.declared.Says.{Says}
 use Rattle.sums.specs.declared.Mean.TheVariants.{Absent as NoMean, Is as IsMean}
 use Rattle.sums.specs.Sums.{half, lift, lift_sheet, total, most, amiss, Season, tally_one, tally, lifted_sum, mean_of, mean}
-use Rattle.sums.specs.SumLaws.{SaysFits, season_next, total_next, season_sum, extreme_back, lift_long_back}
+use Rattle.sums.proofs.SumLaws.{SaysFits, season_next, total_next, season_sum, extreme_back, lift_long_back}
 use Rattle.season.specs.Season.{read_says, stretch_bytes, stretch_says, says_of}
 use Rattle.season.specs.SeasonLaws.{says_fit, says_none, says_pass}
 use Rattle.sheetlaws.specs.Integers.{sub_same}

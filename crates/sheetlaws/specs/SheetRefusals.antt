@@ -14,7 +14,7 @@ use Rattle.encoding.specs.Write.{no_format}
 use Rattle.prepare.specs.Preparing.{before, checked, checks}
 use Rattle.prepare.specs.declared.Prepared.TheVariants.{Ready}
 use Rattle.night.specs.Night.{Stretch, stretch_at, stretches, advance, stretch_answer, answer_then, answers_to, night}
-use Rattle.night.specs.NightLaws.{stretches_none, stretches_pass}
+use Rattle.night.proofs.NightLaws.{stretches_none, stretches_pass}
 use Rattle.sums.specs.declared.Sheet.{Sheet}
 use Rattle.sums.specs.Sums.{lift_sheet, total, most, amiss, judgement, tally}
 use Rattle.season.specs.Season.{width_of, width, says_of}
