@@ -1,14 +1,14 @@
 -- The guard's answers by the code's tests: each law is one way out of a function. Assumes nothing.
 --
---   never-.., long-.., later-.., unset-.., int-..     a number that is there passes a test
---   lone-..                                           a start and no tick at or after it
---   bad-..                                            what 52 judges, test by test
---   form-..                                           what 40 and 41 judge
+--   never_.., long_.., later_.., unset_.., int_..     a number that is there passes a test
+--   lone_..                                           a start and no tick at or after it
+--   bad_..                                            what 52 judges, test by test
+--   form_..                                           what 40 and 41 judge
 --   numbers_told, fields_told                         the report at three places, in three listed rows
---   raised-..                                         the order of signed shorts
---   now-.., cold-.., warm-..                          the start of the freeze
---   waited-.., fires-..                               whether the timer fires
---   told-..                                           the whole answer
+--   raised_..                                         the order of signed shorts
+--   now_.., cold_.., warm_..                          the start of the freeze
+--   waited_.., fires_..                               whether the timer fires
+--   told_..                                           the whole answer
 use mathlib.Core.Path.{◌≡◌, refl, sym, ap, ◌∙◌}
 use mathlib.Core.Bool.{Bool, true, false}
 use mathlib.Core.Option.{Option, none, some}

@@ -26,7 +26,7 @@ use Rattle.std.specs.Prelude.{◌≡◌, true, false, List, [], ◌∷◌, ◌++
 use Rattle.std.proofs.Math.Option.{Option, none, some}
 use Rattle.encoding.specs.Number.{Bytes}
 use Rattle.encoding.specs.Table.{at, faults, fine}
-use Rattle.encoding.specs.Cases.{table2}
+use Rattle.encoding.proofs.Cases.{table2}
 use Rattle.encoding.specs.Message.{reading}
 use Rattle.laws.specs.Demands.{Refusal}
 use Rattle.frost.specs.Frost.{guard_table, Guard, start, bad_state, Report, Heard, refuse, heard, member_value, report_of, judged_report, cold_at, Told, report, state_bytes, state_of, started, reported, stored, told_numbers}

@@ -2,8 +2,4 @@
 pub mod Frost
 pub mod Code
 pub mod FrostDemands
-pub mod FrostLaws
-pub mod FrostRows
-pub mod FrostJudged
-pub mod FrostGiven
 pub mod FrostPromises

@@ -1,6 +1,8 @@
 // The frost guard: a layer over the reader. It takes reports under a table of its own and says when the timer fires.
 // Ticks are milliseconds and delays are whole seconds: two types, and one conversion between them.
 // It calls the reader, and `wire` for numbers in bytes. The crate guard has the calls on a state of 32 bytes.
+#![tactic(auto)]
+
 ghost use Rattle.std.specs.Prelude.{◌≡◌, ◌+◌, leb};
 ghost use Rattle.std.proofs.Math.Option.{some};
 ghost use Rattle.encoding.specs.Number.{negative};
@@ -10,11 +12,11 @@ ghost use Rattle.frost.specs.Code.{tick_in, delay_in, guard_in, told_in, heard_i
 use encoding::Reading;
 
 // Milliseconds, as the pattern of a long.
-#[derive(Drop)]
+#[derive(Clone, Copy)]
 pub struct Millis(pub u64);
 
 // Whole seconds, as the pattern of an int.
-#[derive(Drop)]
+#[derive(Clone, Copy)]
 pub struct Seconds(pub u32);
 
 impl Seconds {
@@ -28,21 +30,21 @@ impl Seconds {
 }
 
 // A tick, if there is one.
-#[derive(Drop)]
+#[derive(Clone, Copy)]
 pub enum Tick {
     Never,
     At(Millis),
 }
 
 // A delay, if there is one.
-#[derive(Drop)]
+#[derive(Clone, Copy)]
 pub enum Delay {
     Unset,
     Of(Seconds),
 }
 
 // What the guard keeps: the set point (the pattern of a short), the last tick, the start of the freeze, the delay.
-#[derive(Drop)]
+#[derive(Clone, Copy)]
 pub struct Guard {
     pub set: u16,
     pub tick: Tick,
@@ -51,7 +53,7 @@ pub struct Guard {
 }
 
 // The answer to a report: a refusal's number and place, or 0 and 0; whether the timer fires; and the guard after it.
-#[derive(Drop)]
+#[derive(Clone, Copy)]
 pub struct Told {
     pub refusal: u32,
     pub place: u32,
@@ -60,7 +62,7 @@ pub struct Told {
 }
 
 // What a message says: reading, tick and delay; or a refusal's number and place.
-#[derive(Drop)]
+#[derive(Clone, Copy)]
 enum Heard {
     Report(u16, Millis, Seconds),
     Silent(u32, u32),

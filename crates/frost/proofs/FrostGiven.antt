@@ -8,17 +8,17 @@ use Rattle.std.proofs.Math.Option.{Option, none, some}
 use native.Mathlib.Omega.{arith}
 use Rattle.std.proofs.lemmas.Bool.{eqb-false}
 use Rattle.encoding.specs.Result.{pick}
-use Rattle.encoding.specs.ResultLaws.{either_false, some≢none}
+use Rattle.encoding.proofs.ResultLaws.{either_false, some≢none}
 use Rattle.encoding.specs.Number.{Bytes, val, negative}
 use Rattle.encoding.specs.Table.{at, members}
-use Rattle.encoding.specs.Cases.{computed}
+use Rattle.encoding.proofs.Cases.{computed}
 use Rattle.laws.specs.Demands.{ReaderRefusal, by_rules, short_list}
-use Rattle.laws.specs.Refusals.{refusal_numbered}
-use Rattle.laws.specs.Promises.{promises}
+use Rattle.laws.proofs.Refusals.{refusal_numbered}
+use Rattle.laws.proofs.Promised.{promises}
 use Rattle.frost.specs.Frost.{guard_table, Guard, start, present, lone_start, bad_state, Report, Heard, refuse, heard, report_of, judged_report, cold_at, or_now, freeze, Told, told, report, state_bytes, state_of, marked, no_state, bounded, started, reported_from, reported, stored}
 use Rattle.frost.specs.FrostDemands.{Lower, Judged, by_reader, incomplete, tick_negative, tick_lower, delay_negative, in_order, Freezes, goes_on, begins, thaws, Obeys, OneReport, FrostReport, ReportRefusal, of_reader, of_tick, of_delay, of_field, of_state, FrostRefuses, Keeps, FrostState, NotAfter, InTurn, none_yet, taken, Under, Sound, StateGiven}
-use Rattle.frost.specs.FrostLaws.{heard≢refuse, freeze_cold, freeze_warm, frozen_began, began_frozen, guard_of, Held, held_step, held_under, held_lone, long_present, int_present, none_of_four, guard_sound, guard_start, taken_turn, fires_true, fires_at_lem, state_kept}
-use Rattle.frost.specs.FrostJudged.{frost_judges, bounded_wide, stored_next}
+use Rattle.frost.proofs.FrostLaws.{heard≢refuse, freeze_cold, freeze_warm, frozen_began, began_frozen, guard_of, Held, held_step, held_under, held_lone, long_present, int_present, none_of_four, guard_sound, guard_start, taken_turn, fires_true, fires_at_lem, state_kept}
+use Rattle.frost.proofs.FrostJudged.{frost_judges, bounded_wide, stored_next}
 
 -- ---- what is judged
 

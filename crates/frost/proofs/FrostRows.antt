@@ -12,7 +12,7 @@ use Rattle.std.proofs.Math.Path.{sym}
 use Rattle.std.proofs.Common.{ap, ◌∙◌, subst, true≢false, arith, length-take, length-drop, length-append, eqb-true, eq-eqb, ne_eqb}
 use Rattle.std.proofs.Math.Option.{Option, none, some}
 use Rattle.encoding.specs.Result.{pick, concat}
-use Rattle.encoding.specs.ResultLaws.{some≢none}
+use Rattle.encoding.proofs.ResultLaws.{some≢none}
 use Rattle.encoding.specs.Number.{Bytes, val}
 use Rattle.encoding.specs.Types.{Ty, Num, num, short, int, long, float, double, width, Bits, f4, f8, Form, bare}
 use Rattle.encoding.specs.OptionalForm.{HasForm, int_f4, long_f8}
@@ -24,11 +24,11 @@ use Rattle.encoding.specs.Message.{Encoding, v10, v11, is_old, Pieces, list, exc
 use Rattle.encoding.specs.declared.Reading.{Reading}
 use Rattle.encoding.specs.declared.Reading.TheVariants.{Accepted, Refused}
 use Rattle.encoding.specs.Write.{Slot, Chosen, end, chosen, left, plan, plan_of, slots, slot, rising, insert, part_of, row_at}
-use Rattle.encoding.specs.Cases.{computed, table2}
+use Rattle.encoding.proofs.Cases.{computed, table2}
 use Rattle.encoding.specs.Conform.{Level, a_base, WithoutOptionals, Conform}
 use Rattle.laws.specs.Demands.{All, more, RowExact}
-use Rattle.laws.specs.Promises.{promises}
-use Rattle.laws.specs.RowsBack.{SmallRow, rows_back, accepted_rows_small}
+use Rattle.laws.proofs.Promised.{promises}
+use Rattle.laws.proofs.RowsBack.{SmallRow, rows_back, accepted_rows_small}
 use Rattle.frost.specs.Frost.{guard_table, Heard, refuse, heard, member_value, complete, answered, report_of}
 use Rattle.frost.specs.Code.{report_in, numbers_at, fields_at}
 
@@ -179,6 +179,8 @@ two≢one e = omega arith
 
 -- fewer than three rows are no report
 partial : (m : List ℕ) (rs : List Row) → Kinds rs → (length rs ≡ 3 → ⊥) → heard_of m rs ≡ refuse 42 0
+partial m [] x'' n = elim x'' [ ]
+partial m (a ∷ (b ∷ (c ∷ (_ ∷ _)))) x14 n = elim x14 [ ]
 partial m (a ∷ b ∷ c ∷ []) (whole e f g) n = absurd (n refl)
 partial m (a ∷ b ∷ []) (no_delay e f) n =
     complete_no_delay _ _ _ (value_later m 0 2 a (b ∷ []) e zero≢two ∙ value_later m 1 2 b [] f one≢two ∙ value_none m 2)
@@ -209,6 +211,8 @@ unfolding range
 full m kept v rs A n e = go rs A.kinds A.exact (rows_back A.small kept v e) n
   where
     go : (rs : List Row) → Kinds rs → All (RowExact guard_table m A.encoding) rs → map (row_at kept) (range 0 (length rs)) ≡ rs → length rs ≡ 3 → fields_at m kept ≡ heard_of m rs
+    go [] x5 x back n = elim x5 [ ]
+    go (a ∷ (b ∷ (c ∷ (_ ∷ _)))) x23 x back n = elim x23 [ ]
     go (a ∷ b ∷ []) (no_delay p q) x back n = absurd (omega arith)
     go (a ∷ c ∷ []) (no_tick p q) x back n = absurd (omega arith)
     go (a ∷ []) (neither p) x back n = absurd (omega arith)
@@ -315,6 +319,8 @@ abbrev places : List Row → List ℕ
 places rs = map (λ (r : Row). r.place) rs
 
 three_placed : (rs : List Row) → Kinds rs → (a b c : Row) (l : List Row) → rs ≡ a ∷ b ∷ c ∷ l → a.place ≡ 6 → b.place ≡ 9 → (b.member ≡ 1 → c.place ≡ 18) → places rs ≡ 6 ∷ 9 ∷ 18 ∷ []
+three_placed [] x5 a b c l e ea eb ec = elim x5 [ ]
+three_placed (x ∷ (y ∷ (z ∷ (_ ∷ _)))) x27 a b c l e ea eb ec = elim x27 [ ]
 three_placed (x ∷ y ∷ z ∷ []) (whole p q r) a b c l e ea eb ec =
     let xa : x ≡ a = cc in
     let yb : y ≡ b = cc in
@@ -388,6 +394,8 @@ plain : (m : List ℕ) (rs : List Row) → Accepts m rs → places rs ≡ 6 ∷ 
 plain m rs A e = go rs A.kinds A.exact e
   where
     go : (rs : List Row) → Kinds rs → All (RowExact guard_table m A.encoding) rs → places rs ≡ 6 ∷ 9 ∷ 18 ∷ [] → heard_of m rs ≡ numbers_at m 6 9 18
+    go [] x4 x e = elim x4 [ ]
+    go (a ∷ (b ∷ (c ∷ (_ ∷ _)))) x19 x e = elim x19 [ ]
     go (a ∷ b ∷ c ∷ []) (whole p q r) x e =
         let ea : a.place ≡ 6 = cc in
         let eb : b.place ≡ 9 = cc in

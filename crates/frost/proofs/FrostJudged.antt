@@ -9,15 +9,15 @@ use Rattle.std.proofs.lemmas.Bool.{false≢true, eqb-false}
 use Rattle.std.proofs.Math.Option.{Option, none, some}
 use Rattle.std.proofs.Math.Dec.{leb, ltb}
 use Rattle.encoding.specs.Result.{first_of}
-use Rattle.encoding.specs.ResultLaws.{some≢none}
+use Rattle.encoding.proofs.ResultLaws.{some≢none}
 use Rattle.encoding.specs.Number.{negative}
 use Rattle.encoding.specs.Table.{at}
 use Rattle.encoding.specs.Message.{reading}
 use Rattle.encoding.specs.Write.{part_of}
-use Rattle.encoding.specs.Cases.{computed}
+use Rattle.encoding.proofs.Cases.{computed}
 use Rattle.frost.specs.Frost.{guard_table, raised, at_or_below, millis, Guard, start, present, lone_start, bad_state, Report, heard, member_value, complete, answered, report_of, report_form, judged_report, cold_at, or_now, freeze, fires_at, Told, told, report, state_bytes, bounded, reported_from, reported, stored, state_of, no_state, told_numbers, fires_number}
 use Rattle.frost.specs.FrostDemands.{Lower, Fields, Judged, by_reader, incomplete, tick_negative, tick_lower, delay_negative, in_order, FrostJudges, StateFault, negative_tick, negative_start, negative_delay, start_alone, start_later, StateJudged, guard_after, cold_report, early, late, day49, FoundersStory, last_tick, LargestLong, BytesReport, NoState, other_length, tick_mark, start_mark, delay_mark, BytesRefused, FrostTold}
-use Rattle.frost.specs.FrostLaws.{some_same, state_kept}
+use Rattle.frost.proofs.FrostLaws.{some_same, state_kept}
 
 -- ---- a message
 

@@ -6,9 +6,9 @@ use Rattle.std.proofs.Common.{sym, ap, ◌∙◌, true≢false, arith, eqb-true,
 use Rattle.std.proofs.lemmas.Bool.{false≢true, lt-leb}
 use Rattle.std.proofs.Math.Option.{Option, none, some}
 use Rattle.encoding.specs.Result.{pick}
-use Rattle.encoding.specs.ResultLaws.{some≢none, first_of_ok}
+use Rattle.encoding.proofs.ResultLaws.{some≢none, first_of_ok}
 use Rattle.encoding.specs.Number.{negative, val, le_bytes}
-use Rattle.encoding.specs.NumberLaws.{val_le_bytes}
+use Rattle.encoding.proofs.NumberLaws.{val_le_bytes}
 use Rattle.encoding.specs.Table.{at}
 use Rattle.frost.specs.Frost.{mark_of, or_none, marked, no_state, state_bytes, state_of, raised, at_or_below, millis, Guard, start, present, lone_start, bad_state, Report, Heard, refuse, heard, report_of, report_form, judged_report, cold_at, or_now, freeze, fires_at, Told, told, report}
 use Rattle.frost.specs.FrostDemands.{latest_tick, latest_delay, judged_after, remember, taken, AllCold, no_more, one_more, Warm, nothing_yet, ended, Began, Fires, Answers, refused, fires, waits, guard_after, FrostHistory, FrostRefused, NotAfter, InTurn, none_yet, one_later, FrostNumbers, Under, SignedOrder, StateKept}
