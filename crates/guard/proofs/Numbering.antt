@@ -1,6 +1,6 @@
 -- The numbers of an answer, one by one. A part taken from its start to its end is the whole list, so the answer is the same. Assumes nothing.
 --
---   number_refusal, -place, -fires, -waits, -none    a number of the answer
+--   number_refusal, _place, _fires, _waits, _none    a number of the answer
 --   number_stored                                    the lent bytes after it
 --   room_few, room_all                               the numbers by the room for the state: under 32, and from 32 on
 use mathlib.Core.Path.{◌≡◌, refl, sym, ap, ap₂, ◌∙◌}

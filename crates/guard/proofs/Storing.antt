@@ -1,12 +1,12 @@
 -- The state as bytes, by the code's tests and puts: each law is one way out of a function. Assumes nothing.
 --
---   marked-..                   a number that a mark says is there
---   load-..                     bytes that are a state, and bytes that are none
---   mark-.., number-..          what is put for a number that is there, or is not
+--   marked_..                   a number that a mark says is there
+--   load_..                     bytes that are a state, and bytes that are none
+--   mark_.., number_..          what is put for a number that is there, or is not
 --   state_put                   the 32 bytes, put by eights
---   within-..                   22, last
---   stored-..                   the lent bytes after a call
---   answer-.., start_told       a report on a state as bytes; the start
+--   within_..                   22, last
+--   stored_..                   the lent bytes after a call
+--   answer_.., start_told       a report on a state as bytes; the start
 use mathlib.Core.Path.{◌≡◌, refl, sym, ap, ap₂, ◌∙◌}
 use mathlib.Core.Bool.{Bool, true, false}
 use mathlib.Core.Option.{Option, none, some}
@@ -17,7 +17,7 @@ use lib.ListN.{length, drop, length-append}
 use lib.Dec.{eqb}
 use borrow.Author.Tests.{le-leb, lt-leb, lt-ltb, le-ltb, eq-eqb, ne_eqb}
 use Rattle.encoding.specs.Number.{le_bytes}
-use Rattle.encoding.specs.NumberLaws.{length_le_bytes}
+use Rattle.encoding.proofs.NumberLaws.{length_le_bytes}
 use Rattle.encoding.specs.Table.{at}
 use Rattle.wire.specs.Put.{put}
 use Rattle.wire.specs.PutLaws.{put_put, put_front}

@@ -1,5 +1,7 @@
 // The frost guard on a state of 32 bytes, for callers that keep it as bytes.
 // Its bytes: set point (2), a mark each for tick, start and delay, three zero bytes, tick (8), start (8), delay (4), four zero bytes.
+#![tactic(auto)]
+
 ghost use Rattle.std.specs.Prelude.{◌≡◌, ◌++◌, ◌≤◌, ◌<◌, length, drop, get_or};
 ghost use Rattle.frost.specs.Frost.{marked, mark_of, or_none, state_bytes, state_of, bounded, started, reported, stored, told_numbers};
 ghost use Rattle.frost.specs.Code.{tick_in, delay_in, guard_in, told_in};
@@ -8,7 +10,7 @@ ghost use Rattle.guard.specs.Bytes.{loaded_in, head_of};
 use frost::{Delay, Guard, Millis, Seconds, Tick, Told};
 
 // The state that bytes hold, if they are a state.
-#[derive(Drop)]
+#[derive(Clone, Copy)]
 pub enum Loaded {
     Is(Guard),
     Isnt,
