@@ -1,7 +1,7 @@
 -- The numbers of the answers on endpoints, case by case; equal answers have the same numbers. Assumes nothing.
 --
---   is-.., unopened-.., refused-..    refusal and place of an answer to opening; opened_same
---   at-.., lost-..                    those of an answer to finding an endpoint; located_same
+--   is_.., unopened_.., refused_..    refusal and place of an answer to opening; opened_same
+--   at_.., lost_..                    those of an answer to finding an endpoint; located_same
 use mathlib.Core.Path.{◌≡◌, sym, ap, ◌∙◌}
 use Prim.Native.Nat.{ℕ}
 use lib.ListN.{get_or}

@@ -1,7 +1,7 @@
 -- The numbers of the check of a plan and of the planner, case by case. Assumes nothing.
 --
---   accepted-.., broken-..     those of the check
---   made-.., unplanned-..      those of the planner
+--   accepted_.., broken_..     those of the check
+--   made_.., unplanned_..      those of the planner
 --   check_same, plan_same      equal answers have the same numbers
 use mathlib.Core.Path.{◌≡◌, sym, ap, ◌∙◌}
 use Prim.Native.Nat.{ℕ}

@@ -1,4 +1,6 @@
 // The numbers of answers, one by one, as the calls of C return them.
+#![tactic(auto)]
+
 ghost use Rattle.std.specs.Prelude.{◌≡◌, get_or};
 ghost use Rattle.encoding.specs.Table.{verdict_numbers};
 ghost use Rattle.encoding.specs.Message.{reading_numbers};
