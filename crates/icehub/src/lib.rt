@@ -1,6 +1,8 @@
 // The calls of the firmware in C, with numbers and byte slices only: 0 or the refusal number comes back, place and other numbers by further calls on the same input.
 // The numbers of an answer are those of `numbers`. `room` is the length in bytes of the lent list or output, so that a further call judges what the first one judged.
 // changes.rt has the calls that set and remove a member, conversion.rt the converter's, nights.rt those for many messages in one buffer, endpoints.rt those for endpoints, plans.rt those for burst plans, guards.rt those of the frost guard, sheets.rt those for the season sheet, comparisons.rt those that compare two tables.
+#![tactic(auto)]
+
 mod changes;
 mod comparisons;
 mod conversion;
