@@ -1,29 +1,31 @@
 // Prints numbers and bytes, and marks lent bytes to see which a call changes.
-use libc::STDOUT_FILENO;
+use std::io;
+use std::io::Write;
 
 // Prints a number and a blank.
-pub fn number(n: u64) {
-    io::print_decimal(STDOUT_FILENO, n);
-    io::write_all(STDOUT_FILENO, b" ");
+pub fn number<W: Write>(to: &mut W, n: u64) -> io::Result<()> {
+    write!(to, "{n} ")
 }
 
 // Prints each four bytes as a number.
-pub fn numbers(s: &[u8]) {
+pub fn numbers<W: Write>(to: &mut W, s: &[u8]) -> io::Result<()> {
     let n = s.len() / 4;
     let mut i = 0;
     while i < n {
-        number(wire::int_at(s, 4 * i) as u64);
+        number(to, wire::int_at(s, 4 * i) as u64)?;
         i += 1;
     }
+    Ok(())
 }
 
 // Prints bytes in hex.
-pub fn hex(s: &[u8]) {
+pub fn hex<W: Write>(to: &mut W, s: &[u8]) -> io::Result<()> {
     let mut i = 0;
     while i < s.len() {
-        io::print_hex(STDOUT_FILENO, wire::wide(s[i]) as u64, 2);
+        write!(to, "{:02x}", s[i])?;
         i += 1;
     }
+    Ok(())
 }
 
 // Sets each byte to the mark.

@@ -5,9 +5,10 @@ ghost use Rattle.rowlist.specs.Records.{record_of, overlay, blank};
 
 use crate::print;
 use encoding::Row;
-use libc::STDOUT_FILENO;
+use std::io;
+use std::io::Write;
 
-// What the reader leaves in a list of eight blank rows. It is proved by hand and every edit breaks the proof, so it holds no logic.
+// What the reader leaves in a list of eight blank rows.
 fn first_rows(table: &[u8], top: u32, message: &[u8]) -> [Row; 8]
     ensures { result ≡ overlay (map record_of (reading table.now top message.now 96).rows) (replicate 8 blank) }
 {
@@ -21,23 +22,31 @@ fn first_rows(table: &[u8], top: u32, message: &[u8]) -> [Row; 8]
 }
 
 // Prints a row.
-fn show(r: Row) {
-    print::number(r.member as u64);
-    print::number(r.place as u64);
-    print::number(r.length as u64);
+fn show<W: Write>(to: &mut W, r: Row) -> io::Result<()> {
+    print::number(to, r.member as u64)?;
+    print::number(to, r.place as u64)?;
+    print::number(to, r.length as u64)?;
+    Ok(())
 }
 
 // Prints every element.
-fn show_rows(rows: [Row; 8]) {
+fn show_rows<W: Write>(to: &mut W, rows: [Row; 8]) -> io::Result<()> {
     let mut i = 0;
     while i < 8 {
-        show(rows[i]);
+        show(to, rows[i])?;
         i += 1;
     }
-    io::write_all(STDOUT_FILENO, b"\n");
+    to.write_all(b"\n")?;
+    Ok(())
 }
 
 // A call of the reader with eight row records.
-pub fn records_call(table: &[u8], top: u32, message: &[u8]) {
-    show_rows(first_rows(table, top, message));
+pub fn records_call<W: Write>(
+    to: &mut W,
+    table: &[u8],
+    top: u32,
+    message: &[u8],
+) -> io::Result<()> {
+    show_rows(to, first_rows(table, top, message))?;
+    Ok(())
 }

@@ -2,39 +2,43 @@
 // One recorded table has 250 struct rows, each with four members of the row before: no call may walk the trees of its types.
 use crate::print;
 use encoding::Verdict;
-use libc::STDOUT_FILENO;
+use std::io;
+use std::io::Write;
 
 // Prints a form as a letter.
-fn letter(form: usize) {
+fn letter<W: Write>(to: &mut W, form: usize) -> io::Result<()> {
     if form < 11 {
-        io::write_all(STDOUT_FILENO, &[97 + form as u8]);
+        to.write_all(&[97 + form as u8])?;
     }
+    Ok(())
 }
 
 // Prints the form of each row of a table.
-fn forms(table: &[u8]) {
+fn forms<W: Write>(to: &mut W, table: &[u8]) -> io::Result<()> {
     let mut shapes = [10u8; 256];
     shapes::fill(table, table::types_at(table), &mut shapes);
     let n = table::rows(table);
     let mut t = 0;
     while t < n {
-        letter(shapes::form(&shapes, t));
+        letter(to, shapes::form(&shapes, t))?;
         t += 1;
     }
+    Ok(())
 }
 
 // Checks a table.
-pub fn check_call(table: &[u8]) {
+pub fn check_call<W: Write>(to: &mut W, table: &[u8]) -> io::Result<()> {
     let v = codec::check(table);
     match v {
         Verdict::Sound => {
-            io::write_all(STDOUT_FILENO, b"0 0 ");
-            forms(table);
+            to.write_all(b"0 0 ")?;
+            forms(to, table)?;
         }
         Verdict::Broken(rule, place) => {
-            print::number(rule as u64);
-            io::print_decimal(STDOUT_FILENO, place as u64);
+            print::number(to, rule as u64)?;
+            write!(to, "{place}")?;
         }
     }
-    io::write_all(STDOUT_FILENO, b"\n");
+    to.write_all(b"\n")?;
+    Ok(())
 }
