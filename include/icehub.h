@@ -18,13 +18,13 @@
  *
  * Nothing is kept between calls: there is no heap and no global state. Calls may run in several threads at once.
  *
- * Stack and time are measured, not proved (x86-64; docs/SPEED.md has the figures of each call). icehub_member,
- * icehub_convert, icehub_remove, icehub_night and icehub_sheet took up to 18 KB of stack, most of it for lists of rows,
- * the comparison 29 KB. No other call took more than 7 KB over all recorded and 40,000 generated calls. Each level of
- * nesting of the table's types takes 0.5 KB more: 143 KB more under a table of 256 nested types. icehub_read and
- * icehub_write took about 0.1 us for a message of 22 bytes and under 1 us for
- * 1 KB, icehub_read 0.2 s for the slowest message of 65,536 bytes that we know. Each of the calls that return one more
- * number costs as much as a full read or write.
+ * Stack and time are measured, not proved (x86-64, built by the older kit; docs/SPEED.md has the figures of each call).
+ * icehub_member, icehub_convert, icehub_remove, icehub_night, icehub_sheet and, under a table of more than 128 members,
+ * icehub_read and icehub_read_numbers took up to 18 KB of stack, most of it for lists of rows, the comparison 29 KB. No
+ * other call took more than 7 KB over all recorded and 40,000 generated calls. Each level of nesting of the table's
+ * types takes 0.5 KB more: 143 KB more under a table of 256 nested types. icehub_read and icehub_write took about 0.1 us
+ * for a message of 22 bytes and under 1 us for 1 KB, icehub_read 0.2 s for the slowest message of 65,536 bytes that we
+ * know. Each of the calls that return one more number costs as much as a full read or write.
  */
 #ifndef ICEHUB_H
 #define ICEHUB_H
