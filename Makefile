@@ -18,10 +18,10 @@ WARNINGS = -Wall -Wextra -Wconversion -Wsign-conversion -Wshadow -Werror -pedant
 VERSION := $(shell sed -n 's/^\#define ICEHUB_VERSION "\(.*\)"/\1/p' include/icehub.h)
 LIBRARY = target/staticlib/libicehub.a
 # The crates that the library is made of: icehub and all that it depends on.
-LIBRARY_CRATES := $(shell awk -F: '{ needs[$$1] = $$2 } END { split("icehub", todo); count = 1; \
+LIBRARY_CRATES := $(shell awk -F: '{ sub(/ staticlib$$/, "", $$1); needs[$$1] = $$2 } END { split("icehub", todo); count = 1; \
 	for (i = 1; i <= count; i++) if (todo[i] in needs && !(todo[i] in seen)) { seen[todo[i]]; print todo[i]; \
 	more = split(needs[todo[i]], next_, " "); for (j = 1; j <= more; j++) todo[++count] = next_[j] } }' crates.txt)
-LIBRARY_SOURCES := $(shell find $(LIBRARY_CRATES:%=crates/%) -name '*.rt' -o -name '*.antt')
+LIBRARY_SOURCES := $(shell find $(LIBRARY_CRATES:%=crates/%) -name out -prune -o '(' -name '*.rt' -o -name '*.antt' ')' -print)
 TOOL = target/tool/icehub
 TOOL_SOURCES := $(shell find tools/icehub/src bindings/rust/src -name '*.rs') \
 	tools/icehub/Cargo.toml bindings/rust/Cargo.toml bindings/rust/build.rs
@@ -55,7 +55,7 @@ run: $(TOOL)
 	@echo && echo '--- an owner'\''s name that is no text'
 	@$(TOOL) show samples/owner.table 1 samples/owner-latin.message || [ $$? -eq 1 ]
 
-## test: the gate: prove every crate from nothing, try the wrong edits, run the programs, then `make callers`
+## test: the gate: prove every crate, try the wrong edits, run the programs, then `make callers`
 test:
 	.ci/run
 
@@ -67,10 +67,10 @@ callers: example bindings
 ## library: prove and build the static library, target/staticlib/libicehub.a; with TARGET target/TARGET/libicehub.a
 library: $(if $(TARGET),target/$(TARGET)/libicehub.a,$(LIBRARY))
 
-# The check proves the crates below icehub side by side; staticlib, which would prove them one by one, finds them proved.
 $(LIBRARY): $(LIBRARY_SOURCES)
-	$(RT) check $(filter-out icehub,$(LIBRARY_CRATES))
-	$(RT) staticlib icehub
+	cd crates/icehub && $(RT) lib
+	@mkdir -p $(@D)
+	cp crates/icehub/out/libicehub.a $@
 
 target/%/libicehub.a: $(LIBRARY_SOURCES) tools/cross/library
 	RT=$(RT) tools/cross/library $*
@@ -114,14 +114,17 @@ bench: $(LIBRARY)
 stack: $(LIBRARY)
 	$(CARGO) run $(INDEPENDENT) --bin stack -- $(RECORDED)
 
-## bindings: test the Rust crate and the tool over the library
+## bindings: test the Rust crate and the tool over the library; the crate's copies of header and samples are those of the repository
 bindings: $(LIBRARY)
+	diff -r samples bindings/rust/samples
+	diff include/icehub.h bindings/rust/include/icehub.h
 	$(CARGO) test --offline --manifest-path bindings/rust/Cargo.toml
 	$(CARGO) test --offline --manifest-path tools/icehub/Cargo.toml
 
 ## samples: write the sample files again from samples/README.md
 samples:
 	samples/make.sh
+	cp samples/* bindings/rust/samples
 
 ## install: copy tool, header, library and pkg-config file below PREFIX
 install: $(TOOL)
@@ -133,4 +136,4 @@ install: $(TOOL)
 
 ## clean: remove all that was built, proofs' results too
 clean:
-	rm -rf target
+	rm -rf target crates/*/out
