@@ -1,5 +1,5 @@
 #!/usr/bin/env python3
-"""Brings the repository's own names to one spelling, once, after /opt/rattle/port/port.py.
+"""Brings the repository's own names to one spelling, once, after the kit's own script for a port.
 
 usage: python3 tools/port/respell.py            in the repository
 
