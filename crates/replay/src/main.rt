@@ -35,7 +35,7 @@ mod tables;
 mod writes;
 
 use std::io;
-use std::io::{BufReader, BufWriter, Read, Write};
+use std::io::{Read, Write};
 
 // Number i of a head.
 fn field(head: &[u8; 28], i: usize) -> u32 {
@@ -394,8 +394,7 @@ fn run<R: Read, W: Write>(from: &mut R, to: &mut W) -> io::Result<()> {
 
 // Runs the records of standard input; an error of reading or writing ends the program with it.
 fn main(rt: HostRuntime) -> io::Result<()> {
-    let mut from = BufReader::new(rt.alloc(), rt.reader())?;
-    let mut to = BufWriter::new(rt.alloc(), io::writer(&rt))?;
-    run(&mut from, &mut to)?;
-    to.flush()
+    let mut from = rt.reader();
+    let mut to = io::writer(&rt);
+    run(&mut from, &mut to)
 }
