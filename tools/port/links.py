@@ -4,7 +4,7 @@
 usage: python3 tools/port/links.py            in the repository; it may be run again
 
 A function's proof is a folder of the crate's proofs/. The link leads to its Proof.antt, else to its Answers.antt, else to its Invariants.antt. Where the check
-finds the whole proof there is no file, and the function's name stands without a link. Functions that call one another are proved together: their link is
+finds the whole proof there is no file, and the function's name is given without a link. Functions that call one another are proved together: their link is
 the folder of the cycle, by its name. Only the column of proofs is turned. Links of the pages that lead to no file are printed at the end.
 """
 
