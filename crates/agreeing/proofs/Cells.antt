@@ -620,7 +620,7 @@ module _ (S weights : List ℕ) where
   weighed_begin e = record { size = e; weight_of = λ i l. absurd (omega arith) }
 
   module _ (x : ℕ) (W : Weighed S weights x) where
-    pub weighed_next : (n : ℕ) → n ≡ type_rows S → x ≤ n → (w : ℕ) → w ≡ weigh S (members_of (indexed S x)) → Weighed S (set weights x w) (x + 1)
+    pub weighed_next : (n : ℕ) → n ≡ type_rows S → x < n + 1 → (w : ℕ) → w ≡ weigh S (members_of (indexed S x)) → Weighed S (set weights x w) (x + 1)
     weighed_next n en h w ew = record {
       size = length-set weights x w ∙ W.size;
       weight_of = λ i l. ⊎_elim
@@ -629,7 +629,7 @@ module _ (S weights : List ℕ) where
           (eq-or-lt_of_le {n = i} {m = x} (omega arith));
     }
 
-    pub weighed_end : (n : ℕ) → n ≡ type_rows S → x ≤ n + 1 → n < x → Weighed S weights (type_rows S + 1)
+    pub weighed_end : (n : ℕ) → n ≡ type_rows S → x ≤ n + 1 → n + 1 ≤ x → Weighed S weights (type_rows S + 1)
     weighed_end n en l h = let e : x ≡ type_rows S + 1 = omega arith in rw (← e) W
 
     pub weighed_upto : (v : ℕ) → v < x → Weighed S weights (v + 1)
@@ -659,10 +659,10 @@ module _ (S cells : List ℕ) where
     pub own_alike : Alike S S cells 0 x x
     own_alike = record { same = λ i j li lj. let e : 0 + j ≡ j = omega arith in rw e (firsts_are S x i _ _ li (F.each i li) (indexed S j) (own_more S j x _ lj (F.each j lj))) }
 
-    pub own_ranked : (n : ℕ) → n ≡ type_rows S → x ≤ n → Ranked S S cells 0 x
+    pub own_ranked : (n : ℕ) → n ≡ type_rows S → x < n + 1 → Ranked S S cells 0 x
     own_ranked n en h = record { rank_of = λ j l. let e : 0 + j ≡ j = omega arith in rw e (first_rank S (indexed S j) _ (own_more S j (type_rows S + 1) _ (omega arith) (F.each j l))) }
 
-    pub own_next : (n : ℕ) → n ≡ type_rows S → x ≤ n → (v : ℕ) → IsFirst S x (indexed S x) v → Firsts S (set cells x v) (x + 1)
+    pub own_next : (n : ℕ) → n ≡ type_rows S → x < n + 1 → (v : ℕ) → IsFirst S x (indexed S x) v → Firsts S (set cells x v) (x + 1)
     own_next n en h v I = record {
       size = length-set cells x v ∙ F.size;
       each = λ i l. ⊎_elim
@@ -671,7 +671,7 @@ module _ (S cells : List ℕ) where
           (eq-or-lt_of_le {n = i} {m = x} (omega arith));
     }
 
-    pub own_end : (n : ℕ) → n ≡ type_rows S → x ≤ n + 1 → n < x → Firsts S cells (type_rows S + 1)
+    pub own_end : (n : ℕ) → n ≡ type_rows S → x ≤ n + 1 → n + 1 ≤ x → Firsts S cells (type_rows S + 1)
     own_end n en l h = let e : x ≡ type_rows S + 1 = omega arith in rw (← e) F
 
 -- the cells of the old table, and those of the new one below index y
@@ -693,7 +693,7 @@ module _ (S T cells : List ℕ) where
     pub filled_alike : (n : ℕ) → n ≡ type_rows S → Alike S T cells 257 (n + 1) y
     filled_alike n en = rw en filled_same
 
-    pub filled_next : (n : ℕ) → n ≡ type_rows S → (m : ℕ) → m ≡ type_rows T → y ≤ m → (v : ℕ) → IsFirst S (n + 1) (indexed T y) v → Filled S T (set cells (257 + y) v) (y + 1)
+    pub filled_next : (n : ℕ) → n ≡ type_rows S → (m : ℕ) → m ≡ type_rows T → y < m + 1 → (v : ℕ) → IsFirst S (n + 1) (indexed T y) v → Filled S T (set cells (257 + y) v) (y + 1)
     filled_next n en m em h v I = record {
       old = record {
         size = length-set cells (257 + y) v ∙ F.old.size;
@@ -705,7 +705,7 @@ module _ (S T cells : List ℕ) where
           (eq-or-lt_of_le {n = j} {m = y} (omega arith));
     }
 
-    pub filled_end : (m : ℕ) → m ≡ type_rows T → y ≤ m + 1 → m < y → Agreed S T cells
+    pub filled_end : (m : ℕ) → m ≡ type_rows T → y ≤ m + 1 → m + 1 ≤ y → Agreed S T cells
     filled_end m em l h = let e : y ≡ type_rows T + 1 = omega arith in rw (← e) filled_same
 
 module _ (S T cells : List ℕ) (A : Agreed S T cells) (m n i j : ℕ) (ei : ty_of S i ≡ member_ty S (trees S) m) (ej : ty_of T j ≡ member_ty T (trees T) n) where

@@ -132,12 +132,10 @@ fn run(
     requires alike { Alike old.now table.now cells.now base (t + 1) (u + 1) }
     ensures { result ≡ same_tys (member_tys old.now (tys old.now t) (range m n)) (member_tys table.now (tys table.now u) (range k n)) }
 {
-    let mut i = 0;
-    while i < n {
+    for i in 0..n {
         if !types(old, first, t, m + i, table, from, u, k + i, cells, base) {
             return false;
         }
-        i += 1;
     }
     true
 }
@@ -206,12 +204,10 @@ fn entries(old: &[u8], first: usize, i: usize, new: &[u8], from: usize, j: usize
     requires from_value { (from ≡ entries_at new.now) × (from < 4194304) × (j < 65536) × (n < 65536) }
     ensures { result ≡ same_bytes (map (list_entry old.now) (range i n)) (map (list_entry new.now) (range j n)) }
 {
-    let mut k = 0;
-    while k < n {
+    for k in 0..n {
         if !same_entry(old, first, i + k, new, from, j + k) {
             return false;
         }
-        k += 1;
     }
     true
 }
@@ -273,10 +269,8 @@ fn sum(
     ensures { result ≡ weigh old.now (member_tys table.now (tys table.now u) (range m n)) }
 {
     let mut w = 0;
-    let mut i = 0;
-    while i < n {
+    for i in 0..n {
         w += cells[base + member_below(table, from, u, m + i)];
-        i += 1;
     }
     w
 }
@@ -397,12 +391,10 @@ fn first(
     if k == 13 {
         return 0;
     }
-    let mut x = 1;
-    while x < end {
+    for x in 1..end {
         if agrees(old, begin, table, start, cells, base, weights, w, k, x, y) {
             return x;
         }
-        x += 1;
     }
     end
 }
@@ -414,14 +406,12 @@ fn fill_old(old: &[u8], begin: usize, cells: &mut [usize; 514], weights: &mut [u
     ensures firsts { Firsts old.now cells.new (type_rows old.now + 1) }
     ensures weighed { Weighed old.now weights.new (type_rows old.now + 1) }
 {
-    let n = table::rows(old);
-    let mut x = 0;
-    while x <= n {
+    let end = table::rows(old) + 1;
+    for x in 0..end {
         let w = weight(old, old, begin, cells, 0, x);
         let c = first(old, begin, old, begin, cells, 0, weights, w, x, x);
         cells[x] = c;
         weights[x] = w;
-        x += 1;
     }
 }
 
@@ -440,13 +430,11 @@ fn fill_new(
     ensures { Agreed old.now new.now cells.new }
 {
     let end = table::rows(old) + 1;
-    let n = table::rows(new);
-    let mut y = 0;
-    while y <= n {
+    let stop = table::rows(new) + 1;
+    for y in 0..stop {
         let w = weight(old, new, start, cells, 257, y);
         let c = first(old, begin, new, start, cells, 257, weights, w, end, y);
         cells[257 + y] = c;
-        y += 1;
     }
 }
 

@@ -1,14 +1,14 @@
 -- The check accepts exactly the plans, and 46 is where `BurstDemands` says: `judge_checked`, `judge_placed`.
 -- The idea: entries stay begun with one more exactly if that one breaks no rule with those before it (`begun_snoc`, `begun_fits`).
 -- Assumes nothing.
-use Rattle.std.specs.Prelude.{◌≡◌, ℕ, zero, suc, ◌+◌, ◌<◌, ◌≤◌, Bool, true, false, not, ◌&&◌, ◌||◌, List, [], ◌∷◌, ◌++◌, length, take, drop, ◌==◌, ◌≢◌, nat_eq, nat_le, nat_lt, refl}
+use Rattle.std.specs.Prelude.{◌≡◌, ℕ, zero, suc, ◌+◌, ◌<◌, ◌≤◌, Bool, true, false, not, ◌&&◌, ◌||◌, List, [], ◌∷◌, ◌++◌, length, take, drop, ◌==◌, ◌≢◌, nat_eq, nat_le, nat_lt, Option, Some, None, refl}
 use Rattle.std.proofs.Common.{sym, ap, ◌∙◌, subst, true≢false, append_assoc, append-nil, arith, length-append, take-append-drop, take-suc, eqb-true, leb-false, ltb-true, ltb-false, le-ltb, eq-eqb, ne_eqb}
 use Rattle.std.proofs.lemmas.Bool.{false≢true, eqb-false, not-false, lt-leb}
-use Rattle.std.proofs.Math.Option.{Option, none, some}
+use Rattle.std.proofs.lemmas.Option.{none-some}
 use Rattle.std.proofs.Math.ListN.{get_or-append}
 use Rattle.std.proofs.Math.Seq.{take-append_seam, get_or-append_seam}
 use Rattle.encoding.specs.Result.{pick}
-use Rattle.encoding.proofs.ResultLaws.{some≢none, both_true, either_false}
+use Rattle.encoding.proofs.ResultLaws.{both_true, either_false}
 use Rattle.encoding.specs.Table.{range}
 use Rattle.bursts.specs.declared.Checked.{Checked}
 use Rattle.bursts.specs.declared.Checked.TheVariants.{Sound, Breaks}
@@ -267,7 +267,7 @@ begun_fits ws xs e b = record {
 
 -- ---- the first entry that breaks a rule
 
-some_same : {o : Option ℕ} {a b : ℕ} → o ≡ some a → o ≡ some b → a ≡ b
+some_same : {o : Option ℕ} {a b : ℕ} → o ≡ Some a → o ≡ Some b → a ≡ b
 some_same e h = cc
 
 pub broken_step : (ws : List Waiting) (i : ℕ) (before : List Entry) (e : Entry) (es : List Entry) → broken_by ws before e ≡ false
@@ -276,18 +276,18 @@ unfolding first_broken
 broken_step ws i before e es w = rw w
 
 pub broken_here : (ws : List Waiting) (i : ℕ) (before : List Entry) (e : Entry) (es : List Entry) → broken_by ws before e ≡ true
-    → first_broken ws i before (e ∷ es) ≡ some i
+    → first_broken ws i before (e ∷ es) ≡ Some i
 unfolding first_broken
 broken_here ws i before e es w = rw w
 
 -- if no entry breaks a rule, all are begun
-none_begun : (ws : List Waiting) (i : ℕ) (before es : List Entry) → first_broken ws i before es ≡ none → Begun ws before → Begun ws (before ++ es)
+none_begun : (ws : List Waiting) (i : ℕ) (before es : List Entry) → first_broken ws i before es ≡ None → Begun ws before → Begun ws (before ++ es)
 none_begun ws i before [] h b = rw (append-nil before) b
 none_begun ws i before (e ∷ es) h b = go (broken_by ws before e) refl (λ u v. none_begun ws (suc i) (before ++ (e ∷ [])) es u v)
   where
     go : (t : Bool) → broken_by ws before e ≡ t
-        → (first_broken ws (suc i) (before ++ (e ∷ [])) es ≡ none → Begun ws (before ++ (e ∷ [])) → Begun ws (before ++ (e ∷ []) ++ es)) → Begun ws (before ++ (e ∷ es))
-    go true w ih = absurd (some≢none (broken_here ws i before e es w) h)
+        → (first_broken ws (suc i) (before ++ (e ∷ [])) es ≡ None → Begun ws (before ++ (e ∷ [])) → Begun ws (before ++ (e ∷ []) ++ es)) → Begun ws (before ++ (e ∷ es))
+    go true w ih = absurd (none-some i (sym h ∙ broken_here ws i before e es w))
     go false w ih =
         subst (λ (l : List Entry). Begun ws l) (append_assoc before (e ∷ []) es)
         (ih (sym (broken_step ws i before e es w) ∙ h) (begun_snoc ws before e b (fits_of ws before e w)))
@@ -298,9 +298,9 @@ record Stops (ws : List Waiting) (es : List Entry) (k : ℕ) : Type 0 where
   so_far : Begun ws (take k es)
   no_further : Begun ws (take (suc k) es) → ⊥
 
-some_stops : (ws : List Waiting) (i k : ℕ) (before es : List Entry) → i ≡ length before → first_broken ws i before es ≡ some k → Begun ws before → Stops ws (before ++ es) k
+some_stops : (ws : List Waiting) (i k : ℕ) (before es : List Entry) → i ≡ length before → first_broken ws i before es ≡ Some k → Begun ws before → Stops ws (before ++ es) k
 unfolding first_broken
-some_stops ws i k before [] z h b = absurd (some≢none h refl)
+some_stops ws i k before [] z h b = absurd (none-some k h)
 some_stops ws i k before (e ∷ es) z h b = go (broken_by ws before e) refl (λ u v w. some_stops ws (suc i) k (before ++ (e ∷ [])) es u v w)
   where
     here : k ≡ length before → broken_by ws before e ≡ true → Stops ws (before ++ (e ∷ es)) k
@@ -316,7 +316,7 @@ some_stops ws i k before (e ∷ es) z h b = go (broken_by ws before e) refl (λ 
         }
 
     go : (t : Bool) → broken_by ws before e ≡ t
-        → (suc i ≡ length (before ++ (e ∷ [])) → first_broken ws (suc i) (before ++ (e ∷ [])) es ≡ some k → Begun ws (before ++ (e ∷ [])) → Stops ws (before ++ (e ∷ []) ++ es) k)
+        → (suc i ≡ length (before ++ (e ∷ [])) → first_broken ws (suc i) (before ++ (e ∷ [])) es ≡ Some k → Begun ws (before ++ (e ∷ [])) → Stops ws (before ++ (e ∷ []) ++ es) k)
         → Stops ws (before ++ (e ∷ es)) k
     go true w ih = here (some_same h (broken_here ws i before e es w) ∙ z) w
     go false w ih =
@@ -406,8 +406,8 @@ verdict_of ws es = go (first_broken ws 0 [] es) refl
     whole b false w q = proper (record { begun = b; all = λ m k. stands_of es m (missing_none es 0 (length ws) m w (omega arith) (omega (arith, k))) }) q
 
     go : (o : Option ℕ) → first_broken ws 0 [] es ≡ o → Verdict ws es
-    go (some k) w = stopped k (some_stops ws 0 k [] es refl w (begun_empty ws)) (ap (verdict ws es) w)
-    go none w = whole (none_begun ws 0 [] es w (begun_empty ws)) (missing ws es) refl (ap (verdict ws es) w)
+    go (Some k) w = stopped k (some_stops ws 0 k [] es refl w (begun_empty ws)) (ap (verdict ws es) w)
+    go None w = whole (none_begun ws 0 [] es w (begun_empty ws)) (missing ws es) refl (ap (verdict ws es) w)
 
 pub judge_checked : (ws : List Waiting) (es : List Entry) → (judge ws es ≡ Sound → ProperPlan ws es) × (ProperPlan ws es → judge ws es ≡ Sound)
 judge_checked ws es = (accepted (verdict_of ws es), taken (verdict_of ws es))

@@ -1,13 +1,12 @@
 -- What the planner makes is a plan and passes the check, and where it refuses: `plan_passes`, `plan_refused`, `plan_lent`, `plan_thrifty` of BurstDemands.
 -- The idea: while the planner fills, the entries so far are begun, message k is in entry k, and the last burst has as many bytes left as it counts.
 -- Assumes nothing.
-use Rattle.std.specs.Prelude.{◌≡◌, ℕ, zero, suc, ◌+◌, ◌-◌, ◌*◌, ◌/◌, ◌<◌, ◌≤◌, Bool, true, false, ltb, leb, List, [], ◌∷◌, ◌++◌, length, take, drop, ◌≢◌, nat_le, nat_lt, slice_index_or, refl}
+use Rattle.std.specs.Prelude.{◌≡◌, ℕ, zero, suc, ◌+◌, ◌-◌, ◌*◌, ◌/◌, ◌<◌, ◌≤◌, Bool, true, false, ltb, leb, List, [], ◌∷◌, ◌++◌, length, take, drop, ◌≢◌, nat_le, nat_lt, slice_index_or, Option, Some, None, refl}
 use Rattle.std.proofs.Common.{sym, ap, ◌∙◌, subst, append_assoc, append-nil, arith, length-append, length-drop, drop_at, take_at, leb-true, leb-false, ltb-false, lt-ltb, le-ltb, le-leb}
-use Rattle.std.proofs.Math.Option.{Option, none, some}
 use Rattle.std.proofs.Math.Seq.{get_or-append_seam, take-append_seam}
 use Rattle.std.proofs.lemmas.List.{take-append-le}
 use Rattle.std.proofs.lemmas.Bool.{lt-leb}
-use Rattle.encoding.proofs.ResultLaws.{some≢none}
+use Rattle.std.proofs.lemmas.Option.{none-some}
 use Rattle.bursts.specs.Bursts.{Waiting, Entry, most, message_at, length_of, bytes_in, waitings, entries, judge, checking, checked_numbers, too_long, fill, plan, Plan, plan_of, no_plan, entry_room, plan_within, planning, planned_of, planned_numbers, entry_numbers, plan_listed}
 use Rattle.bursts.specs.BurstDemands.{entry_at, Or, one, other, Begun, ProperPlan, PlanPasses, FirstLong, NoneLong, PlanRefused, PlanListed, PlanThrifty}
 use Rattle.bursts.proofs.PairLaws.{waitings_count}
@@ -167,7 +166,7 @@ plan_proper ws n =
 
 -- ---- 45 and 19
 
-long_none : (i : ℕ) (ws : List Waiting) → too_long i ws ≡ none → NoneLong ws
+long_none : (i : ℕ) (ws : List Waiting) → too_long i ws ≡ None → NoneLong ws
 unfolding too_long length_of message_at
 long_none i [] h = λ j k. absurd (omega (arith, k))
 long_none i (w ∷ ws) h = go (nat_lt most w.bytes) refl (λ u. long_none (suc i) ws u)
@@ -176,27 +175,27 @@ long_none i (w ∷ ws) h = go (nat_lt most w.bytes) refl (λ u. long_none (suc i
     at t ih zero k = ltb-false most w.bytes t
     at t ih (suc j) k = ih j (omega arith)
 
-    go : (t : Bool) → nat_lt most w.bytes ≡ t → (too_long (suc i) ws ≡ none → (j : ℕ) → j < length ws → length_of ws j ≤ most) → (j : ℕ) → j < length (w ∷ ws) → length_of (w ∷ ws) j ≤ most
-    go true t ih = absurd (some≢none {o = too_long i (w ∷ ws)} {a = i} (rw t) h)
+    go : (t : Bool) → nat_lt most w.bytes ≡ t → (too_long (suc i) ws ≡ None → (j : ℕ) → j < length ws → length_of ws j ≤ most) → (j : ℕ) → j < length (w ∷ ws) → length_of (w ∷ ws) j ≤ most
+    go true t ih = absurd (none-some i (sym h ∙ rw t))
     go false t ih = at t (ih (rw t at h))
 
-none_long : (i : ℕ) (ws : List Waiting) → NoneLong ws → too_long i ws ≡ none
+none_long : (i : ℕ) (ws : List Waiting) → NoneLong ws → too_long i ws ≡ None
 unfolding too_long length_of message_at
 none_long i [] n = refl
 none_long i (w ∷ ws) n = rw (le-ltb most w.bytes (n 0 (omega arith))) (none_long (suc i) ws (λ j k. n (suc j) (omega (arith, k))))
 
-first_long : (i : ℕ) (ws : List Waiting) (k : ℕ) → FirstLong ws k → too_long i ws ≡ some (i + k)
+first_long : (i : ℕ) (ws : List Waiting) (k : ℕ) → FirstLong ws k → too_long i ws ≡ Some (i + k)
 unfolding too_long length_of message_at
 first_long i [] k f = absurd (omega (arith, f.inside))
-first_long i (w ∷ ws) zero f = rw (lt-ltb most w.bytes f.long) (ap some (omega arith))
+first_long i (w ∷ ws) zero f = rw (lt-ltb most w.bytes f.long) (ap Some (omega arith))
 first_long i (w ∷ ws) (suc k) f =
     rw (le-ltb most w.bytes (f.before 0 (omega arith)))
-    (first_long (suc i) ws k (record { inside = omega (arith, f.inside); long = f.long; before = λ j l. f.before (suc j) (omega (arith, l)) }) ∙ ap some (omega arith))
+    (first_long (suc i) ws k (record { inside = omega (arith, f.inside); long = f.long; before = λ j l. f.before (suc j) (omega (arith, l)) }) ∙ ap Some (omega arith))
 
 pub plan_refused : PlanRefused
 unfolding planning plan_within entry_room planned_of planned_numbers
 plan_refused ms lent = record {
-  long = λ i f. ap told (ap (plan_within (waitings ms) (entry_room lent)) (first_long 0 (waitings ms) i f ∙ ap some (plain i)));
+  long = λ i f. ap told (ap (plan_within (waitings ms) (entry_room lent)) (first_long 0 (waitings ms) i f ∙ ap Some (plain i)));
   short = λ n l. ap told (ap (plan_within (waitings ms) (entry_room lent)) (none_long 0 (waitings ms) n) ∙ few (omega (arith, l, waitings_count ms))) ∙ ap (λ (k : ℕ). 19 ∷ k ∷ 0 ∷ []) (waitings_count ms);
   made = λ n l. ap (plan_within (waitings ms) (entry_room lent)) (none_long 0 (waitings ms) n) ∙ enough (omega (arith, l, waitings_count ms));
   numbers = λ n l. ap told (ap (plan_within (waitings ms) (entry_room lent)) (none_long 0 (waitings ms) n) ∙ enough (omega (arith, l, waitings_count ms))) ∙ ap (λ (k : ℕ). 0 ∷ 0 ∷ k ∷ []) ((plan_filled (waitings ms) n).count ∙ waitings_count ms);
@@ -208,10 +207,10 @@ plan_refused ms lent = record {
     plain : (i : ℕ) → 0 + i ≡ i
     plain i = omega arith
 
-    few : entry_room lent < length (waitings ms) → plan_within (waitings ms) (entry_room lent) none ≡ no_plan 19 (length (waitings ms))
+    few : entry_room lent < length (waitings ms) → plan_within (waitings ms) (entry_room lent) None ≡ no_plan 19 (length (waitings ms))
     few l = rw (lt-leb (length (waitings ms)) (entry_room lent) l)
 
-    enough : length (waitings ms) ≤ entry_room lent → plan_within (waitings ms) (entry_room lent) none ≡ plan_of (plan (waitings ms))
+    enough : length (waitings ms) ≤ entry_room lent → plan_within (waitings ms) (entry_room lent) None ≡ plan_of (plan (waitings ms))
     enough l = rw (le-leb (length (waitings ms)) (entry_room lent) l)
 
 -- ---- what is planned passes
@@ -232,14 +231,14 @@ unfolding plan_within
 planned_is ws k es h = go (too_long 0 ws) refl (nat_le (length ws) k) refl
   where
     go : (o : Option ℕ) → too_long 0 ws ≡ o → (t : Bool) → nat_le (length ws) k ≡ t → ProperPlan ws es
-    go (some i) w t q = absurd (plan≢no_plan h (ap (plan_within ws k) w))
-    go none w true q = subst (λ (l : List Entry). ProperPlan ws l) (plan_same (ap (plan_within ws k) w ∙ enough q) h) (plan_proper ws (long_none 0 ws w))
+    go (Some i) w t q = absurd (plan≢no_plan h (ap (plan_within ws k) w))
+    go None w true q = subst (λ (l : List Entry). ProperPlan ws l) (plan_same (ap (plan_within ws k) w ∙ enough q) h) (plan_proper ws (long_none 0 ws w))
       where
-        enough : leb (length ws) k ≡ true → plan_within ws k none ≡ plan_of (plan ws)
+        enough : leb (length ws) k ≡ true → plan_within ws k None ≡ plan_of (plan ws)
         enough q = rw q
-    go none w false q = absurd (plan≢no_plan h (ap (plan_within ws k) w ∙ few q))
+    go None w false q = absurd (plan≢no_plan h (ap (plan_within ws k) w ∙ few q))
       where
-        few : leb (length ws) k ≡ false → plan_within ws k none ≡ no_plan 19 (length ws)
+        few : leb (length ws) k ≡ false → plan_within ws k None ≡ no_plan 19 (length ws)
         few q = rw q
 
 pub plan_passes : PlanPasses
@@ -260,18 +259,18 @@ unfolding planning plan_within entry_room
 planned_room ms lent es h = go (too_long 0 (waitings ms)) refl (nat_le (length (waitings ms)) (lent / 2)) refl
   where
     go : (o : Option ℕ) → too_long 0 (waitings ms) ≡ o → (t : Bool) → nat_le (length (waitings ms)) (lent / 2) ≡ t → 2 * length es ≤ lent
-    go (some i) w t q = absurd (plan≢no_plan h (ap (plan_within (waitings ms) (lent / 2)) w))
-    go none w false q = absurd (plan≢no_plan h (ap (plan_within (waitings ms) (lent / 2)) w ∙ few q))
+    go (Some i) w t q = absurd (plan≢no_plan h (ap (plan_within (waitings ms) (lent / 2)) w))
+    go None w false q = absurd (plan≢no_plan h (ap (plan_within (waitings ms) (lent / 2)) w ∙ few q))
       where
-        few : leb (length (waitings ms)) (lent / 2) ≡ false → plan_within (waitings ms) (lent / 2) none ≡ no_plan 19 (length (waitings ms))
+        few : leb (length (waitings ms)) (lent / 2) ≡ false → plan_within (waitings ms) (lent / 2) None ≡ no_plan 19 (length (waitings ms))
         few q = rw q
-    go none w true q =
+    go None w true q =
         let same = plan_same (ap (plan_within (waitings ms) (lent / 2)) w ∙ enough q) h in
         let count = ap length same in
         let f = (plan_filled (waitings ms) (long_none 0 (waitings ms) w)).count in
         omega (arith, count, f, leb-true (length (waitings ms)) (lent / 2) q)
       where
-        enough : leb (length (waitings ms)) (lent / 2) ≡ true → plan_within (waitings ms) (lent / 2) none ≡ plan_of (plan (waitings ms))
+        enough : leb (length (waitings ms)) (lent / 2) ≡ true → plan_within (waitings ms) (lent / 2) None ≡ plan_of (plan (waitings ms))
         enough q = rw q
 
 pub plan_lent : PlanListed

@@ -1,34 +1,19 @@
--- One entry by the code's tests, and the loop of the check over the entries. Assumes nothing.
+-- The loop of the check over the entries. Assumes nothing.
 --
---   enter_..                         an entry's message and burst by their tests
 --   Passed                           what the loop keeps of the entries so far
 --   judged_begin, judged_astray      before the first entry, by its burst number
 --   judged_stuck, judged_late        an entry that breaks a rule
 --   judged_next                      an entry that breaks none
 --   judged_known, judged_before      its message is a waiting one; so are those before
---   judged_few                       the last burst number can grow by one in 64 bits
 --   judged_missing, judged_sound     after the last entry
-use Rattle.std.proofs.Common.{◌≡◌, ℕ, ◌+◌, ◌*◌, ◌/◌, ◌^◌, ◌<◌, ◌≤◌, Bool, true, false, not, List, length, get_or, take, sym, refl, ap, ◌∙◌, add-one, arith, le-leb}
-use borrow.Author.Tests.{lt-leb, not-true, not-false}
+use Rattle.std.proofs.Common.{◌≡◌, ℕ, ◌+◌, ◌*◌, ◌/◌, ◌<◌, ◌≤◌, Bool, true, false, not, List, length, get_or, take, Option, Some, None, sym, refl, ap, ◌∙◌, add-one, arith, subst}
+use borrow.Author.Tests.{not-true, not-false}
 use Rattle.bursts.specs.declared.Checked.TheVariants.{Sound, Breaks}
-use Rattle.bursts.specs.declared.Packed.{Packed}
-use Rattle.bursts.specs.declared.Packed.TheVariants.{Holds, Full}
-use Rattle.bursts.specs.declared.Risen.{Risen}
-use Rattle.bursts.specs.declared.Risen.TheVariants.{To, Late}
 use Rattle.bursts.specs.Bursts.{Entry, waitings, entries, checking}
 use Rattle.bursts.specs.BurstDemands.{entry_at}
-use Rattle.bursts.specs.Running.{Known, rising, opening, packing, entering}
-use Rattle.bursts.proofs.RunningLaws.{Running, Opens, opens_of, opens_not, running_begin, running_before, running_broken, running_late, running_stuck, running_known, running_next, running_missing, running_sound}
-use Rattle.bursts.proofs.PairLaws.{waitings_count, entries_count, length_at, entry_pair}
-
-module _ (ms : List ℕ) (last left m b : ℕ) where
-  pub enter_unknown : length ms / 2 ≤ m → Full ≡ entering (waitings ms) last left m b
-  unfolding entering
-  enter_unknown h = rw (waitings_count ms, le-leb (length ms / 2) m h)
-
-  pub enter_packed : m < length ms / 2 → (p : Packed) → p ≡ packing last left b (get_or ms (2 * m) 0) → p ≡ entering (waitings ms) last left m b
-  unfolding entering
-  enter_packed h p f = f ∙ rw (waitings_count ms, lt-leb (length ms / 2) m h, length_at ms m h)
+use Rattle.bursts.specs.Running.{rising, opening, entering, Known}
+use Rattle.bursts.proofs.RunningLaws.{Running, Opens, opens_of, opens_not, running_begin, running_broken, running_late, running_stuck, running_known, running_next, running_missing, running_sound, running_before}
+use Rattle.bursts.proofs.PairLaws.{waitings_count, entries_count, entries_take, entry_pair}
 
 -- what the loop keeps; a data type, so that a search does not look into it
 pub data Passed (ms ns : List ℕ) (i above last left : ℕ) : Type 0 where
@@ -51,9 +36,6 @@ opened : {ms ns : List ℕ} {i above last left : ℕ} → Passed ms ns i above l
 opened (passed r o) = o
 
 module _ (ms ns : List ℕ) (i above last left : ℕ) (o : Passed ms ns i above last left) where
-  pub judged_before : Known (waitings ms) (take i (entries ns))
-  judged_before = running_before (waitings ms) (entries ns) i above last left (runs o)
-
   module _ (h : i < length ns / 2) where
     -- the entry at hand
     abbrev here : Entry
@@ -62,25 +44,32 @@ module _ (ms ns : List ℕ) (i above last left : ℕ) (o : Passed ms ns i above 
     within : i < length (entries ns)
     within = omega (arith, entries_count ns)
 
-    pub judged_few : length ns < 2 ^ 64 → last < 18446744073709551615
-    judged_few f = omega (arith, (runs o).few)
+    -- the entries before, as the code takes them
+    before : entries (take (2 * i) ns) ≡ take i (entries ns)
+    before = entries_take i ns
 
-    pub judged_late : (y : Risen) → y ≡ rising (waitings ms) (take i (entries ns)) above (get_or ns (2 * i) 0) → y ≡ Late → Breaks i ≡ checking ms ns
+    risen : {y : Option ℕ} → y ≡ rising (waitings ms) (entries (take (2 * i) ns)) above (get_or ns (2 * i) 0) → y ≡ rising (waitings ms) (take i (entries ns)) above (get_or ns (2 * i) 0)
+    risen q = q ∙ ap (λ (es : List Entry). rising (waitings ms) es above (get_or ns (2 * i) 0)) before
+
+    pub judged_before : Known (waitings ms) (entries (take (2 * i) ns))
+    judged_before = subst (λ (es : List Entry). Known (waitings ms) es) (sym before) (running_before (waitings ms) (entries ns) i above last left (runs o))
+
+    pub judged_late : (y : Option ℕ) → y ≡ rising (waitings ms) (entries (take (2 * i) ns)) above (get_or ns (2 * i) 0) → y ≡ None → Breaks i ≡ checking ms ns
     unfolding checking
-    judged_late y q f = running_late (waitings ms) (entries ns) i above last left (runs o) within here (entry_pair ns i h) y q f
+    judged_late y q f = running_late (waitings ms) (entries ns) i above last left (runs o) within here (entry_pair ns i h) y (risen q) f
 
-    module _ (x : Packed) (q : x ≡ entering (waitings ms) last left (get_or ns (2 * i) 0) (get_or ns (2 * i + 1) 0)) where
-      pub judged_stuck : x ≡ Full → Breaks i ≡ checking ms ns
+    module _ (x : Option ℕ) (q : x ≡ entering (waitings ms) last left (get_or ns (2 * i) 0) (get_or ns (2 * i + 1) 0)) where
+      pub judged_stuck : x ≡ None → Breaks i ≡ checking ms ns
       unfolding checking
       judged_stuck f = running_stuck (waitings ms) (entries ns) i above last left (runs o) within here (entry_pair ns i h) x q f
 
-      module _ (b : ℕ) (f : x ≡ Holds b) where
+      module _ (b : ℕ) (f : x ≡ Some b) where
         pub judged_known : get_or ns (2 * i) 0 < length ms / 2
         judged_known = omega (arith, running_known (waitings ms) (entries ns) i above last left (runs o) within here (entry_pair ns i h) x q b f, waitings_count ms)
 
-        pub judged_next : (y : Risen) → y ≡ rising (waitings ms) (take i (entries ns)) above (get_or ns (2 * i) 0) → (a : ℕ) → y ≡ To a → Passed ms ns (i + 1) a (get_or ns (2 * i + 1) 0) b
+        pub judged_next : (y : Option ℕ) → y ≡ rising (waitings ms) (entries (take (2 * i) ns)) above (get_or ns (2 * i) 0) → (a : ℕ) → y ≡ Some a → Passed ms ns (i + 1) a (get_or ns (2 * i + 1) 0) b
         judged_next y s a t =
-            rw (add-one i) (passed (running_next (waitings ms) (entries ns) i above last left (runs o) within here (entry_pair ns i h) x q b f (opened o) y s a t) (opened o))
+            rw (add-one i) (passed (running_next (waitings ms) (entries ns) i above last left (runs o) within here (entry_pair ns i h) x q b f (opened o) y (risen s) a t) (opened o))
 
   module _ (h : length ns / 2 ≤ i) where
     ended : length (entries ns) ≤ i

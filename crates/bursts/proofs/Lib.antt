@@ -1,5 +1,4 @@
 -- Laws that the proofs of the check and the planner cite.
-pub mod Packing
 pub mod Looking
 pub mod Putting
 pub mod Judging

@@ -2,9 +2,10 @@
 -- Assumes nothing.
 --
 --   waitings_count, entries_count    how many pairs there are
+--   entries_take                     the first of them
 --   length_at, cabin_at              length and cabin of a message
 --   entry_pair, message_at_lem, burst_at an entry by its two numbers; its message and burst
-use Rattle.std.specs.Prelude.{◌≡◌, ℕ, zero, suc, ◌+◌, ◌*◌, ◌/◌, ◌<◌, List, [], ◌∷◌, length, slice_index, refl}
+use Rattle.std.specs.Prelude.{◌≡◌, ℕ, zero, suc, ◌+◌, ◌*◌, ◌/◌, ◌<◌, List, [], ◌∷◌, length, take, slice_index, refl}
 use Rattle.std.proofs.Common.{sym, ap, ◌∙◌, arith}
 use Rattle.bursts.specs.Bursts.{Waiting, Entry, waitings, entries, message_at, length_of, cabin_of}
 use Rattle.bursts.specs.BurstDemands.{entry_at}
@@ -20,6 +21,17 @@ unfolding entries
 entries_count [] = refl
 entries_count (a ∷ []) = refl
 entries_count (a ∷ b ∷ l) = omega (arith, entries_count l)
+
+two : (i : ℕ) → 2 * suc i ≡ suc (suc (2 * i))
+two i = omega arith
+
+-- the first pairs are the entries of the first numbers
+pub entries_take : (i : ℕ) (es : List ℕ) → entries (take (2 * i) es) ≡ take i (entries es)
+unfolding entries
+entries_take zero es = refl
+entries_take (suc i) [] = ap (λ (n : ℕ). entries (take n [])) (two i)
+entries_take (suc i) (a ∷ []) = ap (λ (n : ℕ). entries (take n (a ∷ []))) (two i)
+entries_take (suc i) (a ∷ b ∷ l) = ap (λ (n : ℕ). entries (take n (a ∷ b ∷ l))) (two i) ∙ ap {B = List Entry} (λ x. record { message = a; burst = b } ∷ x) (entries_take i l)
 
 -- the place of a pair after the first
 later : (a b : ℕ) (l : List ℕ) (i k : ℕ) → slice_index (a ∷ b ∷ l) (2 * suc i + k) ≡ slice_index l (2 * i + k)

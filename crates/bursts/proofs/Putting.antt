@@ -5,16 +5,12 @@
 --   Putting, putting_..      the messages left make the rest of the lent list
 --   answer_..                the answer by the first message that is too long and the room
 --   listed_..                the lent list after the call
-use Rattle.std.proofs.Common.{◌≡◌, ℕ, suc, ◌+◌, ◌-◌, ◌*◌, ◌/◌, ◌<◌, ◌≤◌, Bool, true, false, leb, List, [], ◌∷◌, ◌++◌, length, get_or, take, drop, set, sym, refl, ap, ◌∙◌, ap₂, append_assoc, add-one, arith, length-set, take-append-drop, drop-cons, take-suc-set, drop-set-lt, le-leb, leb-true}
-use mathlib.Core.Option.{Option, none, some}
+use Rattle.std.proofs.Common.{◌≡◌, ℕ, suc, ◌+◌, ◌-◌, ◌*◌, ◌/◌, ◌<◌, ◌≤◌, Bool, true, false, leb, List, [], ◌∷◌, ◌++◌, length, get_or, take, drop, set, Option, Some, None, sym, refl, ap, ◌∙◌, ap₂, append_assoc, add-one, arith, length-set, take-append-drop, drop-cons, take-suc-set, drop-set-lt, le-leb, leb-true}
 use borrow.Author.Tests.{lt-leb}
 use Rattle.encoding.specs.Result.{pick}
-use Rattle.bursts.specs.declared.Found.{Found}
-use Rattle.bursts.specs.declared.Found.TheVariants.{At, Nowhere}
 use Rattle.bursts.specs.declared.Planned.{Planned}
 use Rattle.bursts.specs.declared.Planned.TheVariants.{Made, Unplanned}
 use Rattle.bursts.specs.Bursts.{Waiting, most, waitings, message_at, length_of, too_long, fill, plan, Plan, plan_of, no_plan, entry_room, plan_within, planning, entry_numbers, plan_listed, planned_of}
-use Rattle.bursts.specs.Running.{found_of}
 use Rattle.bursts.proofs.RunningLaws.{drop_all}
 use Rattle.bursts.proofs.PairLaws.{waitings_count, length_at}
 
@@ -109,41 +105,23 @@ module _ (ms lent out : List ℕ) (i burst left : ℕ) (p : Putting ms lent out 
 
 -- ---- the answer
 
-at≢nowhere : {f : Found} {i : ℕ} → f ≡ At i → f ≡ Nowhere → ⊥
-at≢nowhere e h = let z : ◌≡◌ {A = ℕ} 0 1 = cc in omega arith
+module _ (ms : List ℕ) (room : ℕ) where
+  pub answer_long : (m : ℕ) → Some m ≡ too_long 0 (waitings ms) → Unplanned 45 m ≡ planned_of (planning ms room)
+  unfolding planning plan_within planned_of
+  answer_long m q = rw (← q)
 
-at_same : {f : Found} {i j : ℕ} → f ≡ At i → f ≡ At j → i ≡ j
-at_same e h = cc
-
-module _ (ms : List ℕ) (room : ℕ) (f : Found) (e : f ≡ found_of (too_long 0 (waitings ms))) where
-  pub answer_long : (m : ℕ) → f ≡ At m → Unplanned 45 m ≡ planned_of (planning ms room)
-  unfolding planning plan_within planned_of found_of
-  answer_long m q = go (too_long 0 (waitings ms)) refl
-    where
-      go : (o : Option ℕ) → too_long 0 (waitings ms) ≡ o → Unplanned 45 m ≡ planned_of (plan_within (waitings ms) (entry_room room) o)
-      go none w = absurd (at≢nowhere q (e ∙ ap found_of w))
-      go (some i) w = ap (Unplanned 45) (at_same q (e ∙ ap found_of w))
-
-  none_long : f ≡ Nowhere → too_long 0 (waitings ms) ≡ none
-  unfolding found_of
-  none_long q = go (too_long 0 (waitings ms)) refl
-    where
-      go : (o : Option ℕ) → too_long 0 (waitings ms) ≡ o → too_long 0 (waitings ms) ≡ none
-      go none w = w
-      go (some i) w = absurd (at≢nowhere (e ∙ ap found_of w) q)
-
-  pub answer_made : f ≡ Nowhere → length ms / 2 ≤ room / 2 → Made (length ms / 2) ≡ planned_of (planning ms room)
+  pub answer_made : None ≡ too_long 0 (waitings ms) → length ms / 2 ≤ room / 2 → Made (length ms / 2) ≡ planned_of (planning ms room)
   unfolding planning plan_within planned_of entry_room
-  answer_made q h = sym (ap (λ (o : Option ℕ). planned_of (plan_within (waitings ms) (room / 2) o)) (none_long q) ∙ rw (waitings_count ms, le-leb (length ms / 2) (room / 2) h) (ap Made (plan_count (waitings ms) ∙ waitings_count ms)))
+  answer_made q h = rw (← q, waitings_count ms, le-leb (length ms / 2) (room / 2) h) (sym (ap Made (plan_count (waitings ms) ∙ waitings_count ms)))
 
-  pub answer_short : f ≡ Nowhere → room / 2 < length ms / 2 → Unplanned 19 (length ms / 2) ≡ planned_of (planning ms room)
+  pub answer_short : None ≡ too_long 0 (waitings ms) → room / 2 < length ms / 2 → Unplanned 19 (length ms / 2) ≡ planned_of (planning ms room)
   unfolding planning plan_within planned_of entry_room
-  answer_short q h = sym (ap (λ (o : Option ℕ). planned_of (plan_within (waitings ms) (room / 2) o)) (none_long q) ∙ rw (waitings_count ms, lt-leb (length ms / 2) (room / 2) h))
+  answer_short q h = rw (← q, waitings_count ms, lt-leb (length ms / 2) (room / 2) h)
 
 -- ---- the lent list
 
 made≢unplanned : {p : Planned} {n c q : ℕ} → p ≡ Made n → p ≡ Unplanned c q → ⊥
-made≢unplanned e h = let z : ◌≡◌ {A = ℕ} 0 1 = cc in omega arith
+made≢unplanned e h = cc
 
 module _ (ms lent : List ℕ) (p : Planned) (e : p ≡ planned_of (planning ms (length lent))) where
   module _ (n : ℕ) (q : p ≡ Made n) where
@@ -154,30 +132,24 @@ module _ (ms lent : List ℕ) (p : Planned) (e : p ≡ planned_of (planning ms (
       where
         go : (o : Option ℕ) → too_long 0 (waitings ms) ≡ o → (t : Bool) → leb (length (waitings ms)) (length lent / 2) ≡ t
             → (plan_within (waitings ms) (length lent / 2) (too_long 0 (waitings ms)) ≡ plan_of (plan (waitings ms))) × (length ms / 2 ≤ length lent / 2)
-        go (some i) w t v = absurd (made≢unplanned q (e ∙ ap (λ (o : Option ℕ). planned_of (plan_within (waitings ms) (length lent / 2) o)) w))
-        go none w false v = absurd (made≢unplanned q (e ∙ ap (λ (o : Option ℕ). planned_of (plan_within (waitings ms) (length lent / 2) o)) w ∙ few))
+        go (Some i) w t v = absurd (made≢unplanned q (e ∙ ap (λ (o : Option ℕ). planned_of (plan_within (waitings ms) (length lent / 2) o)) w))
+        go None w false v = absurd (made≢unplanned q (e ∙ ap (λ (o : Option ℕ). planned_of (plan_within (waitings ms) (length lent / 2) o)) w ∙ few))
           where
-            few : planned_of (plan_within (waitings ms) (length lent / 2) none) ≡ Unplanned 19 (length (waitings ms))
+            few : planned_of (plan_within (waitings ms) (length lent / 2) None) ≡ Unplanned 19 (length (waitings ms))
             few = rw v
-        go none w true v = (ap (plan_within (waitings ms) (length lent / 2)) w ∙ enough, omega (arith, waitings_count ms, leb-true (length (waitings ms)) (length lent / 2) v))
+        go None w true v = (ap (plan_within (waitings ms) (length lent / 2)) w ∙ enough, omega (arith, waitings_count ms, leb-true (length (waitings ms)) (length lent / 2) v))
           where
-            enough : plan_within (waitings ms) (length lent / 2) none ≡ plan_of (plan (waitings ms))
+            enough : plan_within (waitings ms) (length lent / 2) None ≡ plan_of (plan (waitings ms))
             enough = rw v
 
     pub listed_room : length ms / 2 ≤ length lent / 2
     listed_room = made.1
-
-    pub listed_answer : Made n ≡ planned_of (planning ms (length lent))
-    listed_answer = sym q ∙ e
 
     pub listed_plan : (out : List ℕ) → out ≡ filled ms lent → out ≡ plan_listed (planning ms (length lent)) lent
     unfolding plan_listed
     listed_plan out f = f ∙ ap (λ (k : ℕ). entry_numbers (plan (waitings ms)) ++ drop (2 * k) lent) (sym (plan_count (waitings ms) ∙ waitings_count ms)) ∙ ap (λ (x : Plan). plan_listed x lent) (sym made.0)
 
   module _ (c k : ℕ) (q : p ≡ Unplanned c k) where
-    pub listed_refused : Unplanned c k ≡ planned_of (planning ms (length lent))
-    listed_refused = sym q ∙ e
-
     pub listed_kept : lent ≡ plan_listed (planning ms (length lent)) lent
     unfolding plan_listed planned_of
     listed_kept = go (planning ms (length lent)) refl

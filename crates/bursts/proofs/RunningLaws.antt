@@ -1,7 +1,7 @@
 -- The check by one pass over the entries is the check: `running_stuck`, `running_late`, `running_next`, `running_missing`, `running_sound`.
 -- The idea: what the pass keeps (the last burst, its bytes, a number above all messages so far) is all that `Fits` needs of the entries before.
 -- Assumes nothing.
-use Rattle.std.specs.Prelude.{◌≡◌, ℕ, zero, suc, ◌+◌, ◌-◌, ◌<◌, ◌≤◌, Bool, true, false, ◌&&◌, ◌||◌, List, [], ◌∷◌, ◌++◌, length, take, drop, ◌==◌, ◌≢◌, nat_le, nat_lt}
+use Rattle.std.specs.Prelude.{◌≡◌, ℕ, zero, suc, ◌+◌, ◌-◌, ◌<◌, ◌≤◌, Bool, true, false, ◌&&◌, ◌||◌, List, [], ◌∷◌, ◌++◌, length, take, drop, ◌==◌, ◌≢◌, nat_le, nat_lt, Option, Some, None}
 use Rattle.std.proofs.Math.Path.{refl, sym, ap}
 use Rattle.std.proofs.Common.{◌∙◌, subst, true≢false, take-suc, take_all, drop-cons, get_or-take, length-take-le}
 use native.Mathlib.Omega.{arith}
@@ -9,10 +9,6 @@ use borrow.Author.Tests.{eqb-true, eqb-false, leb-true, leb-false, ltb-true, ltb
 use Rattle.encoding.specs.Result.{pick}
 use Rattle.encoding.proofs.ResultLaws.{both_true}
 use Rattle.bursts.specs.declared.Checked.TheVariants.{Sound, Breaks}
-use Rattle.bursts.specs.declared.Packed.{Packed}
-use Rattle.bursts.specs.declared.Packed.TheVariants.{Holds, Full}
-use Rattle.bursts.specs.declared.Risen.{Risen}
-use Rattle.bursts.specs.declared.Risen.TheVariants.{To, Late}
 use Rattle.bursts.specs.Bursts.{Waiting, Entry, most, length_of, cabin_of, bytes_in, broken_by, first_broken, verdict, judge, missing}
 use Rattle.bursts.specs.BurstDemands.{no_entry, entry_at, Or, one, other, Begun}
 use Rattle.bursts.proofs.BurstLaws.{any_found, any_none, Fits, fits_of, of_fits, begun_snoc, begun_empty, broken_here, broken_step, bytes_append, bytes_one, bytes_other}
@@ -49,41 +45,38 @@ follow_new last b h = rw (eq-eqb b (suc last) h) (go (b == last))
 abbrev room : ℕ → ℕ → ℕ → ℕ
 room last left b = pick (b == last) left most
 
-holds≢full : {p : Packed} {h : ℕ} → p ≡ Holds h → p ≢ Full
-holds≢full e f = let z : ◌≡◌ {A = ℕ} 0 1 = cc in omega arith
+some_none : {o : Option ℕ} {a : ℕ} → o ≡ Some a → o ≢ None
+some_none e f = cc
 
-to≢late : {y : Risen} {a : ℕ} → y ≡ To a → y ≢ Late
-to≢late e f = let z : ◌≡◌ {A = ℕ} 0 1 = cc in omega arith
-
-holds_same : {p : Packed} {h k : ℕ} → p ≡ Holds h → p ≡ Holds k → h ≡ k
-holds_same e f = cc
+some_same : {o : Option ℕ} {a b : ℕ} → o ≡ Some a → o ≡ Some b → a ≡ b
+some_same e f = cc
 
 module _ (last left b n : ℕ) where
-  packing_fits : may_follow last b ≡ true → n ≤ room last left b → packing last left b n ≡ Holds (room last left b - n)
+  packing_fits : may_follow last b ≡ true → n ≤ room last left b → packing last left b n ≡ Some (room last left b - n)
   unfolding packing packed
   packing_fits m l = rw (m, le-leb n (room last left b) l)
 
-  packing_over : may_follow last b ≡ true → room last left b < n → packing last left b n ≡ Full
+  packing_over : may_follow last b ≡ true → room last left b < n → packing last left b n ≡ None
   unfolding packing packed
   packing_over m l = rw (m, lt-leb n (room last left b) l)
 
-  packing_astray : may_follow last b ≡ false → packing last left b n ≡ Full
+  packing_astray : may_follow last b ≡ false → packing last left b n ≡ None
   unfolding packing
   packing_astray m = rw m
 
-  -- what `Holds h` says of a burst
+  -- what `Some h` says of a burst
   record Held (h : ℕ) : Type 0 where
     follows : may_follow last b ≡ true
     fits : n ≤ room last left b
     rest : room last left b - n ≡ h
 
-  packing_held : (h : ℕ) → packing last left b n ≡ Holds h → Held h
+  packing_held : (h : ℕ) → packing last left b n ≡ Some h → Held h
   packing_held h e = go (may_follow last b) refl (nat_le n (room last left b)) refl
     where
       go : (t : Bool) → may_follow last b ≡ t → (u : Bool) → nat_le n (room last left b) ≡ u → Held h
-      go false w u v = absurd (holds≢full e (packing_astray w))
-      go true w false v = absurd (holds≢full e (packing_over w (leb-false n (room last left b) v)))
-      go true w true v = let l = leb-true n (room last left b) v in record { follows = w; fits = l; rest = holds_same (packing_fits w l) e }
+      go false w u v = absurd (some_none e (packing_astray w))
+      go true w false v = absurd (some_none e (packing_over w (leb-false n (room last left b) v)))
+      go true w true v = let l = leb-true n (room last left b) v in record { follows = w; fits = l; rest = some_same (packing_fits w l) e }
 
 room_same : (last left b : ℕ) → b ≡ last → room last left b ≡ left
 room_same last left b e = rw (eq-eqb b last e)
@@ -210,11 +203,11 @@ module _ (ws : List Waiting) (es : List Entry) (i above last left : ℕ) (r : Ru
     follows_may (same n q) = follow_same last e.burst q
     follows_may (new n q) = follow_new last e.burst q
 
-    running_full : packing last left e.burst (length_of ws e.message) ≡ Full → Fits ws (take i es) e → ⊥
+    running_full : packing last left e.burst (length_of ws e.message) ≡ None → Fits ws (take i es) e → ⊥
     running_full p f =
         let m = fits_follows f in
         let b = follows_bytes e.burst m in
-        holds≢full (packing_fits last left e.burst (length_of ws e.message) (follows_may m) (omega (arith, b, f.sum))) p
+        some_none (packing_fits last left e.burst (length_of ws e.message) (follows_may m) (omega (arith, b, f.sum))) p
 
     -- a message that clashes with one before breaks a rule
     running_clash : clashes ws e.message (take i es) ≡ true → Fits ws (take i es) e → ⊥
@@ -331,76 +324,76 @@ module _ (ws : List Waiting) (es : List Entry) (i above last left : ℕ) (r : Ru
           latest_at j k = ap (λ (x : Entry). x.burst) (here j (omega arith))
 
     -- the cases of `entering`
-    data Entered (x : Packed) : Type 0 where
-      unknown : length ws ≤ e.message → x ≡ Full → Entered x
+    data Entered (x : Option ℕ) : Type 0 where
+      unknown : length ws ≤ e.message → x ≡ None → Entered x
       goes_on : e.message < length ws → packing last left e.burst (length_of ws e.message) ≡ x → Entered x
 
     entered : Entered (entering ws last left e.message e.burst)
     unfolding entering
     entered = go (nat_le (length ws) e.message) refl
       where
-        go : (t : Bool) → nat_le (length ws) e.message ≡ t → Entered (pick t Full (packing last left e.burst (length_of ws e.message)))
+        go : (t : Bool) → nat_le (length ws) e.message ≡ t → Entered (pick t None (packing last left e.burst (length_of ws e.message)))
         go true w = unknown (leb-true (length ws) e.message w) refl
         go false w = goes_on (leb-false (length ws) e.message w) refl
 
-    data Rose (x : Risen) : Type 0 where
-      over : above ≤ e.message → x ≡ To (suc e.message) → Rose x
-      clash : clashes ws e.message (take i es) ≡ true → x ≡ Late → Rose x
-      clear : e.message < above → clashes ws e.message (take i es) ≡ false → x ≡ To above → Rose x
+    data Rose (x : Option ℕ) : Type 0 where
+      over : above ≤ e.message → x ≡ Some (suc e.message) → Rose x
+      clash : clashes ws e.message (take i es) ≡ true → x ≡ None → Rose x
+      clear : e.message < above → clashes ws e.message (take i es) ≡ false → x ≡ Some above → Rose x
 
     rose : Rose (rising ws (take i es) above e.message)
     unfolding rising
     rose = go (nat_le above e.message) refl (clashes ws e.message (take i es)) refl
       where
-        go : (t : Bool) → nat_le above e.message ≡ t → (u : Bool) → clashes ws e.message (take i es) ≡ u → Rose (pick t (To (suc e.message)) (pick u Late (To above)))
+        go : (t : Bool) → nat_le above e.message ≡ t → (u : Bool) → clashes ws e.message (take i es) ≡ u → Rose (pick t (Some (suc e.message)) (pick u None (Some above)))
         go true w u v = over (leb-true above e.message w) refl
         go false w true v = clash v refl
         go false w false v = clear (leb-false above e.message w) v refl
 
-    module _ (y : Risen) (q : y ≡ rising ws (take i es) above e.message) where
-      pub running_late : y ≡ Late → Breaks i ≡ judge ws es
+    module _ (y : Option ℕ) (q : y ≡ rising ws (take i es) above e.message) where
+      pub running_late : y ≡ None → Breaks i ≡ judge ws es
       running_late f = running_broken (go (subst Rose (sym q) rose))
         where
           go : Rose y → Fits ws (take i es) e → ⊥
-          go (over k g) t = to≢late g f
+          go (over k g) t = some_none g f
           go (clash c g) t = running_clash c t
-          go (clear k c g) t = to≢late g f
+          go (clear k c g) t = some_none g f
 
-      -- what `To a` says of a message
+      -- what `Some a` says of a message
       record Came (a : ℕ) : Type 0 where
         early : Early
         more : above ≤ a
         most_so_far : e.message < a
 
-      came : (a : ℕ) → y ≡ To a → Came a
+      came : (a : ℕ) → y ≡ Some a → Came a
       came a f = go (subst Rose (sym q) rose)
         where
           go : Rose y → Came a
           go (over k g) = let z : a ≡ suc e.message = cc in record { early = early_above k; more = omega arith; most_so_far = omega arith }
-          go (clash c g) = absurd (to≢late f g)
+          go (clash c g) = absurd (some_none f g)
           go (clear k c g) = let z : a ≡ above = cc in record { early = early_looked c; more = omega arith; most_so_far = omega arith }
 
-    module _ (x : Packed) (q : x ≡ entering ws last left e.message e.burst) where
-      pub running_stuck : x ≡ Full → Breaks i ≡ judge ws es
+    module _ (x : Option ℕ) (q : x ≡ entering ws last left e.message e.burst) where
+      pub running_stuck : x ≡ None → Breaks i ≡ judge ws es
       running_stuck f = running_broken (go (subst Entered (sym q) entered))
         where
           go : Entered x → Fits ws (take i es) e → ⊥
           go (unknown k g) t = omega (arith, k, t.known)
           go (goes_on k g) t = running_full (g ∙ f) t
 
-      module _ (p : ℕ) (f : x ≡ Holds p) where
+      module _ (p : ℕ) (f : x ≡ Some p) where
         pub running_known : e.message < length ws
         running_known = go (subst Entered (sym q) entered)
           where
             go : Entered x → e.message < length ws
-            go (unknown k g) = absurd (holds≢full f g)
+            go (unknown k g) = absurd (some_none f g)
             go (goes_on k g) = k
 
-        pub running_next : Opens es → (y : Risen) → y ≡ rising ws (take i es) above e.message → (a : ℕ) → y ≡ To a → Running ws es (suc i) a e.burst p
+        pub running_next : Opens es → (y : Option ℕ) → y ≡ rising ws (take i es) above e.message → (a : ℕ) → y ≡ Some a → Running ws es (suc i) a e.burst p
         running_next o y s a t = go (came y s a t) (subst Entered (sym q) entered)
           where
             go : Came y s a → Entered x → Running ws es (suc i) a e.burst p
-            go c (unknown k g) = absurd (holds≢full f g)
+            go c (unknown k g) = absurd (some_none f g)
             go c (goes_on k g) = running_step o p k c.early (packing_held last left e.burst (length_of ws e.message) p (g ∙ f)) a c.more c.most_so_far
 
   -- the pass is over

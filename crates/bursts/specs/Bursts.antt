@@ -18,8 +18,7 @@
 --   entry_numbers, plan_listed    the lent list after the call
 --   planned_of               the answer as the code gives it
 --   checked_numbers, planned_numbers    the numbers of an answer
-use Rattle.std.specs.Prelude.{ℕ, suc, ◌+◌, ◌-◌, ◌*◌, ◌/◌, Bool, false, not, ◌&&◌, ◌||◌, leb, List, [], ◌∷◌, ◌++◌, length, drop, ◌==◌, nat_eq, nat_le, nat_lt, slice_index_or}
-use Rattle.std.proofs.Math.Option.{Option, none, some}
+use Rattle.std.specs.Prelude.{ℕ, suc, ◌+◌, ◌-◌, ◌*◌, ◌/◌, Bool, false, not, ◌&&◌, ◌||◌, leb, List, [], ◌∷◌, ◌++◌, length, drop, ◌==◌, nat_eq, nat_le, nat_lt, slice_index_or, Option, Some, None}
 use Rattle.encoding.specs.Result.{pick}
 use Rattle.encoding.specs.Table.{range}
 use Rattle.bursts.specs.declared.Checked.{Checked}
@@ -102,10 +101,10 @@ broken_by ws before e =
 
 -- the number of the first entry that breaks a rule with those before it; `before` has i entries
 unfoldable pub first_broken : List Waiting → ℕ → List Entry → List Entry → Option ℕ
-first_broken ws i before [] = none
+first_broken ws i before [] = None
 first_broken ws i before (e ∷ es) =
     let later = first_broken ws (suc i) (before ++ (e ∷ [])) es in
-    pick (broken_by ws before e) (some i) later
+    pick (broken_by ws before e) (Some i) later
 
 -- some number of a list is in no entry
 unfoldable pub any_missing : List Entry → List ℕ → Bool
@@ -118,8 +117,8 @@ missing ws es = any_missing es (range 0 (length ws))
 
 -- 46 at an entry, or at the number of entries if only messages are missing
 unfoldable pub verdict : List Waiting → List Entry → Option ℕ → Checked
-verdict ws es (some i) = Breaks i
-verdict ws es none = pick (missing ws es) (Breaks (length es)) Sound
+verdict ws es (Some i) = Breaks i
+verdict ws es None = pick (missing ws es) (Breaks (length es)) Sound
 
 -- the check of messages and entries
 unfoldable pub judge : List Waiting → List Entry → Checked
@@ -133,8 +132,8 @@ checking ms es = judge (waitings ms) (entries es)
 
 -- the number of the first message over 340 bytes, counted from i
 unfoldable pub too_long : ℕ → List Waiting → Option ℕ
-too_long i [] = none
-too_long i (w ∷ ws) = let later = too_long (suc i) ws in pick (nat_lt most w.bytes) (some i) later
+too_long i [] = None
+too_long i (w ∷ ws) = let later = too_long (suc i) ws in pick (nat_lt most w.bytes) (Some i) later
 
 -- messages in turn from number i on, with `left` bytes left in burst b: a new burst only if the next does not fit
 unfoldable pub fill : ℕ → ℕ → ℕ → List Waiting → List Entry
@@ -159,8 +158,8 @@ entry_room numbers = numbers / 2
 
 -- 45 at the first message that is too long, then 19 at the number of messages
 unfoldable pub plan_within : List Waiting → ℕ → Option ℕ → Plan
-plan_within ws k (some i) = no_plan 45 i
-plan_within ws k none = pick (nat_le (length ws) k) (plan_of (plan ws)) (no_plan 19 (length ws))
+plan_within ws k (Some i) = no_plan 45 i
+plan_within ws k None = pick (nat_le (length ws) k) (plan_of (plan ws)) (no_plan 19 (length ws))
 
 -- the planner's answer to a list of messages, with a lent list of `lent` numbers
 unfoldable pub planning : List ℕ → ℕ → Plan

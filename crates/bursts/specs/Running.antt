@@ -3,22 +3,14 @@
 --   Known ws es              the messages of entries are waiting ones
 --   clashing ws m x          message x may not be before message m: it is m, or a later message of m's cabin
 --   clashes ws m es          some entry's message may not be before message m
---   rising ws es above m     a number above m and the messages of entries, which are below `above`; or m may not come after one of them
+--   rising ws es above m     a number above m and the messages of entries, which are below `above`; none if m may not come after one of them
 --   opening es               the first burst number, if there is one, is 0
 --   may_follow last b         burst b may follow burst `last`
---   packed room n            what is left of `room` bytes after a message of n bytes; or `Full`
+--   packed room n            what is left of `room` bytes after a message of n bytes, if it has no more
 --   packing last left b n    the same of burst b after burst `last`, which has `left` bytes left
---   entering ws last left m b   the same for message m; `Full` if it is not a waiting one
---   found_of                  the first message that is too long, as the code answers
-use Rattle.std.specs.Prelude.{ℕ, suc, ◌-◌, ◌<◌, Bool, true, ◌&&◌, ◌||◌, List, [], ◌∷◌, length, ◌==◌, nat_le}
-use Rattle.std.proofs.Math.Option.{Option, none, some}
+--   entering ws last left m b   the same for message m, if it is a waiting one
+use Rattle.std.specs.Prelude.{ℕ, suc, ◌-◌, ◌<◌, Bool, true, ◌&&◌, ◌||◌, List, [], ◌∷◌, length, ◌==◌, nat_le, Option, Some, None}
 use Rattle.encoding.specs.Result.{pick}
-use Rattle.bursts.specs.declared.Packed.{Packed}
-use Rattle.bursts.specs.declared.Packed.TheVariants.{Holds, Full}
-use Rattle.bursts.specs.declared.Risen.{Risen}
-use Rattle.bursts.specs.declared.Risen.TheVariants.{To, Late}
-use Rattle.bursts.specs.declared.Found.{Found}
-use Rattle.bursts.specs.declared.Found.TheVariants.{At, Nowhere}
 use Rattle.bursts.specs.Bursts.{Waiting, Entry, most, any_entry, length_of, cabin_of}
 use Rattle.bursts.specs.BurstDemands.{entry_at}
 
@@ -31,8 +23,8 @@ clashing ws m x = nat_le m x && cabin_of ws x == cabin_of ws m
 unfoldable pub clashes : List Waiting → ℕ → List Entry → Bool
 clashes ws m es = any_entry (λ e. clashing ws m e.message) es
 
-unfoldable pub rising : List Waiting → List Entry → ℕ → ℕ → Risen
-rising ws es above m = pick (nat_le above m) (To (suc m)) (pick (clashes ws m es) Late (To above))
+unfoldable pub rising : List Waiting → List Entry → ℕ → ℕ → Option ℕ
+rising ws es above m = pick (nat_le above m) (Some (suc m)) (pick (clashes ws m es) None (Some above))
 
 unfoldable pub opening : List Entry → Bool
 opening [] = true
@@ -41,15 +33,11 @@ opening (e ∷ es) = e.burst == 0
 unfoldable pub may_follow : ℕ → ℕ → Bool
 may_follow last b = b == last || b == suc last
 
-unfoldable pub packed : ℕ → ℕ → Packed
-packed room n = pick (nat_le n room) (Holds (room - n)) Full
+unfoldable pub packed : ℕ → ℕ → Option ℕ
+packed room n = pick (nat_le n room) (Some (room - n)) None
 
-unfoldable pub packing : ℕ → ℕ → ℕ → ℕ → Packed
-packing last left b n = pick (may_follow last b) (packed (pick (b == last) left most) n) Full
+unfoldable pub packing : ℕ → ℕ → ℕ → ℕ → Option ℕ
+packing last left b n = pick (may_follow last b) (packed (pick (b == last) left most) n) None
 
-unfoldable pub entering : List Waiting → ℕ → ℕ → ℕ → ℕ → Packed
-entering ws last left m b = pick (nat_le (length ws) m) Full (packing last left b (length_of ws m))
-
-unfoldable pub found_of : Option ℕ → Found
-found_of (some i) = At i
-found_of none = Nowhere
+unfoldable pub entering : List Waiting → ℕ → ℕ → ℕ → ℕ → Option ℕ
+entering ws last left m b = pick (nat_le (length ws) m) None (packing last left b (length_of ws m))

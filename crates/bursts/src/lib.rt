@@ -3,12 +3,13 @@
 // The check needs no memory of its own. While message numbers rise it looks at each entry once; if one does not rise, it looks through the entries before it.
 #![tactic(auto)]
 
-ghost use Rattle.std.specs.Prelude.{◌≡◌, suc, ◌-◌, ◌*◌, ◌/◌, ◌<◌, ◌≤◌, ◌++◌, length, take, drop, ◌==◌, nat_le};
+ghost use Rattle.std.specs.Prelude.{◌≡◌, suc, ◌-◌, ◌*◌, ◌/◌, ◌<◌, ◌≤◌, ◌++◌, length, drop, ◌==◌, nat_le};
 ghost use Rattle.encoding.specs.Result.{pick};
 ghost use Rattle.bursts.specs.Bursts.{most, waitings, entries as entries_of, cabin_of, checking, too_long, plan as plan_of, entry_numbers, planning, planned_of, plan_listed};
-ghost use Rattle.bursts.specs.Running.{Known, clashing, clashes, rising, opening, packed, packing, entering, found_of};
+ghost use Rattle.bursts.specs.Running.{Known, clashing, clashes, rising, opening, packing, entering};
 
 // The plan is accepted; or the place of its 46.
+// Stays: callers link `Checked`, the answer of `check_plan`, and `PlanChecked` speaks of its numbers.
 #[derive(Clone, Copy)]
 pub enum Checked {
     Sound,
@@ -16,24 +17,11 @@ pub enum Checked {
 }
 
 // The number of entries; or a refusal's number and place.
+// Stays: callers link `Planned`, the answer of `plan`, and `PlanRefused` speaks of its numbers.
 #[derive(Clone, Copy)]
 pub enum Planned {
     Made(u64),
     Unplanned(u32, u64),
-}
-
-// The bytes that a burst has left after one message more; or the message cannot go there.
-#[derive(Clone, Copy)]
-enum Packed {
-    Holds(u64),
-    Full,
-}
-
-// A number above a message and all before it; or the message may not come after one of them.
-#[derive(Clone, Copy)]
-enum Risen {
-    To(u64),
-    Late,
 }
 
 // A burst's number and the bytes that it has left.
@@ -43,24 +31,6 @@ struct Burst {
     left: u64,
 }
 
-// The number of a message; or there is none.
-#[derive(Clone, Copy)]
-enum Found {
-    At(u64),
-    Nowhere,
-}
-
-// What is left of `room` bytes after a message. Lengths are compared with what is left and never added, since a sum could wrap.
-fn put_in(room: u64, length: u64) -> Packed
-    ensures { result ≡ packed room length }
-{
-    if length <= room {
-        Packed::Holds(room - length)
-    } else {
-        Packed::Full
-    }
-}
-
 // The bytes left in a burst, `step` bursts after one that has `left` bytes left: `left`, or a whole burst.
 fn room(step: u64, left: u64) -> u64
     ensures { result ≡ pick (step == 0) left most }
@@ -68,29 +38,30 @@ fn room(step: u64, left: u64) -> u64
     if step == 0 { left } else { 340 }
 }
 
-// What is left of a burst after a message; the entry before is of burst `last`, which has `left` bytes left. A step to a lower burst wraps to a great number, so one test refuses both.
-fn pack(last: u64, left: u64, burst: u64, length: u64) -> Packed
+// What is left of a burst after a message, if the message can go there; the entry before is of burst `last`, which has `left` bytes left. A step to a lower burst wraps to a great number, so one test refuses both.
+// Lengths are taken from what is left and never added, since a sum could wrap.
+#[tactic(auto, unfolding(crate::specs::Running::packing, crate::specs::Running::may_follow, crate::specs::Running::packed))]
+fn pack(last: u64, left: u64, burst: u64, length: u64) -> Option<u64>
     requires { last < 18446744073709551615 }
     ensures { result ≡ packing last left burst length }
 {
-    let step = std::num::wrapping_sub_u64(burst, last);
+    let step = burst.wrapping_sub(last);
     if 1 < step {
-        return Packed::Full;
+        return None;
     }
-    put_in(room(step, left), length)
+    room(step, left).checked_sub(length)
 }
 
 // Whether the first burst number is 0, if there is an entry.
+#[tactic(auto, unfolding(crate::specs::Running::opening, crate::specs::Bursts::entries))]
 fn opens(entries: &[u64]) -> bool
     ensures { result ≡ opening (entries_of entries.now) }
 {
-    if entries.len() < 2 {
-        return true;
-    }
-    entries[1] == 0
+    entries.len() < 2 || entries[1] == 0
 }
 
 // The cabin of a message.
+#[tactic(auto, using(crate::proofs::PairLaws::cabin_at))]
 fn cabin(messages: &[u64], m: u64) -> u64
     requires { m < length messages.now / 2 }
     ensures { result ≡ cabin_of (waitings messages.now) m }
@@ -99,59 +70,56 @@ fn cabin(messages: &[u64], m: u64) -> u64
 }
 
 // Whether message `other` may not be before message m, whose cabin is `own`: it is m, or a later message of that cabin.
+#[tactic(auto, unfolding(crate::specs::Running::clashing))]
 fn is_clash(messages: &[u64], m: u64, own: u64, other: u64) -> bool
     requires other_in_bounds { other < length messages.now / 2 }
     requires own_value { own ≡ cabin_of (waitings messages.now) m }
     ensures { result ≡ clashing (waitings messages.now) m other }
 {
-    if other < m {
-        return false;
-    }
-    cabin(messages, other) == own
+    m <= other && cabin(messages, other) == own
 }
 
-// Whether one of the first n entries may not be before an entry of message m.
-fn is_late(messages: &[u64], entries: &[u64], n: usize, m: u64) -> bool
-    requires n_in_bounds { n ≤ length entries.now / 2 }
+// Whether one of the entries before may not be before an entry of message m.
+#[tactic(auto, using(crate::proofs::Looking::looking_known, crate::proofs::Looking::looking_found, crate::proofs::Looking::looking_next, crate::proofs::Looking::looking_done))]
+fn is_late(messages: &[u64], before: &[u64], m: u64) -> bool
     requires m_in_bounds { m < length messages.now / 2 }
-    requires known { Known (waitings messages.now) (take n (entries_of entries.now)) }
-    ensures { result ≡ clashes (waitings messages.now) m (take n (entries_of entries.now)) }
+    requires known { Known (waitings messages.now) (entries_of before.now) }
+    ensures { result ≡ clashes (waitings messages.now) m (entries_of before.now) }
 {
     let own = cabin(messages, m);
-    let mut j = 0;
-    while j < n {
-        if is_clash(messages, m, own, entries[2 * j]) {
+    for j in 0..before.len() / 2 {
+        if is_clash(messages, m, own, before[2 * j]) {
             return true;
         }
-        j += 1;
     }
     false
 }
 
-// A number above message m and those of the first n entries, which are below `above`; or m may not come after one of them. Only an m below `above` is looked for among them.
-fn rise(messages: &[u64], entries: &[u64], n: usize, above: u64, m: u64) -> Risen
-    requires n_in_bounds { n ≤ length entries.now / 2 }
+// A number above message m and those of the entries before, which are below `above`; none if m may not come after one of them. Only an m below `above` is looked for among them.
+#[tactic(auto, unfolding(crate::specs::Running::rising))]
+fn rise(messages: &[u64], before: &[u64], above: u64, m: u64) -> Option<u64>
     requires m_in_bounds { m < length messages.now / 2 }
-    requires known { Known (waitings messages.now) (take n (entries_of entries.now)) }
-    ensures { result ≡ rising (waitings messages.now) (take n (entries_of entries.now)) above m }
+    requires known { Known (waitings messages.now) (entries_of before.now) }
+    ensures { result ≡ rising (waitings messages.now) (entries_of before.now) above m }
 {
     if above <= m {
-        return Risen::To(m + 1);
+        return Some(m + 1);
     }
-    if is_late(messages, entries, n, m) {
-        Risen::Late
+    if is_late(messages, before, m) {
+        None
     } else {
-        Risen::To(above)
+        Some(above)
     }
 }
 
 // The bytes left in the burst after message m, if it is a waiting one.
-fn enter(messages: &[u64], last: u64, left: u64, m: u64, burst: u64) -> Packed
+#[tactic(auto, using(crate::proofs::PairLaws::waitings_count, crate::proofs::PairLaws::length_at), unfolding(crate::specs::Running::entering))]
+fn enter(messages: &[u64], last: u64, left: u64, m: u64, burst: u64) -> Option<u64>
     requires { last < 18446744073709551615 }
     ensures { result ≡ entering (waitings messages.now) last left m burst }
 {
     if messages.len() as u64 / 2 <= m {
-        return Packed::Full;
+        return None;
     }
     pack(last, left, burst, messages[2 * m as usize])
 }
@@ -166,33 +134,21 @@ pub fn check_plan(messages: &[u64], entries: &[u64]) -> Checked
     }
     let count = messages.len() as u64 / 2;
     let n = entries.len() / 2;
-    let mut i = 0;
     let mut above: u64 = 0;
     let mut last: u64 = 0;
     let mut left: u64 = 340;
-    while i < n {
+    for i in 0..n {
         let m = entries[2 * i];
         let burst = entries[2 * i + 1];
-        let packed = enter(messages, last, left, m, burst);
-        match packed {
-            Packed::Holds(rest) => {
-                left = rest;
-            }
-            Packed::Full => {
-                return Checked::Breaks(i as u64);
-            }
-        }
-        let risen = rise(messages, entries, i, above, m);
-        match risen {
-            Risen::To(a) => {
-                above = a;
-            }
-            Risen::Late => {
-                return Checked::Breaks(i as u64);
-            }
-        }
+        let Some(rest) = enter(messages, last, left, m, burst) else {
+            return Checked::Breaks(i as u64);
+        };
+        let Some(higher) = rise(messages, &entries[..2 * i], above, m) else {
+            return Checked::Breaks(i as u64);
+        };
+        above = higher;
         last = burst;
-        i += 1;
+        left = rest;
     }
     if (n as u64) < count {
         Checked::Breaks(n as u64)
@@ -201,47 +157,42 @@ pub fn check_plan(messages: &[u64], entries: &[u64]) -> Checked
     }
 }
 
-// The first message of more than 340 bytes. It looks at two messages a turn: a loop over one is so short that its speed depends on the alignment of the code.
-fn too_long(messages: &[u64]) -> Found
-    ensures { result ≡ found_of (too_long 0 (waitings messages.now)) }
+// The first message of more than 340 bytes, if there is one. It looks at two messages a turn: a loop over one is so short that its speed depends on the alignment of the code.
+#[tactic(auto, using(crate::proofs::Looking::seeking_first, crate::proofs::Looking::seeking_second, crate::proofs::Looking::seeking_on, crate::proofs::Looking::seeking_last))]
+fn too_long(messages: &[u64]) -> Option<u64>
+    ensures { result ≡ too_long 0 (waitings messages.now) }
 {
     let n = messages.len() / 2;
-    let mut i = 0;
-    while i + 1 < n {
+    for turn in 0..n / 2 {
+        let i = 2 * turn;
         let next = i + 1;
         if 340 < messages[2 * i] {
-            return Found::At(i as u64);
+            return Some(i as u64);
         }
         if 340 < messages[2 * next] {
-            return Found::At(next as u64);
+            return Some(next as u64);
         }
-        i += 2;
     }
-    if n <= i {
-        return Found::Nowhere;
+    if n % 2 == 1 && 340 < messages[2 * (n - 1)] {
+        return Some(n as u64 - 1);
     }
-    if 340 < messages[2 * i] {
-        return Found::At(i as u64);
-    }
-    Found::Nowhere
+    None
 }
 
 // The planner's answer for a lent list of `room` numbers.
 // Wrong and ruled out: 19 before 45; the room counted in numbers for entries.
+#[tactic(auto, using(crate::proofs::Putting::answer_long, crate::proofs::Putting::answer_made, crate::proofs::Putting::answer_short))]
 pub fn answer(messages: &[u64], room: usize) -> Planned
     ensures { result ≡ planned_of (planning messages.now room) }
 {
     let n = messages.len() / 2;
-    let long = too_long(messages);
-    match long {
-        Found::At(m) => Planned::Unplanned(45, m),
-        Found::Nowhere => {
-            if n <= room / 2 {
-                Planned::Made(n as u64)
-            } else {
-                Planned::Unplanned(19, n as u64)
-            }
-        }
+    if let Some(m) = too_long(messages) {
+        return Planned::Unplanned(45, m);
+    }
+    if n <= room / 2 {
+        Planned::Made(n as u64)
+    } else {
+        Planned::Unplanned(19, n as u64)
     }
 }
 
@@ -250,56 +201,46 @@ fn take_in(burst: u64, left: u64, length: u64) -> Burst
     requires { burst < 18446744073709551615 }
     ensures { (result.number ≡ pick (nat_le length left) burst (suc burst)) × (result.left ≡ pick (nat_le length left) left most - length) }
 {
-    if length <= left {
-        return Burst {
+    match left.checked_sub(length) {
+        Some(left) => Burst {
             number: burst,
-            left: left - length,
-        };
-    }
-    if length <= 340 {
-        Burst {
+            left,
+        },
+        None => Burst {
             number: burst + 1,
-            left: 340 - length,
-        }
-    } else {
-        Burst {
-            number: burst + 1,
-            left: 0,
-        }
+            left: 340_u64.saturating_sub(length),
+        },
     }
 }
 
 // Writes the plan's entries: the messages in turn, a new burst only if the next does not fit.
+#[tactic(auto, using(crate::proofs::Putting::putting_begin, crate::proofs::Putting::putting_next, crate::proofs::Putting::putting_done))]
 fn fill(messages: &[u64], entries: &mut [u64])
     requires { length messages.now / 2 ≤ length entries.old / 2 }
     ensures { entries.new ≡ entry_numbers (plan_of (waitings messages.now)) ++ drop (2 * (length messages.now / 2)) entries.old }
 {
     let n = messages.len() / 2;
-    let mut i = 0;
-    let mut burst: u64 = 0;
-    let mut left: u64 = 340;
-    while i < n {
-        let taken = take_in(burst, left, messages[2 * i]);
-        burst = taken.number;
-        left = taken.left;
+    let mut last = Burst {
+        number: 0,
+        left: 340,
+    };
+    for i in 0..n {
+        last = take_in(last.number, last.left, messages[2 * i]);
         entries[2 * i] = i as u64;
-        entries[2 * i + 1] = burst;
-        i += 1;
+        entries[2 * i + 1] = last.number;
     }
 }
 
 // The planner: takes the messages in turn and opens a new burst only if the next does not fit. On a refusal the lent list stays as it was.
 // Wrong and ruled out: an entry written into a list that is too short; a burst of 341 bytes made.
+#[tactic(auto, using(crate::proofs::Putting::listed_room, crate::proofs::Putting::listed_plan, crate::proofs::Putting::listed_kept))]
 pub fn plan(messages: &[u64], entries: &mut [u64]) -> Planned
     ensures value { result ≡ planned_of (planning messages.now (length entries.old)) }
     ensures entries_after { entries.new ≡ plan_listed (planning messages.now (length entries.old)) entries.old }
 {
-    let made = answer(messages, entries.len());
-    match made {
-        Planned::Made(n) => {
-            fill(messages, entries);
-            Planned::Made(n)
-        }
-        Planned::Unplanned(c, p) => Planned::Unplanned(c, p),
+    let planned = answer(messages, entries.len());
+    if let Planned::Made(_) = planned {
+        fill(messages, entries);
     }
+    planned
 }

@@ -38,8 +38,8 @@ use Rattle.laws.proofs.MessageExact.{exact_message}
 use Rattle.shapes.specs.Shapes.{form_number, shapes_of, form_in}
 use Rattle.shapes.specs.ShapesLaws.{form_row}
 use Rattle.wire.specs.StepLaws.{rest_is}
-use Rattle.table.specs.declared.Found.{Found}
-use Rattle.table.specs.declared.Found.TheVariants.{At as FoundAt, Nothing as NotFound}
+use Rattle.std.specs.Prelude.{Some, None}
+use Rattle.std.specs.Prelude.{Option as Maybe}
 use Rattle.table.specs.Found.{found_of}
 use Rattle.table.specs.declared.MemberRow.{MemberRow}
 use Rattle.table.specs.Rows.{IsMemberRow}
@@ -220,12 +220,12 @@ lists_part n (r ∷ rs) = go (eqb n r.member) (lists_part n rs)
     go true ih = refl
     go false ih = ih
 
-found_none : (o : Option Target) → NotFound ≡ found_of (target_row o) → o ≡ none
+found_none : (o : Option Target) → None ≡ found_of (target_row o) → o ≡ none
 unfolding found_of target_row
 found_none none h = refl
 found_none (some x) h = let z : ◌≡◌ {A = ℕ} 0 1 = cc in absurd (omega arith)
 
-found_at : (w : Option Target) (o : ℕ) → FoundAt o ≡ found_of (target_row w) → (x : Target) × (w ≡ some x) × (x.owner ≡ o)
+found_at : (w : Option Target) (o : ℕ) → Some o ≡ found_of (target_row w) → (x : Target) × (w ≡ some x) × (x.owner ≡ o)
 unfolding found_of target_row
 found_at none o h = let z : ◌≡◌ {A = ℕ} 0 1 = cc in absurd (omega arith)
 found_at (some x) o h = let e : x.owner ≡ o = cc in (x, refl, e)
@@ -256,14 +256,14 @@ module _ (T : List ℕ) (top first format : ℕ) (m : List ℕ) (n : ℕ) (q : B
   plan_old z y hb (v11 compact) ps j a ef eg = absurd (omega arith)
   plan_old z y hb (v11 sliced) ps j a ef eg = absurd (omega arith)
 
-module _ (T : List ℕ) (top first format : ℕ) (m : List ℕ) (n : ℕ) (q : Bool) (b : List ℕ) (fd : Found) (ed : fd ≡ found_of (target_row (target T first n))) where
-  none_11 : fd ≡ NotFound → Planned11 T top first format m n q b (Stop 49 0)
+module _ (T : List ℕ) (top first format : ℕ) (m : List ℕ) (n : ℕ) (q : Bool) (b : List ℕ) (fd : Maybe ℕ) (ed : fd ≡ found_of (target_row (target T first n))) where
+  none_11 : fd ≡ None → Planned11 T top first format m n q b (Stop 49 0)
   unfolding changed changed_as changed_at
   none_11 e y hb fm ps j a ef eg =
       let z : target T (first_known T top ps) n ≡ none = ap (λ (i : ℕ). target T i n) (sym ef) ∙ found_none (target T first n) (sym e ∙ ed) in
       (ap (changed T top n (content_of q b)) a ∙ ap (changed_at T top fm ps (content_of q b)) z, omega arith, omega arith)
 
-  module _ (o : ℕ) (e : fd ≡ FoundAt o) where
+  module _ (o : ℕ) (e : fd ≡ Some o) where
     hit : (x : Target) × (target T first n ≡ some x) × (x.owner ≡ o)
     hit = found_at (target T first n) o (sym e ∙ ed)
 
@@ -385,7 +385,7 @@ module _ (T : List ℕ) (top first format : ℕ) (m : List ℕ) (n : ℕ) (q : B
     pub plan_sliced : (format ≡ 2 → ⊥) → (format ≡ 0 → ⊥) → length m ≤ 65536 → (p : Plan) → p ≡ sliced_plan T top o m n q b → PlannedFor T top first format m n q b p
     plan_sliced w u sh p ep = in_11 T top first format m n q b p w (sliced_11 u sh p ep)
 
-  pub plan_none : (format ≡ 2 → ⊥) → fd ≡ NotFound → PlannedFor T top first format m n q b (Stop 49 0)
+  pub plan_none : (format ≡ 2 → ⊥) → fd ≡ None → PlannedFor T top first format m n q b (Stop 49 0)
   plan_none w e = in_11 T top first format m n q b (Stop 49 0) w (none_11 e)
 
 -- ---- 3 and 21, then the exchange

@@ -13,7 +13,6 @@ use crate::Plan;
 use seek::{Slot, Spot};
 use slices::Walk;
 use splice::Cut;
-use table::Found;
 use view::View;
 
 // The accepted message lists the member. Only 50 of a compact record needs it: there no slice can be passed by its size.
@@ -172,7 +171,7 @@ fn located(
             let x = seek::optional_in(table, begin, shapes, o, tag, &message[6..]);
             at_spot(0, 0, 0, 6, x, tag, form, setting)
         }
-        Slot::At(flags, size, end) => {
+        Slot::At { flags, size, end } => {
             let a = size + 4;
             let x = seek::optional_in(table, begin, shapes, o, tag, &message[a..end]);
             at_spot(flags, size, end, a, x, tag, form, setting)
@@ -232,9 +231,8 @@ fn accepted(
         return Plan::Stop(49, 0);
     }
     let m = member as usize;
-    let found = seek::owner(table, begin, first, m);
-    match found {
-        Found::At(o) => {
+    match seek::owner(table, begin, first, m) {
+        Some(o) => {
             if format == 0 {
                 return of_compact(table, top, message, member, setting);
             }
@@ -250,7 +248,7 @@ fn accepted(
                 bytes,
             )
         }
-        Found::Nothing => Plan::Stop(49, 0),
+        None => Plan::Stop(49, 0),
     }
 }
 

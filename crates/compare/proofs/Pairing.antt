@@ -1,7 +1,8 @@
 -- The differences of all pairs, listed. Assumes nothing.
 --
---   next_..                  the loop that looks for a parameter list; first_.., follow_..
---   item_..                  an item's pair; slot_.., slots_.. the loop over the items of an array
+--   list_kind                a parameter list; first_few, follow_few the next one
+--   rest_are                 the rest of an array
+--   item_..                  an item's pair; slot_.., slots_.. the loop over the items in order
 --   lists_..                 the loop over parameter lists; list_.. from the first ones on
 --   all_..                   records, then parameter lists
 use Prim.Native.Nat.{ℕ, zero, suc, ◌+◌, ◌-◌, ◌≤◌, ◌<◌}
@@ -10,61 +11,33 @@ use mathlib.Core.Logic.{inl, inr}
 use mathlib.Core.List.{List, [], ◌∷◌, ◌++◌, map}
 use native.Mathlib.Numerals.{add-one}
 use native.Mathlib.Omega.{arith}
-use lib.ListN.{length, drop, get_or, length-append, drop_of_length-le}
-use lib.Seq.{drop-cons}
+use lib.ListN.{length, take, drop, get_or, length-append, length-drop, drop_of_length-le}
+use lib.Seq.{drop-cons, take-length}
 use lib.Dec.{eqb}
-use borrow.Author.Tests.{lt-ltb, le-ltb, eq-eqb, ne_eqb}
-use Rattle.encoding.specs.Result.{pick}
-use Rattle.encoding.specs.Table.{types, kind, fine, faults, range}
+use borrow.Author.Tests.{lt-ltb, le-ltb}
+use Rattle.encoding.specs.Table.{types, kind, fine, faults}
 use Rattle.encoding.proofs.RuleLaws.{types_most}
-use Rattle.table.proofs.Ranges.{range_more, range_none}
-use Rattle.differences.specs.Compare.{those, rows_of, lists, partner, Pair, Difference, paired, list_pairs, pair_differences, all_differences, differences}
+use Rattle.differences.specs.Compare.{rows_of, lists, partner, Pair, Difference, paired, list_pairs, pair_differences, all_differences, differences}
 use Rattle.differences.specs.CompareDemands.{In}
 use Rattle.ordering.specs.Ordering.{item_pair, items}
-use Rattle.listing.specs.Listing.{Listed, Listing, is_list, head_row, next_of, follow_of, left_of, FewMembers}
+use Rattle.listing.specs.Listing.{Listed, Listing, is_list, next_of, follow_of, left_of, FewMembers}
 use Rattle.listing.specs.ListingLaws.{listed_more, listed_as, listing_begin, listing_end, listing_next, left_all, left_falls, paired_none, paired_next}
 use Rattle.compare.specs.PairLaws.{next_few, item_few_old, item_few_new, items_in, differences_sum, differences_few}
 
 -- ---- a parameter list looked for
 
-module _ (T : List ℕ) (m end : ℕ) where
-  abbrev pub Next : ℕ → Type 0
-  Next i = next_of (is_list T) m end ≡ next_of (is_list T) i end
-
-  module _ (i : ℕ) (inv : Next i) where
-    pub next_end : end ≤ i → 0 ≡ next_of (is_list T) m end
-    unfolding next_of head_row those
-    next_end h = sym (inv ∙ rw (range_none i end h))
-
-    module _ (h : i < end) (k : ℕ) (e : k ≡ kind T i) where
-      next_more : next_of (is_list T) m end ≡ head_row (pick (eqb k 15) (i ∷ those (is_list T) (range (i + 1) (end - (i + 1)))) (those (is_list T) (range (i + 1) (end - (i + 1)))))
-      unfolding next_of those is_list
-      next_more = inv ∙ rw (range_more i end h, ← e)
-
-      pub next_here : k ≡ 15 → i + 1 ≡ next_of (is_list T) m end
-      unfolding head_row
-      next_here q = sym (next_more ∙ rw (eq-eqb k 15 q, add-one))
-
-      pub next_step : (k ≡ 15 → ⊥) → Next (i + 1)
-      unfolding next_of
-      next_step q = next_more ∙ rw (ne_eqb k 15 q)
+pub list_kind : (T : List ℕ) (t k : ℕ) → k ≡ kind T t → eqb k 15 ≡ is_list T t
+unfolding is_list
+list_kind T t k e = ap (λ (x : ℕ). eqb x 15) e
 
 module _ (T : List ℕ) (f : faults T ≡ fine) (end : ℕ) (e : end ≡ types T) where
   pub first_few : (r : ℕ) → r ≡ next_of (is_list T) 0 end → FewMembers T r
   first_few r q = next_few T f 0 end r e q
 
-  module _ (a : ℕ) where
-    pub follow_none : a ≡ 0 → 0 ≡ follow_of (is_list T) a end
-    unfolding follow_of
-    follow_none q = rw q
-
-    module _ (h : a ≡ 0 → ⊥) (r : ℕ) (q : r ≡ next_of (is_list T) a end) where
-      pub follow_next : r ≡ follow_of (is_list T) a end
-      unfolding follow_of
-      follow_next = let z : a ≡ suc (a - 1) = omega arith in q ∙ ap (λ (x : ℕ). next_of (is_list T) x end) z ∙ ap (λ (x : ℕ). follow_of (is_list T) x end) (sym z)
-
-      pub follow_few : FewMembers T r
-      follow_few = next_few T f a end r e q
+  pub follow_few : (a r : ℕ) → r ≡ follow_of (is_list T) a end → FewMembers T r
+  unfolding follow_of
+  follow_few zero r q = rw q (λ l. absurd (omega arith))
+  follow_few (suc a) r q = next_few T f (suc a) end r e q
 
 pub few_none : (T : List ℕ) → FewMembers T 0
 few_none T l = absurd (omega arith)
@@ -81,19 +54,19 @@ module _ (S T : List ℕ) (k c : ℕ) (ec : c ≡ types S) where
     unfolding item_pair
     item_second = ep ∙ sym (rw (lt-ltb k (types S) (omega arith)))
 
-    item_are : pair_differences S T (k + 1) p ≡ pair_differences S T (item_pair S T k).0 (item_pair S T k).1
-    item_are = rw add-one (ap₂ (pair_differences S T) item_first item_second)
+    item_are : pair_differences S T (suc k) p ≡ pair_differences S T (item_pair S T k).0 (item_pair S T k).1
+    item_are = ap₂ (pair_differences S T) item_first item_second
 
-    pub item_old : FewMembers S (item_pair S T k).0 → FewMembers S (k + 1)
-    item_old F = let z : k + 1 ≡ (item_pair S T k).0 = omega (arith, item_first) in rw z F
+    pub item_old : FewMembers S (item_pair S T k).0 → FewMembers S (suc k)
+    item_old F = let z : suc k ≡ (item_pair S T k).0 = omega (arith, item_first) in rw z F
 
     pub item_new : FewMembers T (item_pair S T k).1 → FewMembers T p
     item_new F = rw item_second F
 
-    pub item_room : (n : ℕ) → n + length (pair_differences S T (item_pair S T k).0 (item_pair S T k).1) < 4294967296 → n + length (pair_differences S T (k + 1) p) < 4294967296
+    pub item_room : (n : ℕ) → n + length (pair_differences S T (item_pair S T k).0 (item_pair S T k).1) < 4294967296 → n + length (pair_differences S T (suc k) p) < 4294967296
     item_room n l = omega (arith, ap length item_are)
 
-    pub item_listed : (n : ℕ) (out last : List ℕ) (r : ℕ) → Listed (pair_differences S T (k + 1) p) n out last r → Listed (pair_differences S T (item_pair S T k).0 (item_pair S T k).1) n out last r
+    pub item_listed : (n : ℕ) (out last : List ℕ) (r : ℕ) → Listed (pair_differences S T (suc k) p) n out last r → Listed (pair_differences S T (item_pair S T k).0 (item_pair S T k).1) n out last r
     item_listed n out last r A = listed_as n out _ _ item_are last r A
 
   module _ (h : c ≤ k) where
@@ -105,71 +78,71 @@ module _ (S T : List ℕ) (k c : ℕ) (ec : c ≡ types S) where
     unfolding item_pair
     alone_second = rw (le-ltb k (types S) (omega arith), ec)
 
-    alone_are : pair_differences S T 0 (k - c + 1) ≡ pair_differences S T (item_pair S T k).0 (item_pair S T k).1
-    alone_are = rw add-one (ap₂ (pair_differences S T) alone_first alone_second)
+    alone_are : pair_differences S T 0 (suc (k - c)) ≡ pair_differences S T (item_pair S T k).0 (item_pair S T k).1
+    alone_are = ap₂ (pair_differences S T) alone_first alone_second
 
-    pub alone_few : FewMembers T (item_pair S T k).1 → FewMembers T (k - c + 1)
-    alone_few F = let z : k - c + 1 ≡ (item_pair S T k).1 = omega (arith, alone_second) in rw z F
+    pub alone_few : FewMembers T (item_pair S T k).1 → FewMembers T (suc (k - c))
+    alone_few F = let z : suc (k - c) ≡ (item_pair S T k).1 = omega (arith, alone_second) in rw z F
 
-    pub alone_room : (n : ℕ) → n + length (pair_differences S T (item_pair S T k).0 (item_pair S T k).1) < 4294967296 → n + length (pair_differences S T 0 (k - c + 1)) < 4294967296
+    pub alone_room : (n : ℕ) → n + length (pair_differences S T (item_pair S T k).0 (item_pair S T k).1) < 4294967296 → n + length (pair_differences S T 0 (suc (k - c))) < 4294967296
     alone_room n l = omega (arith, ap length alone_are)
 
-    pub alone_listed : (n : ℕ) (out last : List ℕ) (r : ℕ) → Listed (pair_differences S T 0 (k - c + 1)) n out last r → Listed (pair_differences S T (item_pair S T k).0 (item_pair S T k).1) n out last r
+    pub alone_listed : (n : ℕ) (out last : List ℕ) (r : ℕ) → Listed (pair_differences S T 0 (suc (k - c))) n out last r → Listed (pair_differences S T (item_pair S T k).0 (item_pair S T k).1) n out last r
     alone_listed n out last r A = listed_as n out _ _ alone_are last r A
 
--- ---- the items of an array
+-- ---- the items in order
 
-in_at : (n s : ℕ) (l : List ℕ) → s + n < length l → In (get_or l (s + n) 0) (drop s l)
-in_at zero s l h = let z : s + 0 ≡ s = omega arith in subst (λ (x : List ℕ). In (get_or l (s + 0) 0) x) (sym (drop-cons l s 0 (omega arith))) (inl (ap (λ (x : ℕ). get_or l x 0) z))
-in_at (suc n) s l h =
-    let z : suc s + n ≡ s + suc n = omega arith in
-    subst (λ (x : List ℕ). In (get_or l (s + suc n) 0) x) (sym (drop-cons l s 0 (omega arith)))
-    (inr (subst (λ (x : ℕ). In (get_or l x 0) (drop (suc s) l)) z (in_at n (suc s) l (omega arith))))
+-- the rest of an array from place s on
+pub rest_are : (slots ks : List ℕ) (s : ℕ) → length slots ≡ 512 → drop s slots ≡ ks → take (512 - s) (drop s slots) ≡ ks
+rest_are slots ks s e h = let y : 512 - s ≡ length (drop s slots) = omega (arith, length-drop s slots) in rw (y, take-length (drop s slots)) h
 
-module _ (S T slots : List ℕ) (s : ℕ) where
+in_at : (j : ℕ) (l : List ℕ) → j < length l → In (get_or l j 0) l
+in_at j [] h = absurd (omega arith)
+in_at zero (x ∷ l) h = inl refl
+in_at (suc j) (x ∷ l) h = inr (in_at j l (omega arith))
+
+module _ (S T : List ℕ) where
   abbrev pub by_items : List ℕ → List Difference
   by_items ks = all_differences S T (map (item_pair S T) ks)
 
-  module _ (fs : faults S ≡ fine) (ft : faults T ≡ fine) (e : length slots ≡ 512) (h : drop s slots ≡ items S T) (j : ℕ) (l : s ≤ j) (g : j < 512) where
-    slot_in : In (get_or slots j 0) (items S T)
-    slot_in =
-        let y : s + (j - s) ≡ j = omega arith in
-        subst (λ (x : List ℕ). In (get_or slots j 0) x) h (subst (λ (x : ℕ). In (get_or slots x 0) (drop s slots)) y (in_at (j - s) s slots (omega arith)))
+  module _ (fs : faults S ≡ fine) (ft : faults T ≡ fine) (ks : List ℕ) (h : ks ≡ items S T) (j : ℕ) (g : j < length ks) where
+    slot_in : In (get_or ks j 0) (items S T)
+    slot_in = subst (λ (x : List ℕ). In (get_or ks j 0) x) h (in_at j ks g)
 
-    pub slot_old : FewMembers S (item_pair S T (get_or slots j 0)).0
-    slot_old = item_few_old S T fs ft (get_or slots j 0) (items_in S T fs ft (get_or slots j 0) slot_in).0
+    pub slot_old : FewMembers S (item_pair S T (get_or ks j 0)).0
+    slot_old = item_few_old S T fs ft (get_or ks j 0) (items_in S T fs ft (get_or ks j 0) slot_in).0
 
-    pub slot_inside : get_or slots j 0 < types S + types T
-    slot_inside = (items_in S T fs ft (get_or slots j 0) slot_in).1
+    pub slot_inside : get_or ks j 0 < types S + types T
+    slot_inside = (items_in S T fs ft (get_or ks j 0) slot_in).1
 
-    pub slot_new : FewMembers T (item_pair S T (get_or slots j 0)).1
-    slot_new = item_few_new S T fs ft (get_or slots j 0) (items_in S T fs ft (get_or slots j 0) slot_in).0 slot_inside
+    pub slot_new : FewMembers T (item_pair S T (get_or ks j 0)).1
+    slot_new = item_few_new S T fs ft (get_or ks j 0) (items_in S T fs ft (get_or ks j 0) slot_in).0 slot_inside
 
-    pub slot_small : get_or slots j 0 < 131072
+    pub slot_small : get_or ks j 0 < 131072
     slot_small = omega (arith, slot_inside, types_most S fs, types_most T ft)
 
-  module _ (n : ℕ) (out : List ℕ) where
-    pub slots_begin : Listing (by_items (drop s slots)) n out (by_items (drop s slots)) n out
-    slots_begin = listing_begin (by_items (drop s slots)) n out _ refl
+  module _ (n : ℕ) (out ks : List ℕ) where
+    pub slots_begin : Listing (by_items ks) n out (by_items (drop 0 ks)) n out
+    slots_begin = listing_begin (by_items ks) n out _ refl
 
-    module _ (e : length slots ≡ 512) (j i : ℕ) (l : List ℕ) (R : Listing (by_items (drop s slots)) n out (by_items (drop j slots)) i l) where
-      slots_more : j < 512 → by_items (drop j slots) ≡ pair_differences S T (item_pair S T (get_or slots j 0)).0 (item_pair S T (get_or slots j 0)).1 ++ by_items (drop (j + 1) slots)
+    module _ (j i : ℕ) (l : List ℕ) (R : Listing (by_items ks) n out (by_items (drop j ks)) i l) where
+      slots_more : j < length ks → by_items (drop j ks) ≡ pair_differences S T (item_pair S T (get_or ks j 0)).0 (item_pair S T (get_or ks j 0)).1 ++ by_items (drop (j + 1) ks)
       unfolding all_differences
-      slots_more g = ap by_items (drop-cons slots j 0 (omega arith)) ∙ rw add-one
+      slots_more g = ap by_items (drop-cons ks j 0 g) ∙ rw add-one
 
-      pub slots_room : j < 512 → n + length (by_items (drop s slots)) < 4294967296 → i + length (pair_differences S T (item_pair S T (get_or slots j 0)).0 (item_pair S T (get_or slots j 0)).1) < 4294967296
+      pub slots_room : j < length ks → n + length (by_items ks) < 4294967296 → i + length (pair_differences S T (item_pair S T (get_or ks j 0)).0 (item_pair S T (get_or ks j 0)).1) < 4294967296
       slots_room g b =
-          omega (arith, R.count, ap length (slots_more g), length-append (pair_differences S T (item_pair S T (get_or slots j 0)).0 (item_pair S T (get_or slots j 0)).1) (by_items (drop (j + 1) slots)))
+          omega (arith, R.count, ap length (slots_more g), length-append (pair_differences S T (item_pair S T (get_or ks j 0)).0 (item_pair S T (get_or ks j 0)).1) (by_items (drop (j + 1) ks)))
 
-      pub slots_step : j < 512 → (last : List ℕ) (r : ℕ) → Listed (pair_differences S T (item_pair S T (get_or slots j 0)).0 (item_pair S T (get_or slots j 0)).1) i l last r
-          → Listing (by_items (drop s slots)) n out (by_items (drop (j + 1) slots)) r last
+      pub slots_step : j < length ks → (last : List ℕ) (r : ℕ) → Listed (pair_differences S T (item_pair S T (get_or ks j 0)).0 (item_pair S T (get_or ks j 0)).1) i l last r
+          → Listing (by_items ks) n out (by_items (drop (j + 1) ks)) r last
       slots_step g last r A =
-          listing_next (by_items (drop s slots)) n out (by_items (drop j slots)) i l R
-          (pair_differences S T (item_pair S T (get_or slots j 0)).0 (item_pair S T (get_or slots j 0)).1) (by_items (drop (j + 1) slots)) (slots_more g) r last A
+          listing_next (by_items ks) n out (by_items (drop j ks)) i l R
+          (pair_differences S T (item_pair S T (get_or ks j 0)).0 (item_pair S T (get_or ks j 0)).1) (by_items (drop (j + 1) ks)) (slots_more g) r last A
 
-      pub slots_end : 512 ≤ j → Listed (by_items (drop s slots)) n out l i
+      pub slots_end : length ks ≤ j → Listed (by_items ks) n out l i
       unfolding all_differences
-      slots_end g = listing_end (by_items (drop s slots)) n out (by_items (drop j slots)) i l R (ap by_items (drop_of_length-le slots {i = j} (omega arith)))
+      slots_end g = listing_end (by_items ks) n out (by_items (drop j ks)) i l R (ap by_items (drop_of_length-le ks {i = j} g))
 
 -- ---- parameter lists
 
@@ -231,11 +204,11 @@ module _ (S T : List ℕ) where
 -- ---- all
 
 module _ (S T : List ℕ) (fs : faults S ≡ fine) (ft : faults T ≡ fine) (d : List ℕ) (ed : d ≡ items S T) where
-  all_are : differences S T ≡ by_items S T [] 0 d ++ all_differences S T (list_pairs S T)
+  all_are : differences S T ≡ by_items S T d ++ all_differences S T (list_pairs S T)
   all_are = differences_sum S T fs ft ∙ rw ed
 
-  all_sum : length (differences S T) ≡ length (by_items S T [] 0 d) + length (all_differences S T (list_pairs S T))
-  all_sum = ap length all_are ∙ length-append (by_items S T [] 0 d) (all_differences S T (list_pairs S T))
+  all_sum : length (differences S T) ≡ length (by_items S T d) + length (all_differences S T (list_pairs S T))
+  all_sum = ap length all_are ∙ length-append (by_items S T d) (all_differences S T (list_pairs S T))
 
   pub all_first : 0 + length (all_differences S T (map (item_pair S T) d)) < 4294967296
   all_first = omega (arith, all_sum, differences_few S T fs ft)
@@ -246,7 +219,7 @@ module _ (S T : List ℕ) (fs : faults S ≡ fine) (ft : faults T ≡ fine) (d :
 
     module _ (last : List ℕ) (r : ℕ) (B : Listed (all_differences S T (list_pairs S T)) i l last r) where
       pub all_listed : Listed (differences S T) 0 out last r
-      all_listed = listed_as 0 out _ _ (sym all_are) last r (listed_more 0 out (by_items S T [] 0 d) (all_differences S T (list_pairs S T)) l last i r A B)
+      all_listed = listed_as 0 out _ _ (sym all_are) last r (listed_more 0 out (by_items S T d) (all_differences S T (list_pairs S T)) l last i r A B)
 
       pub all_small : r < 4294967296
       all_small = omega (arith, all_sum, differences_few S T fs ft, A.count, B.count)

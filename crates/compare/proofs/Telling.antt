@@ -11,6 +11,7 @@ use native.Mathlib.Omega.{arith}
 use lib.ListN.{length}
 use lib.Dec.{leb, ltb}
 use borrow.Author.Tests.{leb-true, le-leb, lt-leb}
+use mir.Val.{bool_byte}
 use Rattle.encoding.specs.Result.{pick}
 use Rattle.encoding.specs.Table.{types, kind, Fault, fine, fault, faults, rule_number}
 use Rattle.encoding.proofs.RuleLaws.{fault_place}
@@ -18,8 +19,8 @@ use Rattle.encoding.specs.Message.{no_top}
 use Rattle.encoding.proofs.MessageLaws.{top_there}
 use Rattle.laws.proofs.TableFault.{fault_class}
 use Rattle.rules.specs.Checks.{finding_of}
-use Rattle.rules.specs.declared.Finding.{Finding}
-use Rattle.rules.specs.declared.Finding.TheVariants.{Fine, Broken}
+use Rattle.std.specs.Prelude.{Result, Ok, Err}
+use Rattle.wire.specs.declared.Refusal.{Refusal}
 use Rattle.differences.specs.declared.Compared.{Compared}
 use Rattle.differences.specs.Compare.{Comparison, incomparable, no_tops, differences, extending, compared_within, after_both, difference_room, comparing, differences_listed}
 use Rattle.listing.specs.Listing.{enter, Listed}
@@ -75,9 +76,13 @@ module _ (S T : List ℕ) (t u bytes : ℕ) (out : List ℕ) (one other : List �
     unfolding whole_of compared_within difference_room
     all_is = rw (count_is, le-leb n (bytes / 20) h)
 
-    pub told_all : (b : Bool) → b ≡ extending S T t u → (e : ℕ) → e ≡ pick b 1 0 → four 0 0 n e ≡ compared_of (whole_of S t T u bytes)
+    bit_is : (b : Bool) (e : ℕ) → e ≡ bool_byte b → e ≡ pick b 1 0
+    bit_is true e q = q
+    bit_is false e q = q
+
+    pub told_all : (b : Bool) → b ≡ extending S T t u → (e : ℕ) → e ≡ bool_byte b → four 0 0 n e ≡ compared_of (whole_of S t T u bytes)
     unfolding compared_of
-    told_all b eb e ee = rw (all_is, count_is, ee, eb)
+    told_all b eb e ee = rw (all_is, count_is, bit_is b e ee, eb)
 
     pub told_list : (last : List ℕ) (r : ℕ) → Listed (differences S T) 0 out last r → last ≡ enter 0 (whole_of S t T u bytes).found out
     told_list last r B = B.list ∙ sym (rw all_is)
@@ -152,23 +157,29 @@ same_answer old t new u bytes n e c q = q ∙ ap (λ (x : ℕ). compared_of (com
 
 -- ---- tables that break a rule
 
-module _ (T : List ℕ) (f : Finding) (ef : f ≡ finding_of (faults T)) where
-  pub found_fine : f ≡ Fine → faults T ≡ fine
+module _ (T : List ℕ) (f : Result Unit Refusal) (ef : f ≡ finding_of (faults T)) where
+  pub found_fine : (v : Unit) → f ≡ Ok v → faults T ≡ fine
   unfolding finding_of
-  found_fine q = go (faults T) (sym q ∙ ef)
+  found_fine v q = go (faults T) (sym q ∙ ef)
     where
-      go : (g : Fault) → Fine ≡ finding_of g → g ≡ fine
+      go : (g : Fault) → Ok v ≡ finding_of g → g ≡ fine
       go fine h = refl
       go (fault c p) h = let z : ◌≡◌ {A = ℕ} 0 1 = cc in absurd (omega arith)
 
-  module _ (c p : ℕ) (q : f ≡ Broken c p) where
+  module _ (x : Refusal) (q : f ≡ Err x) where
+    abbrev c : ℕ
+    c = x.number
+
+    abbrev p : ℕ
+    p = x.place
+
     found : faults T ≡ fault c p
     unfolding finding_of
     found = go (faults T) (sym q ∙ ef)
       where
-        go : (g : Fault) → Broken c p ≡ finding_of g → g ≡ fault c p
+        go : (g : Fault) → Err x ≡ finding_of g → g ≡ fault c p
         go fine h = let z : ◌≡◌ {A = ℕ} 0 1 = cc in absurd (omega arith)
-        go (fault d x) h = let ed : c ≡ d = cc in let ex : p ≡ x = cc in rw (ed, ex)
+        go (fault d b) h = let z : x ≡ record { number = d; place = b } = cc in rw z refl
 
     pub number_fits : c < 4294967296
     number_fits = omega (arith, (fault_class T c p found).1)

@@ -6,7 +6,6 @@ mod pairs;
 
 ghost use Rattle.std.specs.Prelude.{◌≡◌, ◌+◌, ◌<◌, length};
 ghost use Rattle.encoding.specs.Table.{types, types_at, fine, faults};
-ghost use Rattle.encoding.specs.Result.{pick};
 ghost use Rattle.encoding.specs.Message.{no_top};
 ghost use Rattle.agreeing.specs.Agreeing.{Agreed};
 ghost use Rattle.differences.specs.Compare.{comparing, differences_listed};
@@ -14,28 +13,17 @@ ghost use Rattle.listing.specs.Listing.{enter};
 ghost use Rattle.compare.specs.Compared.{compared_of, whole_of};
 
 use differences::Compared;
-use rules::Finding;
 
 // The answer to a refusal.
 fn refused(refusal: u32, place: u32) -> Compared
     ensures { result ≡ record { refusal = refusal; place = place; count = 0; extends = 0 } }
 {
     Compared {
-        refusal: refusal,
-        place: place,
+        refusal,
+        place,
         count: 0,
         extends: 0,
     }
-}
-
-// 1 for yes, 0 for no.
-fn bit(b: bool) -> u32
-    ensures { result ≡ pick b 1 0 }
-{
-    if b {
-        return 1;
-    }
-    0
 }
 
 // The row is not in the table, or is no top.
@@ -79,7 +67,7 @@ fn told(
         refusal: 0,
         place: 0,
         count: n as u32,
-        extends: bit(e),
+        extends: u32::from(e),
     }
 }
 
@@ -126,16 +114,12 @@ fn judge(old: &[u8], t: usize, new: &[u8], u: usize, bytes: usize, list: &mut [u
     ensures value { result ≡ compared_of (comparing old.now t new.now u bytes) }
     ensures list_after { list.new ≡ enter 0 (comparing old.now t new.now u bytes).found list.old }
 {
-    let v = rules::check(old);
-    match v {
-        Finding::Broken(c, p) => refused(c as u32, p as u32),
-        Finding::Fine => {
-            let w = rules::check(new);
-            match w {
-                Finding::Broken(d, q) => refused(d as u32, (q + 1000000) as u32),
-                Finding::Fine => sound(old, t, new, u, bytes, list),
-            }
-        }
+    match rules::check(old) {
+        Err(broken) => refused(broken.number as u32, broken.place as u32),
+        Ok(()) => match rules::check(new) {
+            Err(broken) => refused(broken.number as u32, (broken.place + 1000000) as u32),
+            Ok(()) => sound(old, t, new, u, bytes, list),
+        },
     }
 }
 

@@ -61,9 +61,9 @@ fn data_end(end: usize, optionals: bool, len: usize) -> usize
     ensures { result ≡ min (end + pick optionals 1 0) len }
 {
     if optionals {
-        return wire::least(end + 1, len);
+        return (end + 1).min(len);
     }
-    wire::least(end, len)
+    end.min(len)
 }
 
 // How much a is greater than b.

@@ -13,105 +13,113 @@ use borrow.Author.Tests.{le-leb, lt-leb, lt-ltb, le-ltb, eq-eqb, ne_eqb}
 use mir.Syntax.{w64}
 use mir.Val.{Fits}
 use Rattle.encoding.specs.Result.{Res, ok, bad, Parser, shift, after, ◌>>=◌, pure, chunk, judged, must, made, mapc, leave, enter, inside}
-use Rattle.encoding.proofs.ResultLaws.{Bound, bind_ok, chunk_ok, item_ok, must_ok, held_took, held_refused}
+use Rattle.encoding.proofs.ResultLaws.{Bound, Held, bind_ok, chunk_ok, item_ok, must_ok, held_took, held_refused}
 use Rattle.encoding.specs.Number.{val, number, byte, bool_form, length_form, string, declared}
 use Rattle.encoding.proofs.NumberLaws.{held_string, held_declared}
 use Rattle.encoding.specs.Table.{at}
-use Rattle.wire.specs.declared.Step.{Step}
-use Rattle.wire.specs.declared.Step.TheVariants.{Took, Fault}
-use Rattle.wire.specs.declared.Sized.{Sized}
-use Rattle.wire.specs.declared.Sized.TheVariants.{Is, Isnt}
-use Rattle.wire.specs.Steps.{step_of, sized_of, bytes_of}
+use Rattle.std.specs.Prelude.{Result, Ok, Err}
+use Rattle.wire.specs.declared.Refusal.{Refusal}
+use Rattle.wire.specs.declared.Counted.{Counted}
+use Rattle.wire.specs.Steps.{step_of, sized_of, bytes_of, refused, counted, behind}
 use Rattle.wire.specs.StepLaws.{rest_is, step_took, step_fault, sized_is, sized_isnt, bytes_is, bytes_isnt, sized_held}
 use Rattle.endpoint.specs.declared.fields.Fields.{Fields}
-use Rattle.endpoint.specs.declared.fields.Fields.TheVariants.{Are, Arent}
 use Rattle.endpoint.specs.Endpoint.{endpoint_version, Address, timed, no_port, port_form, port, timeout, flag, address, versioned}
 use Rattle.endpoint.proofs.RefusalLaws.{held_port, held_timeout, held_flag, held_settings, held_tail, held_address, held_versioned}
-use Rattle.endpoint.specs.Parts.{settings, tail, Four, fields_of, settings_fields, tail_fields, address_fields}
+use Rattle.endpoint.specs.Parts.{settings, tail, Four, fields, fields_of, fields_later, FieldsFit, settings_fields, tail_fields, address_fields}
 
 -- ---- one field
 
 module _ (s : List ℕ) where
-  pub port_cut : length s < 4 → Isnt 4 0 ≡ sized_of (port s)
+  pub port_cut : length s < 4 → refused 4 0 ≡ sized_of (port s)
   unfolding port must judged number chunk sized_of
   port_cut h = rw (lt-leb 4 (length s) h)
 
   module _ (h : 4 ≤ length s) (p : ℕ) (e : p ≡ at s 4 0) where
-    pub port_zero : p ≡ 0 → Isnt 27 0 ≡ sized_of (port s)
+    pub port_zero : p ≡ 0 → refused 27 0 ≡ sized_of (port s)
     unfolding port must judged number chunk port_form no_port sized_of at
     port_zero z = rw (le-leb 4 (length s) h, ← e, z)
 
-    pub port_high : (p ≡ 0 → ⊥) → 65535 < p → Isnt 27 0 ≡ sized_of (port s)
+    pub port_high : (p ≡ 0 → ⊥) → 65535 < p → refused 27 0 ≡ sized_of (port s)
     unfolding port must judged number chunk port_form no_port sized_of at
     port_high z l = rw (le-leb 4 (length s) h, ← e, ne_eqb p 0 z, lt-ltb 65535 p l)
 
-    pub port_is : (p ≡ 0 → ⊥) → p ≤ 65535 → Is p 4 ≡ sized_of (port s)
+    pub port_is : (p ≡ 0 → ⊥) → p ≤ 65535 → counted p 4 ≡ sized_of (port s)
     unfolding port must judged number chunk port_form no_port sized_of at
     port_is z l = rw (le-leb 4 (length s) h, ← e, ne_eqb p 0 z, le-ltb 65535 p l)
 
   module _ (k : ℕ) where
-    pub timeout_none : k ≡ 3 → Is 0 0 ≡ sized_of (timeout k s)
+    pub timeout_none : k ≡ 3 → counted 0 0 ≡ sized_of (timeout k s)
     unfolding timeout timed pure sized_of
     timeout_none z = rw z
 
     module _ (z : k ≡ 3 → ⊥) where
-      pub timeout_cut : length s < 4 → Isnt 4 0 ≡ sized_of (timeout k s)
+      pub timeout_cut : length s < 4 → refused 4 0 ≡ sized_of (timeout k s)
       unfolding timeout timed number chunk sized_of
       timeout_cut h = rw (ne_eqb k 3 z, lt-leb 4 (length s) h)
 
-      pub timeout_is : 4 ≤ length s → (t : ℕ) → t ≡ at s 4 0 → Is t 4 ≡ sized_of (timeout k s)
+      pub timeout_is : 4 ≤ length s → (t : ℕ) → t ≡ at s 4 0 → counted t 4 ≡ sized_of (timeout k s)
       unfolding timeout timed number chunk sized_of at
       timeout_is h t e = rw (ne_eqb k 3 z, le-leb 4 (length s) h, ← e)
 
-  pub flag_cut : length s < 1 → Isnt 4 0 ≡ sized_of (flag s)
+  pub flag_cut : length s < 1 → refused 4 0 ≡ sized_of (flag s)
   unfolding flag must judged byte number chunk sized_of
   flag_cut h = rw (lt-leb 1 (length s) h)
 
   module _ (h : 1 ≤ length s) (c : ℕ) (e : c ≡ at s 1 0) where
-    pub flag_high : 2 ≤ c → Isnt 8 0 ≡ sized_of (flag s)
+    pub flag_high : 2 ≤ c → refused 8 0 ≡ sized_of (flag s)
     unfolding flag must judged byte number chunk bool_form sized_of at
     flag_high l = rw (le-leb 1 (length s) h, ← e, le-ltb c 2 l)
 
-    pub flag_is : c < 2 → Is c 1 ≡ sized_of (flag s)
+    pub flag_is : c < 2 → counted c 1 ≡ sized_of (flag s)
     unfolding flag must judged byte number chunk bool_form sized_of at
     flag_is l = rw (le-leb 1 (length s) h, ← e, lt-ltb c 2 l)
 
 -- ---- what an answer says of the result
 
 module _ {A : Type 0} (g : A → Four) (r : Res A) where
-  pub fields_are : (h p t c m : ℕ) → Are h p t c m ≡ fields_of g r → (a : A) × (r ≡ ok a m)
+  -- and what the fields are
+  pub fields_are : (f : Fields) → Ok f ≡ fields_of g r → (a : A) × (r ≡ ok a f.bytes) × (f ≡ fields (g a) f.bytes)
   unfolding fields_of
-  fields_are h p t c m e = go r e
+  fields_are f e = go r e
     where
-      go : (r : Res A) → Are h p t c m ≡ fields_of g r → (a : A) × (r ≡ ok a m)
-      go (ok a n) e = let q : n ≡ m = cc in (a, ap (ok a) q)
-      go (bad f q) e = let z : ◌≡◌ {A = ℕ} 0 1 = cc in absurd (omega arith)
+      go : (r : Res A) → Ok f ≡ fields_of g r → (a : A) × (r ≡ ok a f.bytes) × (f ≡ fields (g a) f.bytes)
+      go (ok a n) e = let q : f ≡ fields (g a) n = cc in (a, rw q refl, rw q refl)
+      go (bad c p) e = let z : ◌≡◌ {A = ℕ} 0 1 = cc in absurd (omega arith)
 
-  pub fields_arent : (f q : ℕ) → Arent f q ≡ fields_of g r → r ≡ bad f q
+  pub fields_arent : (x : Refusal) → Err x ≡ fields_of g r → r ≡ bad x.number x.place
   unfolding fields_of
-  fields_arent f q e = go r e
+  fields_arent x e = go r e
     where
-      go : (r : Res A) → Arent f q ≡ fields_of g r → r ≡ bad f q
+      go : (r : Res A) → Err x ≡ fields_of g r → r ≡ bad x.number x.place
       go (ok a n) e = let z : ◌≡◌ {A = ℕ} 0 1 = cc in absurd (omega arith)
-      go (bad c k) e = cc
+      go (bad c p) e = let q : x ≡ record { number = c; place = p } = cc in rw q refl
 
   -- moved past n bytes
-  moved_are : (n h p t c m : ℕ) → Are h p t c m ≡ fields_of g r → Are h p t c (n + m) ≡ fields_of g (shift n r)
+  later_of : (n : ℕ) → fields_later n (fields_of g r) ≡ fields_of g (shift n r)
   unfolding fields_of shift
-  moved_are n h p t c m e = go r e
+  later_of n = go r
     where
-      go : (r : Res A) → Are h p t c m ≡ fields_of g r → Are h p t c (n + m) ≡ fields_of g (shift n r)
-      go (ok a k) e = cc
-      go (bad f q) e = let z : ◌≡◌ {A = ℕ} 0 1 = cc in absurd (omega arith)
-
-  moved_arent : (n f q : ℕ) → Arent f q ≡ fields_of g r → Arent f (n + q) ≡ fields_of g (shift n r)
-  unfolding fields_of shift
-  moved_arent n f q e = rw (fields_arent f q e)
+      go : (r : Res A) → fields_later n (fields_of g r) ≡ fields_of g (shift n r)
+      go (ok a m) = refl
+      go (bad c p) = refl
 
 made_fields : {A B : Type 0} (g : B → Four) (f : A → B) (n : ℕ) (r : Res A) → fields_of g (shift n (made (λ a _. f a) r)) ≡ fields_of (λ a. g (f a)) (shift n r)
 unfolding fields_of made shift
 made_fields g f n (ok a m) = refl
 made_fields g f n (bad c p) = refl
+
+end_is : (a : Address) (n : ℕ) (x : Fields) → Ok x ≡ address_fields (ok a n) → x.bytes ≡ n
+unfolding fields_of
+end_is a n x e = let q : x ≡ fields (length a.host, a.port, a.timeout, a.compress) n = cc in rw q refl
+
+-- sums of places, in an answer about the rest
+module _ {A : Type 0} (g : A → Four) (p : Parser A) (P : Held p) (s : List ℕ) (n : ℕ) (f : Result Fields Refusal) (d : f ≡ fields_of g (p (drop n s))) where
+  fields_fit : n ≤ length s → length s < 2 ^ 64 → FieldsFit n f
+  fields_fit h l = go f refl
+    where
+      go : (t : Result Fields Refusal) → f ≡ t → FieldsFit n t
+      go (Ok x) q = omega (arith, held_took p P (drop n s) (fields_are g (p (drop n s)) x (sym q ∙ d)).1, length-drop n s)
+      go (Err x) q = omega (arith, held_refused p P (drop n s) (fields_arent g (p (drop n s)) x (sym q ∙ d)), length-drop n s)
 
 -- sums of places
 pub sum_fits : (s : List ℕ) (n m : ℕ) → n ≤ length s → m ≤ length (drop n s) → length s < 2 ^ 64 → Fits w64 (n + m)
@@ -119,65 +127,60 @@ sum_fits s n m h l b = record { fits = omega (arith, length-drop n s) }
 
 -- ---- timeout, then compress
 
-module _ (s : List ℕ) (k n p : ℕ) (z : Sized) (e : z ≡ sized_of (timeout k s)) where
-  pub timeout_end : (t w : ℕ) → z ≡ Is t w → w ≤ length s
-  timeout_end t w q = sized_held (timeout k) (held_timeout k) s z e t w q
+module _ (s : List ℕ) (k n p : ℕ) (z : Result Counted Refusal) (e : z ≡ sized_of (timeout k s)) where
+  pub timeout_end : (t : Counted) → z ≡ Ok t → t.bytes ≤ length s
+  timeout_end t q = sized_held (timeout k) (held_timeout k) s z e t q
 
-  pub settings_none : (c q : ℕ) → z ≡ Isnt c q → Arent c q ≡ settings_fields n p (settings k s)
+  pub settings_none : (x : Refusal) → z ≡ Err x → Err x ≡ settings_fields n p (settings k s)
   unfolding settings ◌>>=◌ after fields_of
-  settings_none c q h = rw (sized_isnt (timeout k s) c q (sym h ∙ e))
+  settings_none x h = rw (sized_isnt (timeout k s) x (sym h ∙ e))
 
-  module _ (t w : ℕ) (h : z ≡ Is t w) (y : Sized) (d : y ≡ sized_of (flag (take (length s - w) (drop w s)))) where
-    after_timeout : settings k s ≡ shift w (made (λ c _. (t, c)) (flag (drop w s)))
+  module _ (t : Counted) (h : z ≡ Ok t) (y : Result Counted Refusal) (d : y ≡ sized_of (flag (take (length s - t.bytes) (drop t.bytes s)))) where
+    after_timeout : settings k s ≡ shift t.bytes (made (λ c _. (t.number, c)) (flag (drop t.bytes s)))
     unfolding settings ◌>>=◌ after mapc
-    after_timeout = rw (sized_is (timeout k s) t w (sym h ∙ e))
+    after_timeout = rw (sized_is (timeout k s) t (sym h ∙ e))
 
-    flag_rest : y ≡ sized_of (flag (drop w s))
+    flag_rest : y ≡ sized_of (flag (drop t.bytes s))
     flag_rest = rw rest_is at d
 
-    pub settings_fit : (c j : ℕ) → y ≡ Is c j → length s < 2 ^ 64 → Fits w64 (w + j)
-    settings_fit c j g b = sum_fits s w j (timeout_end t w h) (sized_held flag held_flag (drop w s) y flag_rest c j g) b
+    pub settings_fit : (c : Counted) → y ≡ Ok c → length s < 2 ^ 64 → Fits w64 (t.bytes + c.bytes)
+    settings_fit c g b = sum_fits s t.bytes c.bytes (timeout_end t h) (sized_held flag held_flag (drop t.bytes s) y flag_rest c g) b
 
-    pub settings_bad_fit : (c q : ℕ) → y ≡ Isnt c q → length s < 2 ^ 64 → Fits w64 (w + q)
-    settings_bad_fit c q g b = sum_fits s w q (timeout_end t w h) (held_refused flag held_flag (drop w s) (sized_isnt (flag (drop w s)) c q (sym g ∙ flag_rest))) b
+    pub settings_bad_fit : (x : Refusal) → y ≡ Err x → length s < 2 ^ 64 → t.bytes + x.place < 2 ^ 64
+    settings_bad_fit x g b =
+        omega (arith, timeout_end t h, held_refused flag held_flag (drop t.bytes s) (sized_isnt (flag (drop t.bytes s)) x (sym g ∙ flag_rest)), length-drop t.bytes s)
 
-    pub settings_are : (c j : ℕ) → y ≡ Is c j → Are n p t c (w + j) ≡ settings_fields n p (settings k s)
+    pub settings_are : (c : Counted) → y ≡ Ok c → Ok (fields (n, p, t.number, c.number) (t.bytes + c.bytes)) ≡ settings_fields n p (settings k s)
     unfolding shift made fields_of
-    settings_are c j g = rw (after_timeout, sized_is (flag (drop w s)) c j (sym g ∙ flag_rest))
+    settings_are c g = rw (after_timeout, sized_is (flag (drop t.bytes s)) c (sym g ∙ flag_rest))
 
-    pub settings_bad : (c q : ℕ) → y ≡ Isnt c q → Arent c (w + q) ≡ settings_fields n p (settings k s)
+    pub settings_bad : (x : Refusal) → y ≡ Err x → Err (behind t.bytes x) ≡ settings_fields n p (settings k s)
     unfolding shift made fields_of
-    settings_bad c q g = rw (after_timeout, sized_isnt (flag (drop w s)) c q (sym g ∙ flag_rest))
+    settings_bad x g = rw (after_timeout, sized_isnt (flag (drop t.bytes s)) x (sym g ∙ flag_rest))
 
 -- ---- port, then those
 
-module _ (s : List ℕ) (k n : ℕ) (z : Sized) (e : z ≡ sized_of (port s)) where
-  pub port_end : (p w : ℕ) → z ≡ Is p w → w ≤ length s
-  port_end p w q = sized_held port held_port s z e p w q
+module _ (s : List ℕ) (k n : ℕ) (z : Result Counted Refusal) (e : z ≡ sized_of (port s)) where
+  pub port_end : (p : Counted) → z ≡ Ok p → p.bytes ≤ length s
+  port_end p q = sized_held port held_port s z e p q
 
-  pub tail_none : (c q : ℕ) → z ≡ Isnt c q → Arent c q ≡ tail_fields n (tail k s)
+  pub tail_none : (x : Refusal) → z ≡ Err x → Err x ≡ tail_fields n (tail k s)
   unfolding tail ◌>>=◌ after fields_of
-  tail_none c q h = rw (sized_isnt (port s) c q (sym h ∙ e))
+  tail_none x h = rw (sized_isnt (port s) x (sym h ∙ e))
 
-  module _ (p w : ℕ) (h : z ≡ Is p w) (f : Fields) (d : f ≡ settings_fields n p (settings k (take (length s - w) (drop w s)))) where
-    after_port_lem : tail_fields n (tail k s) ≡ settings_fields n p (shift w (settings k (drop w s)))
+  module _ (p : Counted) (h : z ≡ Ok p) (f : Result Fields Refusal) (d : f ≡ settings_fields n p.number (settings k (take (length s - p.bytes) (drop p.bytes s)))) where
+    after_port_lem : tail_fields n (tail k s) ≡ settings_fields n p.number (shift p.bytes (settings k (drop p.bytes s)))
     unfolding tail ◌>>=◌ after mapc
-    after_port_lem = rw (sized_is (port s) p w (sym h ∙ e)) (made_fields _ (λ x. (p, x)) w (settings k (drop w s)))
+    after_port_lem = rw (sized_is (port s) p (sym h ∙ e)) (made_fields _ (λ x. (p.number, x)) p.bytes (settings k (drop p.bytes s)))
 
-    settings_rest : f ≡ settings_fields n p (settings k (drop w s))
+    settings_rest : f ≡ settings_fields n p.number (settings k (drop p.bytes s))
     settings_rest = rw rest_is at d
 
-    pub tail_fit : (a b t c m : ℕ) → f ≡ Are a b t c m → length s < 2 ^ 64 → Fits w64 (w + m)
-    tail_fit a b t c m g l = sum_fits s w m (port_end p w h) (held_took (settings k) (held_settings k) (drop w s) (fields_are _ (settings k (drop w s)) a b t c m (sym g ∙ settings_rest)).1) l
+    pub tail_fit : length s < 2 ^ 64 → FieldsFit p.bytes f
+    tail_fit l = fields_fit _ (settings k) (held_settings k) s p.bytes f settings_rest (port_end p h) l
 
-    pub tail_bad_fit : (c q : ℕ) → f ≡ Arent c q → length s < 2 ^ 64 → Fits w64 (w + q)
-    tail_bad_fit c q g l = sum_fits s w q (port_end p w h) (held_refused (settings k) (held_settings k) (drop w s) (fields_arent _ (settings k (drop w s)) c q (sym g ∙ settings_rest))) l
-
-    pub tail_are : (a b t c m : ℕ) → f ≡ Are a b t c m → Are a b t c (w + m) ≡ tail_fields n (tail k s)
-    tail_are a b t c m g = moved_are _ (settings k (drop w s)) w a b t c m (sym g ∙ settings_rest) ∙ sym after_port_lem
-
-    pub tail_bad : (c q : ℕ) → f ≡ Arent c q → Arent c (w + q) ≡ tail_fields n (tail k s)
-    tail_bad c q g = moved_arent _ (settings k (drop w s)) w c q (sym g ∙ settings_rest) ∙ sym after_port_lem
+    pub tail_are : fields_later p.bytes f ≡ tail_fields n (tail k s)
+    tail_are = ap (fields_later p.bytes) settings_rest ∙ later_of _ (settings k (drop p.bytes s)) p.bytes ∙ sym after_port_lem
 
 -- ---- the host, then those
 
@@ -208,50 +211,44 @@ follows_is k h s = go (port s)
     go (ok p m) = go₂ p m (drop m s) (timeout k (drop m s))
     go (bad c q) = refl
 
-module _ (s : List ℕ) (k : ℕ) (z : Sized) (e : z ≡ bytes_of (string s)) where
-  pub host_end : (n w : ℕ) → z ≡ Is n w → w ≤ length s
-  host_end n w q = held_took string held_string s (bytes_is (string s) n w (sym q ∙ e)).1
+module _ (s : List ℕ) (k : ℕ) (z : Result Counted Refusal) (e : z ≡ bytes_of (string s)) where
+  pub host_end : (n : Counted) → z ≡ Ok n → n.bytes ≤ length s
+  host_end n q = held_took string held_string s (bytes_is (string s) n (sym q ∙ e)).1
 
-  pub address_none : (c q : ℕ) → z ≡ Isnt c q → Arent c q ≡ address_fields (address k s)
+  pub address_none : (x : Refusal) → z ≡ Err x → Err x ≡ address_fields (address k s)
   unfolding address ◌>>=◌ after fields_of
-  address_none c q h = rw (bytes_isnt (string s) c q (sym h ∙ e))
+  address_none x h = rw (bytes_isnt (string s) x (sym h ∙ e))
 
-  module _ (n w : ℕ) (h : z ≡ Is n w) (f : Fields) (d : f ≡ tail_fields n (tail k (take (length s - w) (drop w s)))) where
-    after_host_lem : address_fields (address k s) ≡ tail_fields n (shift w (tail k (drop w s)))
+  module _ (n : Counted) (h : z ≡ Ok n) (f : Result Fields Refusal) (d : f ≡ tail_fields n.number (tail k (take (length s - n.bytes) (drop n.bytes s)))) where
+    after_host_lem : address_fields (address k s) ≡ tail_fields n.number (shift n.bytes (tail k (drop n.bytes s)))
     unfolding address ◌>>=◌ after
-    after_host_lem = go (bytes_is (string s) n w (sym h ∙ e))
+    after_host_lem = go (bytes_is (string s) n (sym h ∙ e))
       where
-        go : (b : List ℕ) × (string s ≡ ok b w) × (n ≡ length b) → address_fields (address k s) ≡ tail_fields n (shift w (tail k (drop w s)))
-        go x = rw (x.1, x.2) (ap (λ (r : Res Address). address_fields (shift w r)) (follows_is k x.0 (drop w s)) ∙ made_fields _ (hosted k x.0) w (tail k (drop w s)))
+        go : (b : List ℕ) × (string s ≡ ok b n.bytes) × (n.number ≡ length b) → address_fields (address k s) ≡ tail_fields n.number (shift n.bytes (tail k (drop n.bytes s)))
+        go x = rw (x.1, x.2) (ap (λ (r : Res Address). address_fields (shift n.bytes r)) (follows_is k x.0 (drop n.bytes s)) ∙ made_fields _ (hosted k x.0) n.bytes (tail k (drop n.bytes s)))
 
-    tail_rest : f ≡ tail_fields n (tail k (drop w s))
+    tail_rest : f ≡ tail_fields n.number (tail k (drop n.bytes s))
     tail_rest = rw rest_is at d
 
-    pub address_fit : (a p t c m : ℕ) → f ≡ Are a p t c m → length s < 2 ^ 64 → Fits w64 (w + m)
-    address_fit a p t c m g l = sum_fits s w m (host_end n w h) (held_took (tail k) (held_tail k) (drop w s) (fields_are _ (tail k (drop w s)) a p t c m (sym g ∙ tail_rest)).1) l
+    pub address_fit : length s < 2 ^ 64 → FieldsFit n.bytes f
+    address_fit l = fields_fit _ (tail k) (held_tail k) s n.bytes f tail_rest (host_end n h) l
 
-    pub address_bad_fit : (c q : ℕ) → f ≡ Arent c q → length s < 2 ^ 64 → Fits w64 (w + q)
-    address_bad_fit c q g l = sum_fits s w q (host_end n w h) (held_refused (tail k) (held_tail k) (drop w s) (fields_arent _ (tail k (drop w s)) c q (sym g ∙ tail_rest))) l
-
-    pub address_are : (a p t c m : ℕ) → f ≡ Are a p t c m → Are a p t c (w + m) ≡ address_fields (address k s)
-    address_are a p t c m g = moved_are _ (tail k (drop w s)) w a p t c m (sym g ∙ tail_rest) ∙ sym after_host_lem
-
-    pub address_bad : (c q : ℕ) → f ≡ Arent c q → Arent c (w + q) ≡ address_fields (address k s)
-    address_bad c q g = moved_arent _ (tail k (drop w s)) w c q (sym g ∙ tail_rest) ∙ sym after_host_lem
+    pub address_are : fields_later n.bytes f ≡ address_fields (address k s)
+    address_are = ap (fields_later n.bytes) tail_rest ∙ later_of _ (tail k (drop n.bytes s)) n.bytes ∙ sym after_host_lem
 
 -- ---- the version, then the address
 
 module _ (s : List ℕ) (k : ℕ) where
-  pub versioned_cut : length s < 2 → Arent 4 0 ≡ address_fields (versioned k s)
+  pub versioned_cut : length s < 2 → refused 4 0 ≡ address_fields (versioned k s)
   unfolding versioned must judged number chunk ◌>>=◌ after fields_of
   versioned_cut h = rw (lt-leb 2 (length s) h)
 
   module _ (h : 2 ≤ length s) (v : ℕ) (e : v ≡ at s 2 0) where
-    pub versioned_other : (v ≡ 257 → ⊥) → Arent 6 0 ≡ address_fields (versioned k s)
+    pub versioned_other : (v ≡ 257 → ⊥) → refused 6 0 ≡ address_fields (versioned k s)
     unfolding versioned must judged number chunk endpoint_version ◌>>=◌ after fields_of at
     versioned_other n = rw (le-leb 2 (length s) h, ← e, ne_eqb v 257 n)
 
-    module _ (q : v ≡ 257) (f : Fields) (d : f ≡ address_fields (address k (take (length s - 2) (drop 2 s)))) where
+    module _ (q : v ≡ 257) (f : Result Fields Refusal) (d : f ≡ address_fields (address k (take (length s - 2) (drop 2 s)))) where
       versioned_is : versioned k s ≡ shift 2 (address k (drop 2 s))
       unfolding versioned must judged number chunk endpoint_version ◌>>=◌ after at
       versioned_is = rw (le-leb 2 (length s) h, ← e, q)
@@ -259,17 +256,12 @@ module _ (s : List ℕ) (k : ℕ) where
       address_rest : f ≡ address_fields (address k (drop 2 s))
       address_rest = rw rest_is at d
 
-      pub versioned_fit : (a p t c m : ℕ) → f ≡ Are a p t c m → length s < 2 ^ 64 → Fits w64 (2 + m)
-      versioned_fit a p t c m g l = sum_fits s 2 m h (held_took (address k) (held_address k) (drop 2 s) (fields_are _ (address k (drop 2 s)) a p t c m (sym g ∙ address_rest)).1) l
+      pub versioned_are : fields_later 2 f ≡ address_fields (versioned k s)
+      versioned_are = rw versioned_is (ap (fields_later 2) address_rest ∙ later_of _ (address k (drop 2 s)) 2)
 
-      pub versioned_bad_fit : (c i : ℕ) → f ≡ Arent c i → length s < 2 ^ 64 → Fits w64 (2 + i)
-      versioned_bad_fit c i g l = sum_fits s 2 i h (held_refused (address k) (held_address k) (drop 2 s) (fields_arent _ (address k (drop 2 s)) c i (sym g ∙ address_rest))) l
-
-      pub versioned_are : (a p t c m : ℕ) → f ≡ Are a p t c m → Are a p t c (2 + m) ≡ address_fields (versioned k s)
-      versioned_are a p t c m g = rw versioned_is (moved_are _ (address k (drop 2 s)) 2 a p t c m (sym g ∙ address_rest))
-
-      pub versioned_bad : (c i : ℕ) → f ≡ Arent c i → Arent c (2 + i) ≡ address_fields (versioned k s)
-      versioned_bad c i g = rw versioned_is (moved_arent _ (address k (drop 2 s)) 2 c i (sym g ∙ address_rest))
+-- whatever the version
+pub versioned_fit : (s : List ℕ) (k : ℕ) → 2 ≤ length s → (f : Result Fields Refusal) → f ≡ address_fields (address k (take (length s - 2) (drop 2 s))) → length s < 2 ^ 64 → FieldsFit 2 f
+versioned_fit s k h f d l = fields_fit _ (address k) (held_address k) s 2 f (rw rest_is at d) h l
 
 -- ---- the encapsulation around them
 
@@ -285,12 +277,12 @@ declared_part s d n h = go (bind_ok (must (length_form 6) (number 4)) (λ n. chu
         let w : n - 4 ≡ B.fst - 4 = omega (arith, B.sum, N.2, C.2) in
         (omega (arith, B.sum, N.2), C.1 ∙ ap₂ (λ (i j : ℕ). take i (drop j s)) (sym w) N.2)
 
-module _ (s : List ℕ) (k : ℕ) (r : Step) (e : r ≡ step_of (declared 6 4 s)) where
-  pub enclosed_none : (c q : ℕ) → r ≡ Fault c q → Arent c q ≡ address_fields (inside (declared 6 4) (versioned k) s)
+module _ (s : List ℕ) (k : ℕ) (r : Result ℕ Refusal) (e : r ≡ step_of (declared 6 4 s)) where
+  pub enclosed_none : (x : Refusal) → r ≡ Err x → Err x ≡ address_fields (inside (declared 6 4) (versioned k) s)
   unfolding inside enter fields_of
-  enclosed_none c q h = rw (step_fault (declared 6 4 s) c q (sym h ∙ e))
+  enclosed_none x h = rw (step_fault (declared 6 4 s) x (sym h ∙ e))
 
-  module _ (n : ℕ) (h : r ≡ Took n) where
+  module _ (n : ℕ) (h : r ≡ Ok n) where
     pub enclosed_end : n ≤ length s
     enclosed_end = held_took (declared 6 4) (held_declared 6 4) s (step_took (declared 6 4 s) n (sym h ∙ e)).1
 
@@ -303,31 +295,56 @@ module _ (s : List ℕ) (k : ℕ) (r : Step) (e : r ≡ step_of (declared 6 4 s)
     part_length : length (take (n - 4) (drop 4 s)) ≡ n - 4
     part_length = length-take-le (n - 4) (drop 4 s) (omega (arith, length-drop 4 s, enclosed_end))
 
-    module _ (f : Fields) (d : f ≡ address_fields (versioned k (take (n - 4) (drop 4 s)))) where
-      module _ (a p t c m : ℕ) (g : f ≡ Are a p t c m) where
-        pub enclosed_are : m ≡ n - 4 → Are a p t c n ≡ address_fields (inside (declared 6 4) (versioned k) s)
-        unfolding inside enter leave fields_of
-        enclosed_are z = go (fields_are _ (versioned k (take (n - 4) (drop 4 s))) a p t c m (sym g ∙ d))
+    module _ (f : Result Fields Refusal) (d : f ≡ address_fields (versioned k (take (n - 4) (drop 4 s)))) where
+      pub enclosed_fit : length s < 2 ^ 64 → FieldsFit 4 f
+      enclosed_fit l = go f refl
+        where
+          go : (t : Result Fields Refusal) → f ≡ t → FieldsFit 4 t
+          go (Ok x) q =
+              omega (arith, held_took (versioned k) (held_versioned k) (take (n - 4) (drop 4 s)) (fields_are _ (versioned k (take (n - 4) (drop 4 s))) x (sym q ∙ d)).1, part_length, enclosed_end, enclosed_start)
+          go (Err x) q =
+              omega (arith, held_refused (versioned k) (held_versioned k) (take (n - 4) (drop 4 s)) (fields_arent _ (versioned k (take (n - 4) (drop 4 s))) x (sym q ∙ d)), part_length, enclosed_end, enclosed_start)
+
+      module _ (x : Fields) (g : fields_later 4 f ≡ Ok x) where
+        -- the fields within, moved past the int
+        within_is : (a : Address) × (m : ℕ) × (versioned k (take (n - 4) (drop 4 s)) ≡ ok a m) × (Ok x ≡ address_fields (ok a (4 + m)))
+        unfolding fields_of
+        within_is = go (versioned k (take (n - 4) (drop 4 s))) refl
           where
-            go : (x : Address) × (versioned k (take (n - 4) (drop 4 s)) ≡ ok x m) → Are a p t c n ≡ address_fields (inside (declared 6 4) (versioned k) s)
-            go x = rw (part_is, x.1, eq-eqb m (length (take (n - 4) (drop 4 s))) (z ∙ sym part_length)) (same x.0 (sym g ∙ d ∙ ap address_fields x.1))
-              where
-                same : (x : Address) → Are a p t c m ≡ address_fields (ok x m) → Are a p t c n ≡ address_fields (ok x n)
-                same x e = cc
+            go : (t : Res Address) → versioned k (take (n - 4) (drop 4 s)) ≡ t → (a : Address) × (m : ℕ) × (versioned k (take (n - 4) (drop 4 s)) ≡ ok a m) × (Ok x ≡ address_fields (ok a (4 + m)))
+            go (ok a m) q = (a, m, q, sym g ∙ ap (fields_later 4) (d ∙ ap address_fields q))
+            go (bad c p) q =
+                let w : refused c (4 + p) ≡ Ok x = ap (fields_later 4) (sym (d ∙ ap address_fields q)) ∙ g in
+                let z : ◌≡◌ {A = ℕ} 0 1 = cc in absurd (omega arith)
 
-        pub enclosed_left : (m ≡ n - 4 → ⊥) → Arent 11 0 ≡ address_fields (inside (declared 6 4) (versioned k) s)
+        pub enclosed_are : x.bytes ≡ n → Ok x ≡ address_fields (inside (declared 6 4) (versioned k) s)
         unfolding inside enter leave fields_of
-        enclosed_left z = go (fields_are _ (versioned k (take (n - 4) (drop 4 s))) a p t c m (sym g ∙ d))
+        enclosed_are z = go within_is
           where
-            go : (x : Address) × (versioned k (take (n - 4) (drop 4 s)) ≡ ok x m) → Arent 11 0 ≡ address_fields (inside (declared 6 4) (versioned k) s)
-            go x = rw (part_is, x.1, ne_eqb m (length (take (n - 4) (drop 4 s))) (λ q. z (q ∙ part_length)))
+            go : (w : (a : Address) × (m : ℕ) × (versioned k (take (n - 4) (drop 4 s)) ≡ ok a m) × (Ok x ≡ address_fields (ok a (4 + m)))) → Ok x ≡ address_fields (inside (declared 6 4) (versioned k) s)
+            go w =
+                let b : x.bytes ≡ 4 + w.1 = end_is w.0 (4 + w.1) x w.3 in
+                let l : w.1 ≡ length (take (n - 4) (drop 4 s)) = omega (arith, part_length, b, z) in
+                let t : 4 + w.1 ≡ n = omega (arith, b, z) in
+                rw (part_is, w.2, eq-eqb w.1 (length (take (n - 4) (drop 4 s))) l) (w.3 ∙ ap (λ (i : ℕ). address_fields (ok w.0 i)) t)
 
-      module _ (c q : ℕ) (g : f ≡ Arent c q) where
-        pub enclosed_bad_fit : length s < 2 ^ 64 → Fits w64 (4 + q)
-        enclosed_bad_fit l =
-            record { fits = omega (arith, held_refused (versioned k) (held_versioned k) (take (n - 4) (drop 4 s)) (fields_arent _ (versioned k (take (n - 4) (drop 4 s))) c q (sym g ∙ d)), part_length, enclosed_end, enclosed_start) }
-
-        pub enclosed_bad : Arent c (4 + q) ≡ address_fields (inside (declared 6 4) (versioned k) s)
+        pub enclosed_left : (x.bytes ≡ n → ⊥) → refused 11 0 ≡ address_fields (inside (declared 6 4) (versioned k) s)
         unfolding inside enter leave fields_of
-        enclosed_bad =
-            rw (part_is, fields_arent _ (versioned k (take (n - 4) (drop 4 s))) c q (sym g ∙ d)) (ap (λ (i : ℕ). Arent c (i + q)) (omega (arith, part_length, enclosed_start)))
+        enclosed_left z = go within_is
+          where
+            go : (w : (a : Address) × (m : ℕ) × (versioned k (take (n - 4) (drop 4 s)) ≡ ok a m) × (Ok x ≡ address_fields (ok a (4 + m)))) → refused 11 0 ≡ address_fields (inside (declared 6 4) (versioned k) s)
+            go w =
+                let b : x.bytes ≡ 4 + w.1 = end_is w.0 (4 + w.1) x w.3 in
+                rw (part_is, w.2, ne_eqb w.1 (length (take (n - 4) (drop 4 s))) (λ q. z (omega (arith, part_length, b, q, enclosed_start))))
+
+      pub enclosed_bad : (x : Refusal) → fields_later 4 f ≡ Err x → Err x ≡ address_fields (inside (declared 6 4) (versioned k) s)
+      unfolding inside enter leave fields_of
+      enclosed_bad x g = go (versioned k (take (n - 4) (drop 4 s))) refl
+        where
+          go : (t : Res Address) → versioned k (take (n - 4) (drop 4 s)) ≡ t → Err x ≡ address_fields (inside (declared 6 4) (versioned k) s)
+          go (ok a m) q =
+              let w : Ok (fields (length a.host, a.port, a.timeout, a.compress) (4 + m)) ≡ Err x = ap (fields_later 4) (sym (d ∙ ap address_fields q)) ∙ g in
+              let z : ◌≡◌ {A = ℕ} 0 1 = cc in absurd (omega arith)
+          go (bad c p) q =
+              let w : refused c (4 + p) ≡ Err x = ap (fields_later 4) (sym (d ∙ ap address_fields q)) ∙ g in
+              rw (part_is, q) (sym w ∙ ap (λ (i : ℕ). refused c (i + p)) (omega (arith, part_length, enclosed_start)))

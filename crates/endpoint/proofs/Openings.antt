@@ -5,19 +5,22 @@
 --   typed_..                     by the type
 --   open_..                      3 first
 --   within_..                    22 last
---   seven_put, put_..            the seven numbers
+--   ints_.., put_..              numbers put one after another; the seven numbers
 use mathlib.Core.Path.{◌≡◌, refl, sym, ap, ◌∙◌, subst}
 use mathlib.Core.Bool.{Bool, true, false}
-use mathlib.Core.List.{List, ◌++◌}
-use Prim.Native.Nat.{ℕ, zero, suc, ◌+◌, ◌-◌, ◌^◌, ◌≤◌, ◌<◌}
+use mathlib.Core.List.{List, [], ◌∷◌, ◌++◌, append_assoc, append-nil}
+use Prim.Native.Nat.{ℕ, zero, suc, ◌+◌, ◌-◌, ◌*◌, ◌≤◌, ◌<◌}
 use native.Mathlib.Omega.{arith}
 use native.Mathlib.Nat.{add-zero}
-use lib.ListN.{length, take, drop, length-append, length-drop}
+use lib.ListN.{length, take, drop, get_or, length-append, length-drop}
+use lib.Seq.{length-take-le}
+use Rattle.std.proofs.Math.Seq.{take-suc}
+use Rattle.std.proofs.Common.{take_all}
 use lib.Dec.{leb}
 use borrow.Author.Tests.{leb-true, le-leb, lt-leb, lt-ltb, le-ltb}
-use mir.Syntax.{w64}
+use mir.Syntax.{w32, w64}
 use mir.Val.{Fits}
-use Rattle.encoding.specs.Result.{Res, ok, bad, Parser, pick, shift, after, ◌>>=◌, chunk, skip, made, mapc, inside, first_of}
+use Rattle.encoding.specs.Result.{Res, ok, bad, Parser, pick, shift, after, ◌>>=◌, chunk, skip, made, mapc, inside, first_of, concat}
 use Rattle.encoding.proofs.ResultLaws.{held_took, held_refused}
 use Rattle.encoding.proofs.ValueLaws.{held_endpoint}
 use Rattle.encoding.specs.Number.{Bytes, number, le_bytes, size_bytes, declared}
@@ -25,18 +28,17 @@ use Rattle.encoding.proofs.NumberLaws.{bytes_drop, length_le_bytes}
 use Rattle.encoding.specs.Proxy.{endpoint}
 use Rattle.encoding.specs.Table.{at}
 use Rattle.encoding.specs.Message.{limit, refused_first}
-use Rattle.wire.specs.declared.Step.{Step}
-use Rattle.wire.specs.declared.Step.TheVariants.{Took, Fault}
+use Rattle.std.specs.Prelude.{Result, Ok, Err}
+use Rattle.wire.specs.declared.Refusal.{Refusal}
 use Rattle.wire.specs.Steps.{step_of}
 use Rattle.wire.specs.StepLaws.{rest_is, step_took, step_fault}
 use Rattle.wire.specs.Put.{put}
-use Rattle.wire.specs.PutLaws.{put_put, put_front}
+use Rattle.wire.specs.PutLaws.{put_none, put_put, put_front}
 use Rattle.endpoint.specs.declared.Opened.{Opened}
 use Rattle.endpoint.specs.declared.Opened.TheVariants.{Is, Unopened, Refused}
 use Rattle.endpoint.specs.declared.fields.Fields.{Fields}
-use Rattle.endpoint.specs.declared.fields.Fields.TheVariants.{Are, Arent}
 use Rattle.endpoint.specs.Endpoint.{Address, Endpoint, opened, unopened, opens, versioned, encapsulated, typed, open_endpoint, host_place, opened_of, seven_bytes, opened_within, with_opened}
-use Rattle.endpoint.specs.Parts.{fields_of, address_fields, any_inside, address_inside, whole, Roomy}
+use Rattle.endpoint.specs.Parts.{fields, address_fields, any_inside, address_inside, whole, int_bytes, Roomy}
 use Rattle.endpoint.specs.EndpointDemands.{Dials, tcp, ssl, udp, OpenNumber}
 use Rattle.endpoint.proofs.EndpointLaws.{opens_step, opens_not, Narrow, enclosed_narrow}
 use Rattle.endpoint.proofs.RefusalLaws.{ended_more, ended_done, held_enclosed, refuses_enclosed, refuses_endpoint, told_bad, few_numbers}
@@ -72,14 +74,11 @@ any_is k s = go (skip 2 s)
     go (ok u n) = go₂ n (declared 6 4 (drop n s))
     go (bad c q) = refl
 
-module _ (s : List ℕ) (k : ℕ) (r : Step) (e : r ≡ step_of (endpoint s)) where
-  module _ (n : ℕ) (h : r ≡ Took n) where
+module _ (s : List ℕ) (k : ℕ) (r : Result ℕ Refusal) (e : r ≡ step_of (endpoint s)) where
+  module _ (n : ℕ) (h : r ≡ Ok n) where
     any_took : (skip 2 >>= λ _. any_inside k) s ≡ ok (unopened k) n
     unfolding made
     any_took = any_is k s ∙ ap (made (λ _ _. unopened k)) (step_took (endpoint s) n (sym h ∙ e)).1
-
-    pub unopened_fit : length s ≤ 65536 → n < 2 ^ 32
-    unopened_fit l = omega (arith, held_took endpoint held_endpoint s (step_took (endpoint s) n (sym h ∙ e)).1)
 
     pub unopened_more : n < length s → Refused 18 n ≡ opened_of (whole (any_inside k) s)
     unfolding opened_of
@@ -89,16 +88,19 @@ module _ (s : List ℕ) (k : ℕ) (r : Step) (e : r ≡ step_of (endpoint s)) wh
     unfolding opened_of
     unopened_done l = ap opened_of (sym (whole_done (any_inside k) s (unopened k) n any_took l))
 
-  module _ (c q : ℕ) (h : r ≡ Fault c q) where
-    pub unopened_number : c < 2 ^ 32
-    unopened_number = omega (arith, told_bad (λ c. c ≤ 27) endpoint (refuses_endpoint (λ c. c ≤ 27) (omega arith) (omega arith)) s (step_fault (endpoint s) c q (sym h ∙ e)))
+  module _ (x : Refusal) (h : r ≡ Err x) where
+    refused_is : endpoint s ≡ bad x.number x.place
+    refused_is = step_fault (endpoint s) x (sym h ∙ e)
 
-    pub unopened_place : length s ≤ 65536 → q < 2 ^ 32
-    unopened_place l = omega (arith, held_refused endpoint held_endpoint s (step_fault (endpoint s) c q (sym h ∙ e)))
+    pub unopened_number : Fits w32 x.number
+    unopened_number = record { fits = omega (arith, told_bad (λ c. c ≤ 27) endpoint (refuses_endpoint (λ c. c ≤ 27) (omega arith) (omega arith)) s refused_is) }
 
-    pub unopened_bad : Refused c q ≡ opened_of (whole (any_inside k) s)
+    pub unopened_place : length s ≤ 65536 → Fits w32 x.place
+    unopened_place l = record { fits = omega (arith, held_refused endpoint held_endpoint s refused_is) }
+
+    pub unopened_bad : Refused x.number x.place ≡ opened_of (whole (any_inside k) s)
     unfolding opened_of made
-    unopened_bad = ap opened_of (sym (whole_bad (any_inside k) s c q (any_is k s ∙ ap (made (λ _ _. unopened k)) (step_fault (endpoint s) c q (sym h ∙ e)))))
+    unopened_bad = ap opened_of (sym (whole_bad (any_inside k) s x.number x.place (any_is k s ∙ ap (made (λ _ _. unopened k)) refused_is)))
 
 -- ---- opened
 
@@ -114,84 +116,79 @@ unfolding opened_of host_place
 named k a h p t c n e i j u v w q = cc
 
 module _ (s : List ℕ) (k : ℕ) (y : Bytes s) (two : 2 ≤ length s) (short : length s ≤ 65536)
-    (f : Fields) (d : f ≡ address_fields (inside (declared 6 4) (versioned k) (take (length s - 2) (drop 2 s)))) where
+    (f : Result Fields Refusal) (d : f ≡ address_fields (inside (declared 6 4) (versioned k) (take (length s - 2) (drop 2 s)))) where
   rest : f ≡ address_fields (inside (declared 6 4) (versioned k) (drop 2 s))
   rest = rw rest_is at d
 
-  module _ (h p t c m : ℕ) (g : f ≡ Are h p t c m) where
-    found : (e : Address) × (inside (declared 6 4) (versioned k) (drop 2 s) ≡ ok e m) × (Are h p t c m ≡ address_fields (ok e m))
-    found = let F = fields_are _ (inside (declared 6 4) (versioned k) (drop 2 s)) h p t c m (sym g ∙ rest) in (F.0, F.1, sym g ∙ rest ∙ ap address_fields F.1)
+  module _ (x : Fields) (g : f ≡ Ok x) where
+    found : (e : Address) × (inside (declared 6 4) (versioned k) (drop 2 s) ≡ ok e x.bytes) × (x ≡ fields (length e.host, e.port, e.timeout, e.compress) x.bytes)
+    found = fields_are _ (inside (declared 6 4) (versioned k) (drop 2 s)) x (sym g ∙ rest)
 
-    taken : m ≤ length s - 2
+    taken : x.bytes ≤ length s - 2
     taken = omega (arith, held_took (inside (declared 6 4) (versioned k)) (held_enclosed k) (drop 2 s) found.1, length-drop 2 s)
 
-    pub dialled_sum : Fits w64 (2 + m)
+    pub dialled_sum : Fits w64 (2 + x.bytes)
     dialled_sum = record { fits = omega (arith, taken) }
 
-    pub dialled_end : 2 + m < 2 ^ 32
-    dialled_end = omega (arith, taken)
+    narrow : Narrow k x.bytes found.0
+    narrow = enclosed_narrow k (drop 2 s) (bytes_drop 2 s y) found.0 x.bytes found.1
 
-    narrow : Narrow k m found.0
-    narrow = enclosed_narrow k (drop 2 s) (bytes_drop 2 s y) found.0 m found.1
+    host_is : x.host ≡ length found.0.host
+    host_is = ap (λ (v : Fields). v.host) found.2
 
-    host_is : h ≡ length found.0.host
-    unfolding fields_of
-    host_is = go found.0 found.2
-      where
-        go : (e : Address) → Are h p t c m ≡ address_fields (ok e m) → h ≡ length e.host
-        go e q = cc
+    port_is : x.port ≡ found.0.port
+    port_is = ap (λ (v : Fields). v.port) found.2
 
-    rest_are : (p ≡ found.0.port) × (t ≡ found.0.timeout) × (c ≡ found.0.compress)
-    unfolding fields_of
-    rest_are = go found.0 found.2
-      where
-        go : (e : Address) → Are h p t c m ≡ address_fields (ok e m) → (p ≡ e.port) × (t ≡ e.timeout) × (c ≡ e.compress)
-        go e q = (cc, cc, cc)
+    timeout_is : x.timeout ≡ found.0.timeout
+    timeout_is = ap (λ (v : Fields). v.timeout) found.2
 
-    pub host_fit : h < 2 ^ 32
-    host_fit = omega (arith, host_is, narrow.host_short, taken)
+    compress_is : x.compress ≡ found.0.compress
+    compress_is = ap (λ (v : Fields). v.compress) found.2
 
-    pub port_fit : p < 2 ^ 32
-    port_fit = omega (arith, rest_are.0, narrow.port_most)
+    pub host_fit : Fits w32 x.host
+    host_fit = record { fits = omega (arith, host_is, narrow.host_short, taken) }
 
-    pub timeout_fit : t < 2 ^ 32
-    timeout_fit = omega (arith, rest_are.1, narrow.timeout_most)
+    pub port_fit : Fits w32 x.port
+    port_fit = record { fits = omega (arith, port_is, narrow.port_most) }
 
-    pub compress_fit : c < 2 ^ 32
-    compress_fit = omega (arith, rest_are.2, narrow.compress_most)
+    pub timeout_fit : Fits w32 x.timeout
+    timeout_fit = record { fits = omega (arith, timeout_is, narrow.timeout_most) }
 
-    read_is : (skip 2 >>= λ _. address_inside k) s ≡ ok (opened found.0) (2 + m)
+    pub compress_fit : Fits w32 x.compress
+    compress_fit = record { fits = omega (arith, compress_is, narrow.compress_most) }
+
+    read_is : (skip 2 >>= λ _. address_inside k) s ≡ ok (opened found.0) (2 + x.bytes)
     unfolding shift made
     read_is = inside_is k s two ∙ ap (λ (r : Res Address). shift 2 (made (λ e _. opened e) r)) found.1
 
-    pub dialled_more : 2 + m < length s → Refused 18 (2 + m) ≡ opened_of (whole (address_inside k) s)
+    pub dialled_more : 2 + x.bytes < length s → Refused 18 (2 + x.bytes) ≡ opened_of (whole (address_inside k) s)
     unfolding opened_of
-    dialled_more l = ap opened_of (sym (whole_more (address_inside k) s (opened found.0) (2 + m) read_is l))
+    dialled_more l = ap opened_of (sym (whole_more (address_inside k) s (opened found.0) (2 + x.bytes) read_is l))
 
-    pub dialled_is : length s ≤ 2 + m → (a : ℕ) → a ≡ length (size_bytes h) → Is k (8 + a) h p t c ≡ opened_of (whole (address_inside k) s)
+    pub dialled_is : length s ≤ 2 + x.bytes → (a : ℕ) → a ≡ length (size_bytes x.host) → Is k (8 + a) x.host x.port x.timeout x.compress ≡ opened_of (whole (address_inside k) s)
     dialled_is l a q =
-        named k a h p t c (2 + m) found.0 narrow.kind_is host_is rest_are.0 rest_are.1 rest_are.2 q
-        ∙ ap opened_of (sym (whole_done (address_inside k) s (opened found.0) (2 + m) read_is l))
+        named k a x.host x.port x.timeout x.compress (2 + x.bytes) found.0 narrow.kind_is host_is port_is timeout_is compress_is q
+        ∙ ap opened_of (sym (whole_done (address_inside k) s (opened found.0) (2 + x.bytes) read_is l))
 
-  module _ (c q : ℕ) (g : f ≡ Arent c q) where
-    lost : inside (declared 6 4) (versioned k) (drop 2 s) ≡ bad c q
-    lost = fields_arent _ (inside (declared 6 4) (versioned k) (drop 2 s)) c q (sym g ∙ rest)
+  module _ (x : Refusal) (g : f ≡ Err x) where
+    lost : inside (declared 6 4) (versioned k) (drop 2 s) ≡ bad x.number x.place
+    lost = fields_arent _ (inside (declared 6 4) (versioned k) (drop 2 s)) x (sym g ∙ rest)
 
-    missed : q ≤ length s - 2
+    missed : x.place ≤ length s - 2
     missed = omega (arith, held_refused (inside (declared 6 4) (versioned k)) (held_enclosed k) (drop 2 s) lost, length-drop 2 s)
 
-    pub dialled_number : c < 2 ^ 32
-    dialled_number = omega (arith, few_numbers (told_bad OpenNumber (inside (declared 6 4) (versioned k)) (refuses_enclosed k) (drop 2 s) lost))
+    pub dialled_number : Fits w32 x.number
+    dialled_number = record { fits = omega (arith, few_numbers (told_bad OpenNumber (inside (declared 6 4) (versioned k)) (refuses_enclosed k) (drop 2 s) lost)) }
 
-    pub dialled_bad_sum : Fits w64 (2 + q)
+    pub dialled_bad_sum : Fits w64 (2 + x.place)
     dialled_bad_sum = record { fits = omega (arith, missed) }
 
-    pub dialled_place : 2 + q < 2 ^ 32
-    dialled_place = omega (arith, missed)
+    pub dialled_place : Fits w32 (2 + x.place)
+    dialled_place = record { fits = omega (arith, missed) }
 
-    pub dialled_bad : Refused c (2 + q) ≡ opened_of (whole (address_inside k) s)
+    pub dialled_bad : Refused x.number (2 + x.place) ≡ opened_of (whole (address_inside k) s)
     unfolding opened_of shift made
-    dialled_bad = ap opened_of (sym (whole_bad (address_inside k) s c (2 + q) (inside_is k s two ∙ ap (λ (r : Res Address). shift 2 (made (λ e _. opened e) r)) lost)))
+    dialled_bad = ap opened_of (sym (whole_bad (address_inside k) s x.number (2 + x.place) (inside_is k s two ∙ ap (λ (r : Res Address). shift 2 (made (λ e _. opened e) r)) lost)))
 
 -- ---- by the type
 
@@ -242,9 +239,6 @@ module _ (s : List ℕ) (n : ℕ) (e : n ≡ length s) where
   unfolding open_endpoint refused_first first_of opened_of
   open_long h = rw (lt-ltb limit (length s) (omega arith))
 
-  pub open_length : n ≤ 65536 → length s ≤ 65536
-  open_length h = omega arith
-
   pub open_short : n ≤ 65536 → (r : Opened) → r ≡ opened_of (typed s) → r ≡ opened_of (open_endpoint s)
   unfolding open_endpoint refused_first first_of
   open_short h r q = rw (le-ltb limit (length s) (omega arith)) q
@@ -252,25 +246,26 @@ module _ (s : List ℕ) (n : ℕ) (e : n ≡ length s) where
 -- ---- 22 last
 
 module _ (o : Opened) (room : ℕ) where
-  module _ (k a n p t c : ℕ) (e : o ≡ Is k a n p t c) where
+  module _ (n : (c p : ℕ) → o ≡ Refused c p → ⊥) where
     pub within_few : room < 28 → Refused 22 28 ≡ opened_within room o
     unfolding opened_within
-    within_few l = rw (e, lt-leb 28 room l)
+    within_few l = go o refl
+      where
+        go : (x : Opened) → o ≡ x → Refused 22 28 ≡ opened_within room x
+        go (Is k a n p t c) e = rw (lt-leb 28 room l)
+        go (Unopened k) e = rw (lt-leb 28 room l)
+        go (Refused c p) e = absurd (n c p e)
 
-    pub within_is : 28 ≤ room → Is k a n p t c ≡ opened_within room o
+    pub within_given : 28 ≤ room → o ≡ opened_within room o
     unfolding opened_within
-    within_is l = rw (e, le-leb 28 room l)
+    within_given l = go o refl
+      where
+        go : (x : Opened) → o ≡ x → x ≡ opened_within room x
+        go (Is k a n p t c) e = rw (le-leb 28 room l)
+        go (Unopened k) e = rw (le-leb 28 room l)
+        go (Refused c p) e = absurd (n c p e)
 
-  module _ (k : ℕ) (e : o ≡ Unopened k) where
-    pub within_few_unopened : room < 28 → Refused 22 28 ≡ opened_within room o
-    unfolding opened_within
-    within_few_unopened l = rw (e, lt-leb 28 room l)
-
-    pub within_unopened : 28 ≤ room → Unopened k ≡ opened_within room o
-    unfolding opened_within
-    within_unopened l = rw (e, le-leb 28 room l)
-
-  pub within_refused : (c p : ℕ) → o ≡ Refused c p → Refused c p ≡ opened_within room o
+  pub within_refused : (c p : ℕ) → o ≡ Refused c p → o ≡ opened_within room o
   unfolding opened_within
   within_refused c p e = rw e
 
@@ -295,41 +290,53 @@ roomy_within (Refused c p) room = tt
 pub next_put : (at : ℕ) (b c lent u v : List ℕ) → u ≡ put 0 b lent → v ≡ put at c u → at ≡ length b → length b + length c ≤ length lent → v ≡ put 0 (b ++ c) lent
 next_put at b c lent u v eu ev e l = ev ∙ ap (put at c) eu ∙ put_put 0 at b c lent (omega arith) (omega arith)
 
-module _ (lent : List ℕ) (l : 28 ≤ length lent) (o k a n p t c : ℕ) where
-  -- four bytes more
-  more : (at x : ℕ) (b u v : List ℕ) → u ≡ put 0 b lent → v ≡ put at (le_bytes 4 x) u → length b ≡ at → at ≤ 24 → v ≡ put 0 (b ++ le_bytes 4 x) lent
-  more at x b u v eu ev e m = next_put at b (le_bytes 4 x) lent u v eu ev (sym e) (omega (arith, length_le_bytes 4 x))
+ints_append : (xs ys : List ℕ) → int_bytes (xs ++ ys) ≡ int_bytes xs ++ int_bytes ys
+unfolding concat
+ints_append [] ys = refl
+ints_append (x ∷ xs) ys = ap (λ (l : List ℕ). le_bytes 4 x ++ l) (ints_append xs ys) ∙ sym (append_assoc (le_bytes 4 x) (int_bytes xs) (int_bytes ys))
 
-  longer : (at x : ℕ) (b : List ℕ) → length b ≡ at → length (b ++ le_bytes 4 x) ≡ at + 4
-  longer at x b e = omega (arith, length-append b (le_bytes 4 x), length_le_bytes 4 x)
+ints_one : (x : ℕ) → int_bytes (x ∷ []) ≡ le_bytes 4 x
+unfolding concat
+ints_one x = append-nil (le_bytes 4 x)
 
-  pub seven_put : (r u v w x y z : List ℕ) → r ≡ put 0 (le_bytes 4 o) lent → u ≡ put 4 (le_bytes 4 k) r → v ≡ put 8 (le_bytes 4 a) u → w ≡ put 12 (le_bytes 4 n) v
-      → x ≡ put 16 (le_bytes 4 p) w → y ≡ put 20 (le_bytes 4 t) x → z ≡ put 24 (le_bytes 4 c) y → z ≡ seven_bytes o k a n p t c ++ drop 28 lent
-  unfolding seven_bytes
-  seven_put r u v w x y z er eu ev ew ex ey ez =
-      let lr = length_le_bytes 4 o in
-      let lu = longer 4 k (le_bytes 4 o) lr in
-      let lv = longer 8 a (le_bytes 4 o ++ le_bytes 4 k) lu in
-      let lw = longer 12 n (le_bytes 4 o ++ le_bytes 4 k ++ le_bytes 4 a) lv in
-      let lx = longer 16 p (le_bytes 4 o ++ le_bytes 4 k ++ le_bytes 4 a ++ le_bytes 4 n) lw in
-      let ly = longer 20 t (le_bytes 4 o ++ le_bytes 4 k ++ le_bytes 4 a ++ le_bytes 4 n ++ le_bytes 4 p) lx in
-      let lz = longer 24 c (le_bytes 4 o ++ le_bytes 4 k ++ le_bytes 4 a ++ le_bytes 4 n ++ le_bytes 4 p ++ le_bytes 4 t) ly in
-      let fu = more 4 k (le_bytes 4 o) r u er eu lr (omega arith) in
-      let fv = more 8 a (le_bytes 4 o ++ le_bytes 4 k) u v fu ev lu (omega arith) in
-      let fw = more 12 n (le_bytes 4 o ++ le_bytes 4 k ++ le_bytes 4 a) v w fv ew lv (omega arith) in
-      let fx = more 16 p (le_bytes 4 o ++ le_bytes 4 k ++ le_bytes 4 a ++ le_bytes 4 n) w x fw ex lw (omega arith) in
-      let fy = more 20 t (le_bytes 4 o ++ le_bytes 4 k ++ le_bytes 4 a ++ le_bytes 4 n ++ le_bytes 4 p) x y fx ey lx (omega arith) in
-      let fz = more 24 c (le_bytes 4 o ++ le_bytes 4 k ++ le_bytes 4 a ++ le_bytes 4 n ++ le_bytes 4 p ++ le_bytes 4 t) y z fy ez ly (omega arith) in
-      fz ∙ put_front _ lent (omega (arith, lz)) ∙ ap (λ (i : ℕ). seven_bytes o k a n p t c ++ drop i lent) lz
+ints_length : (xs : List ℕ) → length (int_bytes xs) ≡ 4 * length xs
+unfolding concat
+ints_length [] = refl
+ints_length (x ∷ xs) = omega (arith, length-append (le_bytes 4 x) (int_bytes xs), length_le_bytes 4 x, ints_length xs)
+
+-- numbers put one by one
+pub ints_begin : (ns lent : List ℕ) → lent ≡ put 0 (int_bytes (take 0 ns)) lent
+unfolding concat
+ints_begin ns lent = sym (put_none 0 lent)
+
+module _ (ns lent : List ℕ) (l : 4 * length ns ≤ length lent) (i : ℕ) (out : List ℕ) (e : out ≡ put 0 (int_bytes (take i ns)) lent) where
+  pub ints_turn : i < length ns → (v : List ℕ) → v ≡ put (4 * i) (le_bytes 4 (get_or ns i 0)) out → v ≡ put 0 (int_bytes (take (i + 1) ns)) lent
+  ints_turn h v ev =
+      let x = get_or ns i 0 in
+      let n : length (take i ns) ≡ i = length-take-le i ns (omega arith) in
+      let s : i + 1 ≡ suc i = omega arith in
+      let all : int_bytes (take (i + 1) ns) ≡ int_bytes (take i ns) ++ le_bytes 4 x =
+      ap (λ (k : ℕ). int_bytes (take k ns)) s ∙ ap int_bytes (take-suc ns i 0 h) ∙ ints_append (take i ns) (x ∷ []) ∙ ap (λ (l : List ℕ). int_bytes (take i ns) ++ l) (ints_one x) in
+      next_put (4 * i) (int_bytes (take i ns)) (le_bytes 4 x) lent out v e ev (omega (arith, ints_length (take i ns), n)) (omega (arith, ints_length (take i ns), n, length_le_bytes 4 x))
+      ∙ ap (λ (b : List ℕ). put 0 b lent) (sym all)
+
+  pub ints_end : length ns ≤ i → out ≡ int_bytes ns ++ drop (4 * length ns) lent
+  ints_end h =
+      e ∙ ap (λ (b : List ℕ). put 0 (int_bytes b) lent) (take_all i ns h) ∙ put_front (int_bytes ns) lent (omega (arith, ints_length ns))
+      ∙ ap (λ (k : ℕ). int_bytes ns ++ drop k lent) (ints_length ns)
+
+seven_is : (o k a n p t c : ℕ) → int_bytes (o ∷ k ∷ a ∷ n ∷ p ∷ t ∷ c ∷ []) ≡ seven_bytes o k a n p t c
+unfolding concat seven_bytes
+seven_is o k a n p t c = simp (append_assoc, append-nil)
 
 module _ (r : Opened) (lent x : List ℕ) where
-  pub put_is : (k a n p t c : ℕ) → r ≡ Is k a n p t c → x ≡ seven_bytes 1 k a n p t c ++ drop 28 lent → x ≡ with_opened r lent
+  pub put_is : (k a n p t c : ℕ) → r ≡ Is k a n p t c → x ≡ int_bytes (1 ∷ k ∷ a ∷ n ∷ p ∷ t ∷ c ∷ []) ++ drop 28 lent → x ≡ with_opened r lent
   unfolding with_opened
-  put_is k a n p t c e q = rw e q
+  put_is k a n p t c e q = rw (e, ← seven_is 1 k a n p t c) q
 
-  pub put_unopened : (k : ℕ) → r ≡ Unopened k → x ≡ seven_bytes 0 k 0 0 0 0 0 ++ drop 28 lent → x ≡ with_opened r lent
+  pub put_unopened : (k : ℕ) → r ≡ Unopened k → x ≡ int_bytes (0 ∷ k ∷ 0 ∷ 0 ∷ 0 ∷ 0 ∷ 0 ∷ []) ++ drop 28 lent → x ≡ with_opened r lent
   unfolding with_opened
-  put_unopened k e q = rw e q
+  put_unopened k e q = rw (e, ← seven_is 0 k 0 0 0 0 0) q
 
 pub put_refused : (r : Opened) (lent : List ℕ) (c p : ℕ) → r ≡ Refused c p → lent ≡ with_opened r lent
 unfolding with_opened
@@ -346,12 +353,6 @@ module _ (r : Opened) (room : ℕ) (w : Roomy r room) where
 
 -- ---- an answer handed on
 
-pub within_same : (s : List ℕ) (room : ℕ) (o r : Opened) → o ≡ opened_of (open_endpoint s) → r ≡ opened_within room o → r ≡ opened_within room (opened_of (open_endpoint s))
-within_same s room o r e q = q ∙ ap (opened_within room) e
-
 module _ (s : List ℕ) (lent : List ℕ) (r : Opened) (e : r ≡ opened_within (length lent) (opened_of (open_endpoint s))) where
   pub roomy_same : Roomy r (length lent)
   roomy_same = subst (λ (o : Opened). Roomy o (length lent)) (sym e) (roomy_within (opened_of (open_endpoint s)) (length lent))
-
-  pub put_same : (x : List ℕ) → x ≡ with_opened r lent → x ≡ with_opened (opened_within (length lent) (opened_of (open_endpoint s))) lent
-  put_same x q = q ∙ ap (λ (o : Opened). with_opened o lent) e

@@ -64,7 +64,7 @@ held_encapsulated k =
     held_pick (opens k) (mapc (λ e _. opened e) (inside (declared 6 4) (versioned k))) (mapc (λ _ _. unopened k) (declared 6 4))
     (held_mapc (inside (declared 6 4) (versioned k)) (held_enclosed k) (λ e _. opened e)) (held_mapc (declared 6 4) (held_declared 6 4) (λ _ _. unopened k))
 
-held_ended : {A : Type 0} (a : A) → Held (ended a)
+pub held_ended : {A : Type 0} (a : A) → Held (ended a)
 unfolding ended
 held_ended a [] = omega arith
 held_ended a (x ∷ xs) = omega arith

@@ -26,48 +26,50 @@ use Rattle.wire.specs.Put.{put}
 use Rattle.wire.specs.PutLaws.{put_put, put_front, put_length}
 use Rattle.endpoint.specs.Endpoint.{opens, timed, no_port, timeout_bytes, endpoint_bytes, address_of, argument_form, endpoint_writing}
 use Rattle.endpoint.proofs.EndpointLaws.{opens_step, opens_not, is_timed, written_ok, bounded_ok}
-use Rattle.endpoint.specs.Layout.{bit, needed_length, head_bytes, tail_bytes}
+use Rattle.endpoint.specs.Layout.{bit, judged, needed_length, head_bytes, tail_bytes}
 use Rattle.endpoint.proofs.LayoutLaws.{length_head, needed_is, layout}
 use Rattle.endpoint.proofs.Openings.{not_dialled, one_of, next_put}
+use Rattle.std.specs.Int.{from_bool}
+use Rattle.std.specs.Prelude.{Result, Ok, Err}
 
 -- ---- the arguments
 
 module _ (k : ℕ) (h : List ℕ) (p : ℕ) where
-  pub judge_zero : k ≡ 0 → 2 ≡ argument_form k h p
-  unfolding argument_form first_of opens
+  pub judge_zero : k ≡ 0 → Err 2 ≡ judged (argument_form k h p)
+  unfolding judged argument_form first_of opens
   judge_zero z = rw z
 
-  pub judge_high : 3 < k → 2 ≡ argument_form k h p
-  unfolding argument_form first_of
+  pub judge_high : 3 < k → Err 2 ≡ judged (argument_form k h p)
+  unfolding judged argument_form first_of
   judge_high l = rw (opens_not k (not_dialled k l))
 
   module _ (z : k ≡ 0 → ⊥) (l : k ≤ 3) where
     opened_type : opens k ≡ true
     opened_type = opens_step (one_of k z l)
 
-    pub judge_long : 65536 < length h → 3 ≡ argument_form k h p
-    unfolding argument_form first_of
+    pub judge_long : 65536 < length h → Err 3 ≡ judged (argument_form k h p)
+    unfolding judged argument_form first_of
     judge_long m = rw (opened_type, lt-ltb limit (length h) m)
 
     module _ (m : length h ≤ 65536) (r : Bool) (e : r ≡ is_utf8 (take (length h - 0) (drop 0 h))) where
       text_is : is_utf8 h ≡ r
       text_is = let z : length h ≡ length h - 0 = omega arith in ap is_utf8 (sym (take-length h)) ∙ ap (λ (n : ℕ). is_utf8 (take n h)) z ∙ sym e
 
-      pub judge_text : r ≡ false → 24 ≡ argument_form k h p
-      unfolding argument_form first_of
+      pub judge_text : r ≡ false → Err 24 ≡ judged (argument_form k h p)
+      unfolding judged argument_form first_of
       judge_text q = rw (opened_type, le-ltb limit (length h) m, text_is, q)
 
       module _ (q : r ≡ true) where
-        pub judge_no_port : p ≡ 0 → 27 ≡ argument_form k h p
-        unfolding argument_form first_of no_port
+        pub judge_no_port : p ≡ 0 → Err 27 ≡ judged (argument_form k h p)
+        unfolding judged argument_form first_of no_port
         judge_no_port o = rw (opened_type, le-ltb limit (length h) m, text_is, q, o)
 
-        pub judge_high_port : (p ≡ 0 → ⊥) → 65535 < p → 27 ≡ argument_form k h p
-        unfolding argument_form first_of no_port
+        pub judge_high_port : (p ≡ 0 → ⊥) → 65535 < p → Err 27 ≡ judged (argument_form k h p)
+        unfolding judged argument_form first_of no_port
         judge_high_port o w = rw (opened_type, le-ltb limit (length h) m, text_is, q, ne_eqb p 0 o, lt-ltb 65535 p w)
 
-        pub judge_fine : (p ≡ 0 → ⊥) → p ≤ 65535 → 0 ≡ argument_form k h p
-        unfolding argument_form first_of no_port
+        pub judge_fine : (p ≡ 0 → ⊥) → p ≤ 65535 → Ok tt ≡ judged (argument_form k h p)
+        unfolding judged argument_form first_of no_port
         judge_fine o w = rw (opened_type, le-ltb limit (length h) m, text_is, q, ne_eqb p 0 o, le-ltb 65535 p w)
 
 -- ---- the length
@@ -83,27 +85,39 @@ module _ (k n a : ℕ) (e : a ≡ length (size_bytes n)) where
 
 -- ---- the answer
 
-pub short_host : (k : ℕ) (h : List ℕ) (p c : ℕ) → c ≡ argument_form k h p → c ≡ 0 → length h ≤ 65536
+judged_fine : (f : ℕ) → Ok tt ≡ judged f → f ≡ 0
+unfolding judged
+judged_fine zero e = refl
+judged_fine (suc f) e = let z : ◌≡◌ {A = ℕ} 0 1 = cc in absurd (omega arith)
+
+judged_wrong : (f c : ℕ) → Err c ≡ judged f → (c ≡ f) × (f ≡ 0 → ⊥)
+unfolding judged
+judged_wrong zero c e = let z : ◌≡◌ {A = ℕ} 0 1 = cc in absurd (omega arith)
+judged_wrong (suc f) c e = (cc, λ q. omega arith)
+
+pub short_host : (k : ℕ) (h : List ℕ) (p : ℕ) (r : Result (Unit {0}) ℕ) → r ≡ judged (argument_form k h p) → (u : Unit {0}) → r ≡ Ok u → length h ≤ 65536
 unfolding argument_form
-short_host k h p c e z = ltb-false limit (length h) (first_of_ok 2 _ _ (first_of_ok 1 _ _ (sym e ∙ z)).1).0
+short_host k h p r e u z = ltb-false limit (length h) (first_of_ok 2 _ _ (first_of_ok 1 _ _ (judged_fine (argument_form k h p) (sym z ∙ e))).1).0
 
 stopped : (f : ℕ) (o : Out (List ℕ)) → (f ≡ 0 → ⊥) → next (stopped_first f) (λ _. o) ≡ stop f 0
 unfolding next stopped_first
 stopped zero o n = absurd (n refl)
 stopped (suc f) o n = refl
 
-module _ (k : ℕ) (h : List ℕ) (p t c room : ℕ) (f : ℕ) (e : f ≡ argument_form k h p) where
-  pub written_refused : (f ≡ 0 → ⊥) → Rejected f 0 ≡ writing_of (endpoint_writing k h p t c room)
+module _ (k : ℕ) (h : List ℕ) (p t c room : ℕ) (r : Result (Unit {0}) ℕ) (e : r ≡ judged (argument_form k h p)) where
+  pub written_refused : (f : ℕ) → r ≡ Err f → Rejected f 0 ≡ writing_of (endpoint_writing k h p t c room)
   unfolding endpoint_writing writing_of
-  written_refused n = rw (← e, stopped f (bounded room (endpoint_bytes (address_of k h p t c))) n)
+  written_refused f q =
+      let w = judged_wrong (argument_form k h p) f (sym q ∙ e) in
+      rw (stopped (argument_form k h p) (bounded room (endpoint_bytes (address_of k h p t c))) w.1) (ap (λ (i : ℕ). Rejected i 0) w.0)
 
-  module _ (z : f ≡ 0) (n : ℕ) (q : n ≡ needed_length k (length h)) where
+  module _ (u : Unit {0}) (z : r ≡ Ok u) (n : ℕ) (q : n ≡ needed_length k (length h)) where
     length_is : length (endpoint_bytes (address_of k h p t c)) ≡ n
     length_is = needed_is k h p t c ∙ sym q
 
     then : endpoint_writing k h p t c room ≡ bounded room (endpoint_bytes (address_of k h p t c))
     unfolding endpoint_writing next stopped_first
-    then = rw (← e, z)
+    then = rw (judged_fine (argument_form k h p) (sym z ∙ e))
 
     pub written_limit : 65536 < n → Rejected 22 n ≡ writing_of (endpoint_writing k h p t c room)
     unfolding bounded writing_of
@@ -144,7 +158,7 @@ head_put k n h lent r u v w x a l ea er eu ev ew ex =
 after_put : (at p : ℕ) (b c lent u v : List ℕ) → u ≡ put at b lent → v ≡ put p c u → p ≡ at + length b → at + (length b + length c) ≤ length lent → v ≡ put at (b ++ c) lent
 after_put at p b c lent u v eu ev e l = ev ∙ ap (put p c) eu ∙ put_put at p b c lent e (omega arith)
 
-one_byte : (b : Bool) → le_bytes 1 (bit b) ≡ bit b ∷ []
+one_byte : (b : Bool) → le_bytes 1 (from_bool b) ≡ bit b ∷ []
 unfolding le_bytes
 one_byte true = refl
 one_byte false = refl
@@ -161,7 +175,7 @@ is_udp : (k : ℕ) → k ≡ 3 → timed k ≡ false
 unfolding timed
 is_udp k z = rw z
 
-module _ (k p t at : ℕ) (b : Bool) (lent u : List ℕ) (l : at + length (tail_bytes k p t (bit b)) ≤ length lent) (eu : u ≡ put at (le_bytes 4 p) lent) (c : ℕ) (ec : c ≡ bit b) where
+module _ (k p t at : ℕ) (b : Bool) (lent u : List ℕ) (l : at + length (tail_bytes k p t (bit b)) ≤ length lent) (eu : u ≡ put at (le_bytes 4 p) lent) (c : ℕ) (ec : c ≡ from_bool b) where
   pub tail_put_udp : k ≡ 3 → (v : List ℕ) → v ≡ put (at + 4) (le_bytes 1 c) u → v ≡ put at (tail_bytes k p t (bit b)) lent
   tail_put_udp z v ev =
       let all = tail_udp k p t (bit b) (is_udp k z) in
@@ -193,9 +207,6 @@ written_only (stop c p) n e = let z : ◌≡◌ {A = ℕ} 0 1 = cc in absurd (om
 
 module _ (k : ℕ) (h : List ℕ) (p t c : ℕ) (lent : List ℕ) (w : Writing) (e : w ≡ writing_of (endpoint_writing k h p t c (length lent))) where
   module _ (n : ℕ) (q : w ≡ Written n) where
-    pub write_says : Written n ≡ writing_of (endpoint_writing k h p t c (length lent))
-    write_says = sym q ∙ e
-
     result : (endpoint_writing k h p t c (length lent) ≡ out (endpoint_bytes (address_of k h p t c))) × (n ≡ length (endpoint_bytes (address_of k h p t c))) × (n ≤ length lent)
     unfolding endpoint_writing
     result = go (written_only (endpoint_writing k h p t c (length lent)) n (sym q ∙ e))
@@ -229,9 +240,6 @@ module _ (k : ℕ) (h : List ℕ) (p t c : ℕ) (lent : List ℕ) (w : Writing) 
           next_put (8 + a + length h) (head_bytes k n h) (tail_bytes k p t c) lent x y ex ey (omega (arith, length_head k n h, ea)) (omega (arith, parts, result.2))
           ∙ ap (λ (z : List ℕ). put 0 z lent) (sym all) ∙ put_front (endpoint_bytes (address_of k h p t c)) lent (omega (arith, result.1, result.2))
           ∙ sym (ap (λ (o : Out (List ℕ)). output o lent) result.0)
-
-  pub refused_says : (f q : ℕ) → w ≡ Rejected f q → Rejected f q ≡ writing_of (endpoint_writing k h p t c (length lent))
-  refused_says f q i = sym i ∙ e
 
   pub write_refused : (f q : ℕ) → w ≡ Rejected f q → lent ≡ output (endpoint_writing k h p t c (length lent)) lent
   unfolding output writing_of

@@ -4,147 +4,168 @@ ghost use Rattle.encoding.specs.Result.{inside};
 ghost use Rattle.encoding.specs.Number.{declared};
 ghost use Rattle.wire.specs.Steps.{sized_of};
 ghost use Rattle.endpoint.specs.Endpoint.{port, timeout, flag, address, versioned};
-ghost use Rattle.endpoint.specs.Parts.{settings, tail, settings_fields, tail_fields, address_fields};
+ghost use Rattle.endpoint.specs.Parts.{settings, tail, settings_fields, tail_fields, address_fields, fields_later, FieldsFit};
 
-use wire::{Sized, Step};
+use wire::{Counted, Refusal};
 
-// The host's length, port, timeout, compress and the bytes taken; or a refusal's number and place.
+// The host's length, port, timeout, compress and the bytes taken.
 #[derive(Clone, Copy)]
-pub enum Fields {
-    Are(usize, usize, usize, usize, usize),
-    Arent(usize, usize),
+pub struct Fields {
+    pub host: usize,
+    pub port: usize,
+    pub timeout: usize,
+    pub compress: usize,
+    pub bytes: usize,
+}
+
+// What a reader of fields answers that begins n bytes later: the bytes taken, counted with those n, or its refusal.
+fn later(n: usize, answer: Result<Fields, Refusal>) -> Result<Fields, Refusal>
+    requires { FieldsFit n answer }
+    ensures { result ≡ fields_later n answer }
+{
+    match answer {
+        Ok(fields) => Ok(Fields {
+            bytes: n + fields.bytes,
+            ..fields
+        }),
+        Err(refusal) => Err(refusal.behind(n)),
+    }
 }
 
 // A port: an int, 1 to 65,535.
-fn port(s: &[u8]) -> Sized
+fn port(s: &[u8]) -> Result<Counted, Refusal>
     ensures { result ≡ sized_of (port s.now) }
 {
     if s.len() < 4 {
-        return Sized::Isnt(4, 0);
+        return Err(Refusal {
+            number: 4,
+            place: 0,
+        });
     }
-    let p = wire::int_at(s, 0);
-    if p == 0 {
-        return Sized::Isnt(27, 0);
+    let port = wire::int_at(s, 0);
+    if port == 0 || 65535 < port {
+        return Err(Refusal {
+            number: 27,
+            place: 0,
+        });
     }
-    if 65535 < p {
-        return Sized::Isnt(27, 0);
-    }
-    Sized::Is(p, 4)
+    Ok(Counted {
+        number: port,
+        bytes: 4,
+    })
 }
 
 // A timeout: any int; UDP has none, and its answer is 0.
-fn timeout(s: &[u8], kind: usize) -> Sized
+fn timeout(s: &[u8], kind: usize) -> Result<Counted, Refusal>
     ensures { result ≡ sized_of (timeout kind s.now) }
 {
     if kind == 3 {
-        return Sized::Is(0, 0);
+        return Ok(Counted {
+            number: 0,
+            bytes: 0,
+        });
     }
     if s.len() < 4 {
-        return Sized::Isnt(4, 0);
+        return Err(Refusal {
+            number: 4,
+            place: 0,
+        });
     }
-    Sized::Is(wire::int_at(s, 0), 4)
+    Ok(Counted {
+        number: wire::int_at(s, 0),
+        bytes: 4,
+    })
 }
 
 // Compress: a bool.
-fn flag(s: &[u8]) -> Sized
+fn flag(s: &[u8]) -> Result<Counted, Refusal>
     ensures { result ≡ sized_of (flag s.now) }
 {
     if s.len() < 1 {
-        return Sized::Isnt(4, 0);
+        return Err(Refusal {
+            number: 4,
+            place: 0,
+        });
     }
-    let c = wire::byte_at(s, 0);
-    if 2 <= c {
-        return Sized::Isnt(8, 0);
+    let flag = wire::byte_at(s, 0);
+    if 2 <= flag {
+        return Err(Refusal {
+            number: 8,
+            place: 0,
+        });
     }
-    Sized::Is(c, 1)
+    Ok(Counted {
+        number: flag,
+        bytes: 1,
+    })
 }
 
-// Timeout and compress, after a host of n bytes and the port p.
-fn settings(s: &[u8], kind: usize, n: usize, p: usize) -> Fields
-    ensures { result ≡ settings_fields n p (settings kind s.now) }
+// Timeout and compress, after a host of so many bytes and a port.
+fn settings(s: &[u8], kind: usize, host: usize, port: usize) -> Result<Fields, Refusal>
+    ensures { result ≡ settings_fields host port (settings kind s.now) }
 {
-    let z = timeout(s, kind);
-    match z {
-        Sized::Is(t, k) => {
-            let y = flag(&s[k..]);
-            match y {
-                Sized::Is(c, j) => Fields::Are(n, p, t, c, k + j),
-                Sized::Isnt(e, q) => Fields::Arent(e, k + q),
-            }
-        }
-        Sized::Isnt(e, q) => Fields::Arent(e, q),
+    let timeout = timeout(s, kind)?;
+    match flag(&s[timeout.bytes..]) {
+        Ok(compress) => Ok(Fields {
+            host,
+            port,
+            timeout: timeout.number,
+            compress: compress.number,
+            bytes: timeout.bytes + compress.bytes,
+        }),
+        Err(refusal) => Err(refusal.behind(timeout.bytes)),
     }
 }
 
-// Port, timeout and compress, after a host of n bytes.
-fn tail(s: &[u8], kind: usize, n: usize) -> Fields
-    ensures { result ≡ tail_fields n (tail kind s.now) }
+// Port, timeout and compress, after a host of so many bytes.
+fn tail(s: &[u8], kind: usize, host: usize) -> Result<Fields, Refusal>
+    ensures { result ≡ tail_fields host (tail kind s.now) }
 {
-    let z = port(s);
-    match z {
-        Sized::Is(p, k) => {
-            let f = settings(&s[k..], kind, n, p);
-            match f {
-                Fields::Are(h, a, t, c, m) => Fields::Are(h, a, t, c, k + m),
-                Fields::Arent(e, q) => Fields::Arent(e, k + q),
-            }
-        }
-        Sized::Isnt(e, q) => Fields::Arent(e, q),
-    }
+    let port = port(s)?;
+    later(
+        port.bytes,
+        settings(&s[port.bytes..], kind, host, port.number),
+    )
 }
 
 // All fields: the host, then the others.
-fn address(s: &[u8], kind: usize) -> Fields
+fn address(s: &[u8], kind: usize) -> Result<Fields, Refusal>
     ensures { result ≡ address_fields (address kind s.now) }
 {
-    let z = text::read_string(s);
-    match z {
-        Sized::Is(n, k) => {
-            let f = tail(&s[k..], kind, n);
-            match f {
-                Fields::Are(h, p, t, c, m) => Fields::Are(h, p, t, c, k + m),
-                Fields::Arent(e, q) => Fields::Arent(e, k + q),
-            }
-        }
-        Sized::Isnt(e, q) => Fields::Arent(e, q),
-    }
+    let host = text::read_string(s)?;
+    later(host.bytes, tail(&s[host.bytes..], kind, host.number))
 }
 
 // Version 1.1, then the fields.
-fn versioned(s: &[u8], kind: usize) -> Fields
+fn versioned(s: &[u8], kind: usize) -> Result<Fields, Refusal>
     ensures { result ≡ address_fields (versioned kind s.now) }
 {
     if s.len() < 2 {
-        return Fields::Arent(4, 0);
+        return Err(Refusal {
+            number: 4,
+            place: 0,
+        });
     }
     if wire::short_at(s, 0) != 257 {
-        return Fields::Arent(6, 0);
+        return Err(Refusal {
+            number: 6,
+            place: 0,
+        });
     }
-    let f = address(&s[2..], kind);
-    match f {
-        Fields::Are(h, p, t, c, m) => Fields::Are(h, p, t, c, 2 + m),
-        Fields::Arent(e, q) => Fields::Arent(e, 2 + q),
-    }
+    later(2, address(&s[2..], kind))
 }
 
 // An encapsulation that the version and the fields use up.
-pub fn enclosed(s: &[u8], kind: usize) -> Fields
+pub fn enclosed(s: &[u8], kind: usize) -> Result<Fields, Refusal>
     ensures { result ≡ address_fields (inside (declared 6 4) (versioned kind) s.now) }
 {
-    let step = wire::read_declared(s, 6, 4);
-    match step {
-        Step::Took(n) => {
-            let f = versioned(&s[4..n], kind);
-            match f {
-                Fields::Are(h, p, t, c, m) => {
-                    if m == n - 4 {
-                        return Fields::Are(h, p, t, c, n);
-                    }
-                    Fields::Arent(11, 0)
-                }
-                Fields::Arent(e, q) => Fields::Arent(e, 4 + q),
-            }
-        }
-        Step::Fault(e, q) => Fields::Arent(e, q),
+    let n = wire::read_declared(s, 6, 4)?;
+    let fields = later(4, versioned(&s[4..n], kind))?;
+    if fields.bytes != n {
+        return Err(Refusal {
+            number: 11,
+            place: 0,
+        });
     }
+    Ok(fields)
 }

@@ -1,20 +1,19 @@
-// One endpoint of a proxy, opened and written (document 02, M-106). No public call asks anything of its input.
+// One endpoint of a proxy, opened and written (document 02, M-106). No public call asks anything of its input; put_numbers alone asks for room.
 // fields.rt reads what an endpoint of TCP, SSL and UDP holds, writes.rt puts it.
 #![tactic(auto)]
 
 pub mod fields;
 pub mod writes;
 
-ghost use Rattle.std.specs.Prelude.{◌≡◌, ◌≤◌, ◌<◌, ◌++◌, length, drop};
+ghost use Rattle.std.specs.Prelude.{◌≡◌, ◌*◌, ◌≤◌, ◌<◌, ◌++◌, length, drop};
 ghost use Rattle.encoding.specs.Number.{Bytes};
-ghost use Rattle.endpoint.specs.Endpoint.{open_endpoint, typed, opened_of, seven_bytes, opened_within, with_opened};
-ghost use Rattle.endpoint.specs.Parts.{whole, any_inside, address_inside, Roomy};
+ghost use Rattle.endpoint.specs.Endpoint.{open_endpoint, typed, opened_of, opened_within, with_opened};
+ghost use Rattle.endpoint.specs.Parts.{int_bytes, whole, any_inside, address_inside, Roomy};
 
-use fields::Fields;
-use wire::Step;
 pub use writes::{endpoint_written, write_endpoint};
 
 // Type, place and length of the host, port, timeout, compress; the type of an endpoint that is not opened; or a refusal's number and place.
+// Stays: no Result and no enum of types, since opened_numbers fixes these cases and any short may be a type.
 #[derive(Clone, Copy)]
 pub enum Opened {
     Is(u32, u32, u32, u32, u32, u32),
@@ -28,15 +27,14 @@ fn unopened(s: &[u8], kind: usize) -> Opened
     requires kind_bound { kind < 65536 }
     ensures { result ≡ opened_of (whole (any_inside kind) s.now) }
 {
-    let step = proxy::endpoint(s);
-    match step {
-        Step::Took(n) => {
+    match proxy::endpoint(s) {
+        Ok(n) => {
             if n < s.len() {
                 return Opened::Refused(18, n as u32);
             }
             Opened::Unopened(kind as u32)
         }
-        Step::Fault(c, p) => Opened::Refused(c as u32, p as u32),
+        Err(refusal) => Opened::Refused(refusal.number as u32, refusal.place as u32),
     }
 }
 
@@ -48,23 +46,23 @@ fn dialled(s: &[u8], kind: usize) -> Opened
     requires kind_bound { kind < 65536 }
     ensures { result ≡ opened_of (whole (address_inside kind) s.now) }
 {
-    let f = fields::enclosed(&s[2..], kind);
-    match f {
-        Fields::Are(h, p, t, c, m) => {
-            if 2 + m < s.len() {
-                return Opened::Refused(18, (2 + m) as u32);
+    match fields::enclosed(&s[2..], kind) {
+        Ok(fields) => {
+            let end = 2 + fields.bytes;
+            if end < s.len() {
+                return Opened::Refused(18, end as u32);
             }
-            let at = 8 + wire::size_len(h);
+            let at = 8 + wire::size_len(fields.host);
             Opened::Is(
                 kind as u32,
                 at as u32,
-                h as u32,
-                p as u32,
-                t as u32,
-                c as u32,
+                fields.host as u32,
+                fields.port as u32,
+                fields.timeout as u32,
+                fields.compress as u32,
             )
         }
-        Fields::Arent(c, q) => Opened::Refused(c as u32, (2 + q) as u32),
+        Err(refusal) => Opened::Refused(refusal.number as u32, (2 + refusal.place) as u32),
     }
 }
 
@@ -78,10 +76,7 @@ fn typed(s: &[u8]) -> Opened
         return Opened::Refused(4, 0);
     }
     let kind = wire::short_at(s, 0);
-    if kind == 0 {
-        return unopened(s, kind);
-    }
-    if 3 < kind {
+    if kind == 0 || 3 < kind {
         return unopened(s, kind);
     }
     dialled(s, kind)
@@ -103,19 +98,14 @@ fn within(o: Opened, room: usize) -> Opened
     ensures { result ≡ opened_within room o }
 {
     match o {
-        Opened::Is(k, a, n, p, t, c) => {
+        Opened::Refused(_, _) => o,
+        _ => {
             if room < 28 {
-                return Opened::Refused(22, 28);
+                Opened::Refused(22, 28)
+            } else {
+                o
             }
-            Opened::Is(k, a, n, p, t, c)
         }
-        Opened::Unopened(k) => {
-            if room < 28 {
-                return Opened::Refused(22, 28);
-            }
-            Opened::Unopened(k)
-        }
-        Opened::Refused(c, p) => Opened::Refused(c, p),
     }
 }
 
@@ -127,27 +117,14 @@ pub fn answer(endpoint: &[u8], room: usize) -> Opened
     within(open(endpoint), room)
 }
 
-// Puts seven numbers at the start of the lent bytes.
-fn put_seven(
-    numbers: &mut [u8],
-    opened: usize,
-    kind: usize,
-    at: usize,
-    len: usize,
-    port: usize,
-    timeout: usize,
-    compress: usize,
-)
-    requires { 28 ≤ length numbers.old }
-    ensures { numbers.new ≡ seven_bytes opened kind at len port timeout compress ++ drop 28 numbers.old }
+// Puts numbers, 32 bits each, one after another at the start of the lent bytes.
+pub fn put_numbers(lent: &mut [u8], numbers: &[usize])
+    requires { 4 * length numbers.now ≤ length lent.old }
+    ensures { lent.new ≡ int_bytes numbers.now ++ drop (4 * length numbers.now) lent.old }
 {
-    wire::put_number(numbers, 0, 4, opened);
-    wire::put_number(numbers, 4, 4, kind);
-    wire::put_number(numbers, 8, 4, at);
-    wire::put_number(numbers, 12, 4, len);
-    wire::put_number(numbers, 16, 4, port);
-    wire::put_number(numbers, 20, 4, timeout);
-    wire::put_number(numbers, 24, 4, compress);
+    for i in 0..numbers.len() {
+        wire::put_number(lent, 4 * i, 4, numbers[i]);
+    }
 }
 
 // Puts the seven numbers of an answer at the start of the lent bytes; of a refusal none.
@@ -157,14 +134,17 @@ fn put_opened(o: Opened, numbers: &mut [u8])
 {
     match o {
         Opened::Is(k, a, n, p, t, c) => {
-            put_seven(
-                numbers, 1, k as usize, a as usize, n as usize, p as usize, t as usize, c as usize,
+            put_numbers(
+                numbers,
+                &[
+                    1, k as usize, a as usize, n as usize, p as usize, t as usize, c as usize,
+                ],
             );
         }
         Opened::Unopened(k) => {
-            put_seven(numbers, 0, k as usize, 0, 0, 0, 0, 0);
+            put_numbers(numbers, &[0, k as usize, 0, 0, 0, 0, 0]);
         }
-        Opened::Refused(c, p) => {}
+        Opened::Refused(_, _) => {}
     }
 }
 

@@ -3,33 +3,27 @@ ghost use Rattle.std.specs.Prelude.{◌≡◌, ◌+◌, ◌≤◌, ◌<◌, leng
 ghost use Rattle.encoding.specs.Write.{output, writing_of};
 ghost use Rattle.wire.specs.Put.{put};
 ghost use Rattle.endpoint.specs.Endpoint.{argument_form, endpoint_writing};
-ghost use Rattle.endpoint.specs.Layout.{bit, needed_length, head_bytes, tail_bytes};
+ghost use Rattle.endpoint.specs.Layout.{bit, judged, needed_length, head_bytes, tail_bytes};
 
 use encoding::Writing;
 
-// The first of 2, 3, 24 and 27 that applies to the arguments; 0 if none does.
-fn judge(kind: usize, host: &[u8], port: usize) -> usize
-    ensures { (result ≡ argument_form kind host.now port) × (result < 28) }
+// The first of 2, 3, 24 and 27 that applies to the arguments.
+fn judge(kind: usize, host: &[u8], port: usize) -> Result<(), u32>
+    ensures { result ≡ judged (argument_form kind host.now port) }
 {
-    if kind == 0 {
-        return 2;
-    }
-    if 3 < kind {
-        return 2;
+    if kind == 0 || 3 < kind {
+        return Err(2);
     }
     if 65536 < host.len() {
-        return 3;
+        return Err(3);
     }
-    if text::is_utf8(host, 0, host.len()) {
-        if port == 0 {
-            return 27;
-        }
-        if 65535 < port {
-            return 27;
-        }
-        return 0;
+    if !text::is_utf8(host, 0, host.len()) {
+        return Err(24);
     }
-    24
+    if port == 0 || 65535 < port {
+        return Err(27);
+    }
+    Ok(())
 }
 
 // How many bytes the endpoint takes that has a host of n bytes.
@@ -55,15 +49,11 @@ pub fn endpoint_written(
 ) -> Writing
     ensures { result ≡ writing_of (endpoint_writing kind host.now port timeout (bit compress) room) }
 {
-    let c = judge(kind as usize, host, port as usize);
-    if c != 0 {
-        return Writing::Rejected(c as u32, 0);
+    if let Err(number) = judge(kind as usize, host, port as usize) {
+        return Writing::Rejected(number, 0);
     }
     let n = needed(kind as usize, host.len());
-    if 65536 < n {
-        return Writing::Rejected(22, n as u32);
-    }
-    if room < n {
+    if 65536 < n || room < n {
         return Writing::Rejected(22, n as u32);
     }
     Writing::Written(n as u32)
@@ -82,24 +72,18 @@ fn put_head(out: &mut [u8], kind: usize, n: usize, host: &[u8])
     wire::put_bytes(out, 8 + wire::size_len(host.len()), host);
 }
 
-// A bool as a byte.
-fn bit(b: bool) -> usize
-    ensures { result ≡ bit b }
-{
-    if b { 1 } else { 0 }
-}
-
 // Puts port, timeout and compress from a place on; UDP has no timeout.
 fn put_tail(out: &mut [u8], at: usize, kind: usize, port: usize, timeout: usize, compress: bool)
     requires { at + length (tail_bytes kind port timeout (bit compress)) ≤ length out.old }
     ensures { out.new ≡ put at (tail_bytes kind port timeout (bit compress)) out.old }
 {
+    let flag = usize::from(compress);
     wire::put_number(out, at, 4, port);
     if kind == 3 {
-        wire::put_number(out, at + 4, 1, bit(compress));
+        wire::put_number(out, at + 4, 1, flag);
     } else {
         wire::put_number(out, at + 4, 4, timeout);
-        wire::put_number(out, at + 8, 1, bit(compress));
+        wire::put_number(out, at + 8, 1, flag);
     }
 }
 
@@ -116,8 +100,8 @@ pub fn write_endpoint(
     ensures value { result ≡ writing_of (endpoint_writing kind host.now port timeout (bit compress) (length out.old)) }
     ensures out_after { out.new ≡ output (endpoint_writing kind host.now port timeout (bit compress) (length out.old)) out.old }
 {
-    let w = endpoint_written(kind, host, port, timeout, compress, out.len());
-    match w {
+    let written = endpoint_written(kind, host, port, timeout, compress, out.len());
+    match written {
         Writing::Written(n) => {
             put_head(out, kind as usize, n as usize, host);
             let at = 8 + wire::size_len(host.len()) + host.len();
@@ -129,8 +113,8 @@ pub fn write_endpoint(
                 timeout as usize,
                 compress,
             );
-            Writing::Written(n)
         }
-        Writing::Rejected(c, p) => Writing::Rejected(c, p),
+        Writing::Rejected(_, _) => {}
     }
+    written
 }

@@ -1,5 +1,4 @@
 -- Laws that the proofs of the frost guard cite.
-pub mod Telling
 pub mod FrostGiven
 pub mod FrostJudged
 pub mod FrostLaws

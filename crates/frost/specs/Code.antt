@@ -1,32 +1,33 @@
 -- What the code's types hold, as the definitions have it.
 --
 --   tick_in, delay_in, guard_in, told_in    a tick, a delay, a guard, an answer
---   heard_in                             what a message says
+--   said_in, heard_in                    a report; what a message says
+--   form_of n                            what is wrong with a report, as the code answers: nothing for 0, else refusal n at 0
+--   judged_by g m                        what is heard of a message by a guard: 52, a refusal of the message, 40, 41, or a report
 --   report_in r t d                      a report of three numbers
 --   numbers_at m r t d                   the report whose numbers are at three places of a message
 --   fields_at m rows                     the report in three listed rows of a message
 --   lower_than t s                       a tick is lower than another
-use Rattle.std.specs.Prelude.{Bool, List, ℕ, ltb}
-use Rattle.std.proofs.Math.Option.{Option, none, some}
+use Rattle.std.specs.Prelude.{Bool, List, ℕ, eqb, ltb, Option, Some, None, Result, Ok, Err}
+use Rattle.std.proofs.Math.Option as Math
+use Rattle.encoding.specs.Result.{pick}
 use Rattle.encoding.specs.Table.{at}
 use Rattle.encoding.specs.Write.{row_at}
-use Rattle.frost.specs.declared.Tick.{Tick}
-use Rattle.frost.specs.declared.Tick.TheVariants.{Never, At}
-use Rattle.frost.specs.declared.Delay.{Delay}
-use Rattle.frost.specs.declared.Delay.TheVariants.{Unset, Of}
+use Rattle.frost.specs.declared.Millis.{Millis}
+use Rattle.frost.specs.declared.Seconds.{Seconds}
 use Rattle.frost.specs.declared.Guard
 use Rattle.frost.specs.declared.Told
-use Rattle.frost.specs.declared.Heard
-use Rattle.frost.specs.declared.Heard.TheVariants.{Report, Silent}
+use Rattle.frost.specs.declared.Said
+use Rattle.frost.specs.declared.Refusal
 use Rattle.frost.specs.Frost
 
-abbrev pub tick_in : Tick → Option ℕ
-tick_in Never = none
-tick_in (At m) = some m.0
+abbrev pub tick_in : Option Millis → Math.Option ℕ
+tick_in None = Math.none
+tick_in (Some m) = Math.some m.0
 
-abbrev pub delay_in : Delay → Option ℕ
-delay_in Unset = none
-delay_in (Of s) = some s.0
+abbrev pub delay_in : Option Seconds → Math.Option ℕ
+delay_in None = Math.none
+delay_in (Some s) = Math.some s.0
 
 abbrev pub guard_in : Guard.Guard → Frost.Guard
 guard_in g = record { set = g.set; tick = tick_in g.tick; start = tick_in g.start; delay = delay_in g.delay }
@@ -37,9 +38,18 @@ told_in t = record { refusal = t.refusal; place = t.place; fires = t.fires; guar
 abbrev pub report_in : ℕ → ℕ → ℕ → Frost.Report
 report_in r t d = record { reading = r; tick = t; delay = d }
 
-abbrev pub heard_in : Heard.Heard → Frost.Heard
-heard_in (Report r t d) = Frost.heard (report_in r t.0 d.0)
-heard_in (Silent n p) = Frost.refuse n p
+abbrev pub said_in : Said.Said → Frost.Report
+said_in r = report_in r.reading r.tick.0 r.delay.0
+
+abbrev pub heard_in : Result Said.Said Refusal.Refusal → Frost.Heard
+heard_in (Ok r) = Frost.heard (said_in r)
+heard_in (Err x) = Frost.refuse x.number x.place
+
+abbrev pub form_of : ℕ → Result (Unit {0}) Refusal.Refusal
+form_of n = pick (eqb n 0) (Ok tt) (Err (record { number = n; place = 0 }))
+
+abbrev pub judged_by : Frost.Guard → List ℕ → Frost.Heard
+judged_by g m = pick (Frost.bad_state g) (Frost.refuse 52 0) (Frost.judged_report g.tick (Frost.report_of m))
 
 abbrev pub numbers_at : List ℕ → ℕ → ℕ → ℕ → Frost.Heard
 numbers_at m r t d = Frost.heard (report_in (at m 2 r) (at m 8 t) (at m 4 d))

@@ -2,15 +2,17 @@
 --
 --   number_refusal, _place, _fires, _waits, _none    a number of the answer
 --   number_stored                                    the lent bytes after it
---   room_few, room_all                               the numbers by the room for the state: under 32, and from 32 on
+--   room_least                                       the numbers by the room for the state, of which more than 32 make no difference
 use mathlib.Core.Path.{◌≡◌, refl, sym, ap, ap₂, ◌∙◌}
-use mathlib.Core.Bool.{true, false}
+use mathlib.Core.Bool.{Bool, true, false}
 use mathlib.Core.Option.{Option, none, some}
 use mathlib.Core.List.{List}
-use Prim.Native.Nat.{ℕ, zero, suc, ◌-◌, ◌≤◌, ◌<◌}
+use Rattle.std.specs.Prelude.{min}
+use Prim.Native.Nat.{ℕ, zero, suc, ◌-◌, ◌≤◌}
 use native.Mathlib.Omega.{arith}
 use lib.ListN.{length, take, drop, length-take, length-drop, get_or}
-use borrow.Author.Tests.{le-ltb}
+use lib.Dec.{leb}
+use borrow.Author.Tests.{leb-true, leb-false, le-ltb}
 use Rattle.wire.specs.StepLaws.{rest_is}
 use Rattle.frost.specs.declared.Told as code
 use Rattle.frost.specs.Frost.{Guard, Told, bounded, reported_from, reported, stored, state_of, told_numbers, fires_number}
@@ -63,11 +65,14 @@ room_enough s m n h = go (state_of s)
     go none = refl
     go (some g) = rw (le-ltb n 32 h)
 
-module _ (s m : List ℕ) (n i r : ℕ) where
-  pub room_few : (l : List ℕ) → length l ≡ 32 → n < 32 → r ≡ get_or (told_numbers (reported s m (length (take (n - 0) (drop 0 l))))) i 0 → r ≡ get_or (told_numbers (reported s m n)) i 0
-  room_few l e h q =
-      let k : length (take (n - 0) (drop 0 l)) ≡ n = omega (arith, length-take (n - 0) (drop 0 l), length-drop 0 l) in
-      q ∙ ap (λ (j : ℕ). get_or (told_numbers (reported s m j)) i 0) k
-
-  pub room_all : 32 ≤ n → r ≡ get_or (told_numbers (reported s m 32)) i 0 → r ≡ get_or (told_numbers (reported s m n)) i 0
-  room_all l h = h ∙ ap (λ (t : Told). get_or (told_numbers t) i 0) (room_enough s m n l)
+pub room_least : (s m : List ℕ) (n i r : ℕ) (l : List ℕ) (k : ℕ) → length l ≡ 32 → k ≡ min n 32 → r ≡ get_or (told_numbers (reported s m (length (take (k - 0) (drop 0 l))))) i 0
+    → r ≡ get_or (told_numbers (reported s m n)) i 0
+room_least s m n i r l k e f q =
+    let w : length (take (k - 0) (drop 0 l)) ≡ k = omega (arith, length-take (k - 0) (drop 0 l), length-drop 0 l) in
+    q ∙ ap (λ (j : ℕ). get_or (told_numbers (reported s m j)) i 0) w ∙ go (leb 32 n) refl
+  where
+    go : (b : Bool) → leb 32 n ≡ b → get_or (told_numbers (reported s m k)) i 0 ≡ get_or (told_numbers (reported s m n)) i 0
+    go true h =
+        let z : k ≡ 32 = omega (arith, leb-true 32 n h) in
+        ap (λ (j : ℕ). get_or (told_numbers (reported s m j)) i 0) z ∙ ap (λ (t : Told). get_or (told_numbers t) i 0) (room_enough s m n (leb-true 32 n h))
+    go false h = let z : k ≡ n = omega (arith, leb-false 32 n h) in ap (λ (j : ℕ). get_or (told_numbers (reported s m j)) i 0) z

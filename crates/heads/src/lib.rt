@@ -8,8 +8,7 @@ ghost use Rattle.encoding.specs.Slice.{format_of_flags, mixed, due, flag_form, h
 ghost use Rattle.wire.specs.Steps.{bytes_of};
 ghost use Rattle.heads.specs.Stages.{stage_of, id_text, seek_heading, follow_heading, heading, head_answer};
 
-use table::Found;
-use wire::Sized;
+use wire::{Counted, Refusal};
 
 // The stage of the walk over slices: at the first slice; after skipped slices only; after a known slice, sliced or not, with its base row + 1, 0 for none.
 #[derive(Clone, Copy)]
@@ -19,12 +18,16 @@ pub enum Stage {
     Following(bool, usize),
 }
 
-// What flags and type ID mean: skip the slice; the slice of a known row, with its bit 2, whether it is sliced, and the bytes taken; or a refusal's number and place.
+// What flags and type ID mean: skip the slice, after so many bytes taken; or the slice of a known row, with its bit 2, whether it is sliced, and the bytes taken.
 #[derive(Clone, Copy)]
 pub enum Heading {
     Skip(usize),
-    Known(usize, bool, bool, usize),
-    Wrong(usize, usize),
+    Known {
+        row: usize,
+        optionals: bool,
+        sliced: bool,
+        bytes: usize,
+    },
 }
 
 // The format differs from that of the slice before.
@@ -75,13 +78,16 @@ fn flag_form(stage: Stage, flags: usize) -> usize
 }
 
 // A type ID if one is due, else no bytes.
-fn id_text(due: bool, s: &[u8]) -> Sized
+fn id_text(due: bool, s: &[u8]) -> Result<Counted, Refusal>
     ensures { result ≡ bytes_of (id_text due s.now) }
 {
     if due {
         return text::read_string(s);
     }
-    Sized::Is(0, 0)
+    Ok(Counted {
+        number: 0,
+        bytes: 0,
+    })
 }
 
 // Bit 5 (the last slice) is set on a row with a base, or not set on one without. Here and below, `begin` is where the type rows begin.
@@ -100,31 +106,47 @@ fn seek_heading(
     flags: usize,
     id: &[u8],
     n: usize,
-) -> Heading
+) -> Result<Heading, Refusal>
     requires { begin ≡ types_at table.now }
     ensures { result ≡ seek_heading table.now top flags id.now n }
 {
     let size = wire::has_size(flags);
     let last = wire::is_last(flags);
-    let found = table::naming::named(table, id);
-    match found {
-        Found::At(t) => {
+    match table::naming::named(table, id) {
+        Some(t) => {
             if table::chain::in_chain(table, t, top) {
                 if wrong_last(table, begin, t, last) {
-                    return Heading::Wrong(17, 0);
+                    return Err(Refusal {
+                        number: 17,
+                        place: 0,
+                    });
                 }
-                return Heading::Known(t, wire::has_optionals(flags), size, n);
+                return Ok(Heading::Known {
+                    row: t,
+                    optionals: wire::has_optionals(flags),
+                    sliced: size,
+                    bytes: n,
+                });
             }
-            Heading::Wrong(17, 0)
+            Err(Refusal {
+                number: 17,
+                place: 0,
+            })
         }
-        Found::Nothing => {
+        None => {
             if size {
                 if last {
-                    return Heading::Wrong(16, 0);
+                    return Err(Refusal {
+                        number: 16,
+                        place: 0,
+                    });
                 }
-                return Heading::Skip(n);
+                return Ok(Heading::Skip(n));
             }
-            Heading::Wrong(15, 1)
+            Err(Refusal {
+                number: 15,
+                place: 1,
+            })
         }
     }
 }
@@ -149,20 +171,34 @@ fn follow_heading(
     flags: usize,
     id: &[u8],
     n: usize,
-) -> Heading
+) -> Result<Heading, Refusal>
     requires { begin ≡ types_at table.now }
     ensures { result ≡ follow_heading table.now sliced b flags id.now n }
 {
     if b == 0 {
-        return Heading::Wrong(17, 0);
+        return Err(Refusal {
+            number: 17,
+            place: 0,
+        });
     }
     if other_id(table, begin, sliced, b - 1, id) {
-        return Heading::Wrong(17, 0);
+        return Err(Refusal {
+            number: 17,
+            place: 0,
+        });
     }
     if wrong_last(table, begin, b - 1, wire::is_last(flags)) {
-        return Heading::Wrong(17, 0);
+        return Err(Refusal {
+            number: 17,
+            place: 0,
+        });
     }
-    Heading::Known(b - 1, wire::has_optionals(flags), wire::has_size(flags), n)
+    Ok(Heading::Known {
+        row: b - 1,
+        optionals: wire::has_optionals(flags),
+        sliced: wire::has_size(flags),
+        bytes: n,
+    })
 }
 
 // What flags and ID mean at this stage, n bytes taken.
@@ -174,7 +210,7 @@ fn heading_at(
     flags: usize,
     id: &[u8],
     n: usize,
-) -> Heading
+) -> Result<Heading, Refusal>
     requires { begin ≡ types_at table.now }
     ensures { result ≡ heading table.now top stage flags id.now n }
 {
@@ -185,25 +221,35 @@ fn heading_at(
 }
 
 // Reads flags and type ID of the next slice: 14 and 13 for the flags, then the ID, then 15 to 17.
-pub fn slice_head(table: &[u8], begin: usize, top: usize, stage: Stage, s: &[u8]) -> Heading
+pub fn slice_head(
+    table: &[u8],
+    begin: usize,
+    top: usize,
+    stage: Stage,
+    s: &[u8],
+) -> Result<Heading, Refusal>
     requires { begin ≡ types_at table.now }
     ensures { result ≡ head_answer table.now top (stage_of stage) (must (λ h. meaning_form (meaning table.now top (stage_of stage) h)) (head (stand_of (stage_of stage)) (id_form table.now (stage_of stage))) s.now) }
 {
     if s.len() < 1 {
-        return Heading::Wrong(4, 0);
+        return Err(Refusal {
+            number: 4,
+            place: 0,
+        });
     }
     let flags = wire::byte_at(s, 0);
     let c = flag_form(stage, flags);
     if c != 0 {
-        return Heading::Wrong(c, 0);
+        return Err(Refusal {
+            number: c,
+            place: 0,
+        });
     }
-    let id = id_text(due(stage, flags), &s[1..]);
-    match id {
-        Sized::Is(l, n) => {
-            let e = 1 + n;
-            let a = e - l;
-            heading_at(table, begin, top, stage, flags, &s[a..e], e)
-        }
-        Sized::Isnt(d, p) => Heading::Wrong(d, 1 + p),
-    }
+    let id = match id_text(due(stage, flags), &s[1..]) {
+        Ok(id) => id,
+        Err(refusal) => return Err(refusal.behind(1)),
+    };
+    let end = 1 + id.bytes;
+    let start = end - id.number;
+    heading_at(table, begin, top, stage, flags, &s[start..end], end)
 }

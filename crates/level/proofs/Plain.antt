@@ -13,7 +13,6 @@
 --   log_none, log_last           no sequence, or one as the last required member; log_length    the list keeps its length
 --   last_says, last_gives        from a row on all are optional: the required members are read
 --   log_says, log_gives          the same after a sequence
---   passed_on           an answer of `required`, passed on
 --   log_anew            rows that were put before `required` begins anew are put over
 use mathlib.Core.Path.{◌≡◌, refl, sym, ap, ap₂, ◌∙◌, subst}
 use mathlib.Core.Bool.{Bool, true, false}
@@ -34,12 +33,11 @@ use Rattle.encoding.specs.Table.{at, members, field, member_at, member_type, mar
 use Rattle.encoding.specs.Table
 use Rattle.encoding.specs.Optional.{Piece, requireds, part, header, next_optional}
 use Rattle.encoding.specs.Message.{row_bytes, piece_rows}
-use Rattle.wire.specs.declared.Step.TheVariants.{Took}
-use Rattle.wire.specs.declared.Sized.TheVariants.{Is}
-use Rattle.wire.specs.Steps.{bytes_of, step_of}
+use Rattle.std.specs.Prelude.{Result, Ok, Some}
+use Rattle.wire.specs.declared.Refusal.{Refusal}
+use Rattle.wire.specs.Steps.{bytes_of, step_of, counted}
 use Rattle.wire.specs.Put.{put, form_bits}
 use Rattle.wire.specs.PutLaws.{put_length}
-use Rattle.table.specs.declared.FoundMember.TheVariants.{At}
 use Rattle.table.specs.declared.MemberRow.{MemberRow}
 use Rattle.table.specs.Rows.{IsMemberRow, Whole}
 use Rattle.table.specs.Tags.{optional_from, optional_start, first_required}
@@ -55,16 +53,15 @@ use Rattle.optional.proofs.Lookups.{type_here, typed}
 use Rattle.optional.proofs.Declared.{run_whole, part_run}
 use Rattle.optional.proofs.Heads.{early_fine, head_known}
 use Rattle.level.specs.declared.Members.{Members}
-use Rattle.level.specs.declared.Members.TheVariants.{Read}
 use Rattle.level.specs.declared.Optional.TheVariants.{Known}
 use Rattle.level.specs.Fill.{fill}
 use Rattle.level.specs.FillLaws.{Covered}
-use Rattle.level.specs.Answers.{members_of, Simple, Logged, LastLog, Tagged, bare_shape, optional_answer}
+use Rattle.level.specs.Answers.{members_of, reads, Simple, Logged, LastLog, Tagged, bare_shape, optional_answer}
 use Rattle.level.specs.RequiredLaws.{required_count}
 use Rattle.level.proofs.Parts.{used_wide}
 use Rattle.level.proofs.Nexts.{next_known}
 use Rattle.level.specs.Due.{Due}
-use Rattle.level.proofs.Requireds.{due_begin, due_next, due_run, due_says, due_gives, due_room}
+use Rattle.level.proofs.Requireds.{due_begin, due_step, due_run, due_says, due_gives, due_room}
 
 -- ---- an optional
 
@@ -80,7 +77,7 @@ module _ (T : List ℕ) (limit : ℕ) (W : 0 < limit → Whole T limit) (row : �
 
   pub tagged_is : (end : ℕ) → limit ≤ end → (tag : ℕ) (r : MemberRow) → IsMemberRow T row r → (r.mark ≡ 0 → ⊥) → tag ≡ r.tag → Tagged T end row tag r.of
   tagged_is end l tag r is o e = record {
-    found = ap (At row) (sym is.of_is) ∙ optionals_here T end row tag row (optionals_begin T end row tag) (omega arith) r is o e;
+    found = ap (λ (i : ℕ). Some (record { member = row; of = i })) (sym is.of_is) ∙ optionals_here T end row tag row (optionals_begin T end row tag) (omega arith) r is o e;
     type_is = typed T row (members T) r.of r.of refl is.of_is (type_here (members T) row r.of row_within);
   }
 
@@ -124,12 +121,12 @@ module _ (T shapes : List ℕ) (ef : shapes ≡ shapes_of T) (end row least : �
   rest = take (length s - n) (drop n s)
 
   -- the header, and the declared bytes after it
-  simple_head : Knows row t tag n k ≡ head_of T (optional_from T end row) (header (optional_from T end row) least s)
+  simple_head : Ok (Knows row t tag n k) ≡ head_of T (optional_from T end row) (header (optional_from T end row) least s)
   unfolding form_bits type_row
   simple_head =
-      head_known T end row least s _ (N.front_is (omega arith)) N.long tag k n refl
+      head_known T end row least s _ (N.front_is (omega arith)) _ refl
       0 (early_fine least N.long tag k false (sym N.fine) refl rises (λ q. omega (arith, B.few))) refl
-      _ G.found row (member_type T row) refl (members T) refl t G.type_is shapes ef k B.form_is k (rw (lt-ltb k 8 (omega (arith, B.few)))) refl
+      _ G.found _ refl (members T) refl t G.type_is shapes ef k B.form_is k (rw (lt-ltb k 8 (omega (arith, B.few)))) refl
 
   simple_run : w ≡ run_width k
   simple_run =
@@ -137,22 +134,22 @@ module _ (T shapes : List ℕ) (ef : shapes ≡ shapes_of T) (end row least : �
       let v = B.width_is ∙ width_row T t shapes ef in
       v ∙ bare_width (ty_of T t) (rw (← f) B.few) (rw (← v) B.some) ∙ ap run_width (sym f)
 
-  simple_part : Is w w ≡ bytes_of (inside (part (form_named k)) (bytes (value (ty_of T t))) rest)
+  simple_part : counted w w ≡ bytes_of (inside (part (form_named k)) (bytes (value (ty_of T t))) rest)
   unfolding rest
   simple_part =
       let l : w ≤ length rest = omega (arith, length-take-le (length s - n) (drop n s) (omega (arith, length-drop n s))) in
-      used_wide (form_named k) rest (Is w w) (part_run rest k (Is w w) B.few w simple_run (run_whole rest w l)) w w refl T shapes ef t w B.width_is B.some refl
+      used_wide (form_named k) rest (counted w w) (part_run rest k (counted w w) B.few w simple_run (run_whole rest w l)) _ refl T shapes ef t w B.width_is B.some refl
 
-  simple_known : Known row tag n (n + w) ≡ optional_answer (optional_from T end row) (next_optional (optional_from T end row) least s)
+  simple_known : Ok (Known row tag n (n + w)) ≡ optional_answer (optional_from T end row) (next_optional (optional_from T end row) least s)
   unfolding rest
   simple_known =
       let z : n + (w - w) ≡ n = omega arith in
-      ap (λ (x : ℕ). Known row tag x (n + w)) (sym z)
-      ∙ next_known T end row least s _ simple_head row t tag n k refl (Is w w) simple_part w w refl
+      ap (λ (x : ℕ). Ok (Known row tag x (n + w))) (sym z)
+      ∙ next_known T end row least s _ simple_head _ refl row t tag n k refl (counted w w) simple_part _ refl
 
 pub simple_answer : (T shapes : List ℕ) → shapes ≡ shapes_of T → (end row least : ℕ) (s : List ℕ) (tag k n : ℕ) → (0 < n → Titled s tag k n) → (n ≡ 0 → ⊥) → least ≤ tag
     → (t : ℕ) → (t < 65536 → Tagged T end row tag t) → t < 65536 → (x : ℕ) → x ≡ shape_in shapes t → x < 256 → (y : ℕ) → y ≡ bare_shape k → x ≡ y → n + (x - 10) ≤ length s
-    → Known row tag n (n + (x - 10)) ≡ optional_answer (optional_from T end row) (next_optional (optional_from T end row) least s)
+    → Ok (Known row tag n (n + (x - 10))) ≡ optional_answer (optional_from T end row) (next_optional (optional_from T end row) least s)
 simple_answer T shapes ef end row least s tag k n N some rises t G small x ex l y ey e there =
     simple_known T shapes ef end row least s tag k n (N (omega (arith, some))) rises t (G small) (x - 10) (bare_is shapes t k x ex l (e ∙ ey)) there
 
@@ -167,15 +164,11 @@ simple_is T m r is z h shapes ef w ew left l = record {
 }
 
 pub log_is : (T : List ℕ) (m : ℕ) (r : MemberRow) → IsMemberRow T m r → r.mark ≡ 0 → m < members T
-    → (s : List ℕ) (n : ℕ) → (0 < n → (old : Bool) → Took n ≡ step_of (value (type_as old (ty_of T r.of)) s)) → 0 < n → Logged T m s n
+    → (s : List ℕ) (n : ℕ) → (0 < n → (old : Bool) → Ok n ≡ step_of (value (type_as old (ty_of T r.of)) s)) → 0 < n → Logged T m s n
 log_is T m r is z h s n says l = record {
   mark_is = sym is.mark_is ∙ z;
   taken = says l false ∙ ap (λ (t : ℕ). step_of (value (type_as false (ty_of T t)) s)) (typed T m (members T) r.of r.of refl is.of_is (type_here (members T) m r.of h));
 }
-
--- an answer that was passed on
-pub passed_on : (r ms x : Members) → r ≡ ms → ms ≡ x → r ≡ x
-passed_on r ms x e f = e ∙ f
 
 pub simple_begin : (T : List ℕ) (t at count : ℕ) (s out : List ℕ) (from end : ℕ) → from ≡ field T t 0 → end ≡ field T t 0 + field T t 1 → from < 65536 → end < from + 65536
     → Due false T t at count s out from end 0 count end out
@@ -186,13 +179,13 @@ module _ (T : List ℕ) (t at count : ℕ) (s out₀ : List ℕ) (m end pos k : 
       → (o : List ℕ) → o ≡ put (12 * k) (row_bytes (record { member = m; place = at + pos; len = w })) out → Due false T t at count s out₀ (m + 1) end (pos + w) (k + 1) end o
   simple_next h w wz simple o eo = go (simple (omega (arith, wz)))
     where
-      took : (a b : ℕ) → Took a ≡ Took b → a ≡ b
+      took : (a b : ℕ) → ◌≡◌ {A = Result ℕ Refusal} (Ok a) (Ok b) → a ≡ b
       took a b q = cc
 
       go : Simple T m (length s - pos) w → Due false T t at count s out₀ (m + 1) end (pos + w) (k + 1) end o
       go S =
           let rest : w ≤ length (take (length s - pos) (drop pos s)) = omega (arith, S.there, length-take-le (length s - pos) (drop pos s) (omega (arith, length-drop pos s))) in
-          due_next false T t at count s out₀ m end pos k end out D h (mark T m) refl S.mark_is (type_row T m) refl (Took w)
+          due_step false T t at count s out₀ m end pos k end out D h (mark T m) refl S.mark_is (type_row T m) refl (Ok w)
           (row_wide false T (shapes_of T) refl (type_row T m) (take (length s - pos) (drop pos s)) w S.width_is (omega (arith, wz)) rest) w refl o (λ n q. rw (took w n q) at eo)
 
   pub log_place : at + length s < 2 ^ 63 → Fits w64 (at + pos)
@@ -208,10 +201,10 @@ module _ (T : List ℕ) (t at count : ℕ) (s out₀ : List ℕ) (m end pos k : 
   module _ (h : m < end) (n : ℕ) (L : Logged T m (take (length s - pos) (drop pos s)) n) where
     pub log_next : (o : List ℕ) → o ≡ put (12 * k) (row_bytes (record { member = m; place = at + pos; len = n })) out → Due false T t at count s out₀ (m + 1) end (pos + n) (k + 1) end o
     log_next o eo =
-        due_next false T t at count s out₀ m end pos k end out D h (mark T m) refl L.mark_is (type_row T m) refl (Took n) L.taken n refl o (λ i q. let z : n ≡ i = cc in rw z at eo)
+        due_step false T t at count s out₀ m end pos k end out D h (mark T m) refl L.mark_is (type_row T m) refl (Ok n) L.taken n refl o (λ i q. let z : n ≡ i = cc in rw z at eo)
 
     log_held : at + length s < 2 ^ 63 → Fits w64 (pos + n)
-    log_held l = due_room false T t at count s out₀ m end pos k end out D h (mark T m) refl L.mark_is (type_row T m) refl (Took n) L.taken n refl l
+    log_held l = due_room false T t at count s out₀ m end pos k end out D h (mark T m) refl L.mark_is (type_row T m) refl (Ok n) L.taken n refl l
 
   -- no row from m on is required
   module _ (i : ℕ) (ei : i ≡ first_required T m (end - m)) (last : i ≡ end) where
@@ -242,7 +235,7 @@ module _ (T : List ℕ) (t at count : ℕ) (s out₀ : List ℕ) (m end pos k : 
             let z : end - m ≡ suc (end - (m + 1)) = omega arith in
             more h (eqb (mark T m) 0) refl (ei ∙ ap (first_required T m) z ∙ rw (add-one m))
 
-    pub last_says : Read pos k m ≡ members_of count (optional_start T t) (requireds (members_as false (Table.required_members T t)) s)
+    pub last_says : reads pos k m ≡ members_of count (optional_start T t) (requireds (members_as false (Table.required_members T t)) s)
     last_says = due_says false T t at count s out₀ done.row end pos k m out done.due done.past
 
     pub last_gives : (ps : List Piece) (n : ℕ) → requireds (members_as false (Table.required_members T t)) s ≡ ok ps n → out ≡ fill count (piece_rows T t at ps) out₀
@@ -253,8 +246,10 @@ module _ (T : List ℕ) (t at count : ℕ) (s out₀ : List ℕ) (m end pos k : 
   unfolding members_of shift
   enough ps n q = go (requireds (members_as false (requireds_in T (trees T) D.seen (range m (end - m)))) (drop pos s)) (sym (ap (members_of count (optional_start T t)) q) ∙ D.says)
     where
-      go : (x : Res (List Piece)) → Read n (count + length ps) (optional_start T t) ≡ members_of k (optional_start T t) (shift pos x) → k ≤ count + length ps
-      go (ok qs j) e = let y : count + length ps ≡ k + length qs = cc in omega arith
+      go : (x : Res (List Piece)) → reads n (count + length ps) (optional_start T t) ≡ members_of k (optional_start T t) (shift pos x) → k ≤ count + length ps
+      go (ok qs j) e =
+          let x : ◌≡◌ {A = Members} (record { bytes = n; count = count + length ps; optional = optional_start T t }) (record { bytes = pos + j; count = k + length qs; optional = optional_start T t }) = cc in
+          omega (arith, ap (λ (y : Members). y.count) x)
       go (bad c p) e = let y : ◌≡◌ {A = ℕ} 0 1 = cc in absurd (omega arith)
 
   anew_gives : Covered count k out out₀ → (o : List ℕ) → ((ps : List Piece) (n : ℕ) → requireds (members_as false (Table.required_members T t)) s ≡ ok ps n → o ≡ fill count (piece_rows T t at ps) out)
@@ -295,7 +290,7 @@ module _ (T : List ℕ) (t at count : ℕ) (s out₀ : List ℕ) (m end pos k : 
     pub log_room : at + length s < 2 ^ 63 → Fits w64 (pos + n)
     log_room = log_held T t at count s out₀ m end pos k out D here n (L.logged some)
 
-    pub log_says : Read (pos + n) (k + 1) (m + 1) ≡ members_of count (optional_start T t) (requireds (members_as false (Table.required_members T t)) s)
+    pub log_says : reads (pos + n) (k + 1) (m + 1) ≡ members_of count (optional_start T t) (requireds (members_as false (Table.required_members T t)) s)
     log_says = last_says T t at count s out₀ (m + 1) end (pos + n) (k + 1) o after end (L.past some) refl
 
     pub log_gives : (ps : List Piece) (n : ℕ) → requireds (members_as false (Table.required_members T t)) s ≡ ok ps n → o ≡ fill count (piece_rows T t at ps) out₀

@@ -2,10 +2,10 @@
 --
 --   due_begin      at the start
 --   due_past, due_run   after an optional row, and after those that follow it
---   due_next       after a required member that was read
+--   due_next       after a required member that was read, counted from the first byte; due_step after one of n bytes
 --   due_fault, due_never     after a value that is refused; then nothing was accepted
 --   due_says, due_gives      at the end
---   due_room, due_place      what is added fits
+--   due_room, due_fits       what is added fits
 use mathlib.Core.Path.{◌≡◌, refl, sym, ap, ap₂, ◌∙◌, subst}
 use mathlib.Core.Bool.{Bool, true, false}
 use mathlib.Core.List.{List, [], ◌∷◌}
@@ -28,19 +28,18 @@ use Rattle.encoding.specs.Table.{field, mark, range, ty_of, member_ty, own_rows,
 use Rattle.encoding.specs.Table
 use Rattle.encoding.specs.Optional.{Piece, required, requireds}
 use Rattle.encoding.specs.Message.{Row, row_bytes, piece_rows}
-use Rattle.wire.specs.declared.Step.{Step}
-use Rattle.wire.specs.declared.Step.TheVariants.{Took, Fault}
-use Rattle.wire.specs.Steps.{step_of}
+use Rattle.std.specs.Prelude.{Result, Ok, Err}
+use Rattle.wire.specs.declared.Refusal.{Refusal}
+use Rattle.wire.specs.Steps.{step_of, refused, behind, later, LaterFits}
 use Rattle.wire.specs.Put.{put}
 use Rattle.wire.specs.PutLaws.{put_length}
 use Rattle.table.specs.Tags.{first_optional, optional_start, first_required}
 use Rattle.table.specs.TagsLaws.{first_begun, first_most}
 use Rattle.table.proofs.Ranges.{range_more, range_none}
 use Rattle.wire.specs.StepLaws.{rest_is, step_took, step_fault}
-use Rattle.level.specs.declared.Members.TheVariants.{Read, Refused}
 use Rattle.level.specs.Fill.{fill}
 use Rattle.optional.specs.Answers.{type_row}
-use Rattle.level.specs.Answers.{members_of}
+use Rattle.level.specs.Answers.{members_of, reads}
 use Rattle.level.specs.Due.{Later, Due}
 use Rattle.level.specs.RequiredLaws.{member_at, Ahead, ahead_begin, ahead_past, ahead_next, required_past, required_next, none_as, requireds_as, piece_row}
 use Rattle.optional.proofs.Lookups.{row_type}
@@ -50,28 +49,13 @@ unfolding shift
 shift_none (ok a n) = ap (ok a) (sym (zero-add n))
 shift_none (bad c p) = ap (bad c) (sym (zero-add p))
 
--- ---- one member's row
-
-module _ (k m at n : ℕ) (out o : List ℕ) (e : o ≡ put (12 * k) (row_bytes (record { member = m; place = at; len = n })) out) where
-  pub member_length : length o ≡ length out
-  member_length = ap length e ∙ put_length (12 * k) _ out
-
-  pub member_put : (i : ℕ) → Took n ≡ Took i → o ≡ put (12 * k) (row_bytes (record { member = m; place = at; len = i })) out
-  member_put i q = let z : n ≡ i = cc in e ∙ ap (λ (j : ℕ). put (12 * k) (row_bytes (record { member = m; place = at; len = j })) out) z
-
-pub member_answer : (r x y : Step) → r ≡ x → r ≡ y → y ≡ x
-member_answer r x y e q = sym q ∙ e
-
-pub member_none : (c p i : ℕ) {A : Type 0} → Fault c p ≡ Took i → A
-member_none c p i q = let z : ◌≡◌ {A = ℕ} 0 1 = cc in absurd (omega arith)
-
 -- ---- the loop
 
 -- one member, and the rest after it
 one_more : (k i pos n : ℕ) (p : Piece) (r : Res (List Piece)) → members_of k i (shift pos (shift n (made (λ ps _. p ∷ ps) r))) ≡ members_of (k + 1) i (shift (pos + n) r)
 unfolding members_of shift made
-one_more k i pos n p (ok ps l) = ap₂ (λ (x y : ℕ). Read x y i) (sym (add_assoc pos n l)) (omega arith)
-one_more k i pos n p (bad c q) = ap (Refused c) (sym (add_assoc pos n q))
+one_more k i pos n p (ok ps l) = ap₂ (λ (x y : ℕ). reads x y i) (sym (add_assoc pos n l)) (omega arith)
+one_more k i pos n p (bad c q) = ap (refused c) (sym (add_assoc pos n q))
 
 pub due_begin : (old : Bool) (T : List ℕ) (t at count : ℕ) (s out : List ℕ) (a b : ℕ) → a ≡ field T t 0 → b ≡ field T t 1 → a < 65536 → b < 65536
     → Due old T t at count s out a (a + b) 0 count (a + b) out
@@ -101,7 +85,7 @@ due_begin old T t at count s out a b ea eb ha hb =
 
 module _ (old : Bool) (T : List ℕ) (t at count : ℕ) (s out₀ : List ℕ) (m end pos k next : ℕ) (out : List ℕ) (D : Due old T t at count s out₀ m end pos k next out) where
   -- ---- the end
-  pub due_says : end ≤ m → Read pos k next ≡ members_of count (optional_start T t) (requireds (members_as old (Table.required_members T t)) s)
+  pub due_says : end ≤ m → reads pos k next ≡ members_of count (optional_start T t) (requireds (members_as old (Table.required_members T t)) s)
   unfolding requireds_in pure shift members_of first_optional
   due_says h =
       let z : end - m ≡ 0 = omega arith in
@@ -153,7 +137,7 @@ module _ (old : Bool) (T : List ℕ) (t at count : ℕ) (s out₀ : List ℕ) (m
 
     -- ---- a required member
     module _ (g : ℕ) (eg : g ≡ mark T m) (z : g ≡ 0) (ty : ℕ) (et : ty ≡ type_row T m)
-        (r : Step) (er : r ≡ step_of (value (type_as old (ty_of T ty)) (take (length s - pos) (drop pos s)))) where
+        (r : Result ℕ Refusal) (er : r ≡ step_of (value (type_as old (ty_of T ty)) (take (length s - pos) (drop pos s)))) where
       abbrev rest : List Member
       rest = members_as old (requireds_in T (trees T) (suc D.seen) (range (m + 1) (end - (m + 1))))
 
@@ -171,18 +155,22 @@ module _ (old : Bool) (T : List ℕ) (t at count : ℕ) (s out₀ : List ℕ) (m
       answer : r ≡ step_of (value (type_as old (member_ty T (trees T) m)) (drop pos s))
       answer = rw (row_type T m ty et, rest_is s pos) at er
 
-      value_held : (n : ℕ) → r ≡ Took n → n ≤ length s - pos
+      value_held : (n : ℕ) → r ≡ Ok n → n ≤ length s - pos
       value_held n q =
           omega (arith, held_took (value (type_as old (member_ty T (trees T) m))) (held_value (type_as old (member_ty T (trees T) m))) (drop pos s) (step_took (value (type_as old (member_ty T (trees T) m)) (drop pos s)) n (sym q ∙ answer)).1, length-drop pos s)
 
-      value_is : (n : ℕ) → r ≡ Took n → bytes (value (type_as old (member_ty T (trees T) m))) (drop pos s) ≡ ok (take n (drop pos s)) n
+      value_is : (n : ℕ) → r ≡ Ok n → bytes (value (type_as old (member_ty T (trees T) m))) (drop pos s) ≡ ok (take n (drop pos s)) n
       value_is n q = bytes_step (value (type_as old (member_ty T (trees T) m))) (drop pos s) (step_took (value (type_as old (member_ty T (trees T) m)) (drop pos s)) n (sym q ∙ answer)).1
 
-      value_bad : (c p : ℕ) → r ≡ Fault c p → bytes (value (type_as old (member_ty T (trees T) m))) (drop pos s) ≡ bad c p
+      value_bad : (x : Refusal) → r ≡ Err x → bytes (value (type_as old (member_ty T (trees T) m))) (drop pos s) ≡ bad x.number x.place
       unfolding bytes made
-      value_bad c p q = rw (step_fault (value (type_as old (member_ty T (trees T) m)) (drop pos s)) c p (sym q ∙ answer))
+      value_bad x q = rw (step_fault (value (type_as old (member_ty T (trees T) m)) (drop pos s)) x (sym q ∙ answer))
 
-      next_later : (n : ℕ) → r ≡ Took n → (o : List ℕ) → o ≡ put (12 * k) (row_bytes (record { member = m; place = at + pos; len = n })) out → (last : List ℕ)
+      place_held : (x : Refusal) → r ≡ Err x → x.place ≤ length s - pos
+      place_held x q =
+          omega (arith, held_refused (value (type_as old (member_ty T (trees T) m))) (held_value (type_as old (member_ty T (trees T) m))) (drop pos s) (step_fault (value (type_as old (member_ty T (trees T) m)) (drop pos s)) x (sym q ∙ answer)), length-drop pos s)
+
+      next_later : (n : ℕ) → r ≡ Ok n → (o : List ℕ) → o ≡ put (12 * k) (row_bytes (record { member = m; place = at + pos; len = n })) out → (last : List ℕ)
           → Later T t at s (members_as old (requireds_in T (trees T) D.seen (range m (end - m)))) pos k last out → Later T t at s rest (pos + n) (k + 1) last o
       unfolding fill
       next_later n q o eo last L = go (bind_ok (bytes (value (type_as old (member_ty T (trees T) m)))) cont (drop pos s) (sym requireds_split ∙ L.read))
@@ -205,10 +193,10 @@ module _ (old : Bool) (T : List ℕ) (t at count : ℕ) (s out₀ : List ℕ) (m
                     ∙ ap₂ (λ (i j : ℕ). fill i (piece_rows T t j M.0) o) (sym (add-one k)) (add_assoc at pos n);
               }
 
-      due_step : (n : ℕ) → r ≡ Took n → (o : List ℕ) → o ≡ put (12 * k) (row_bytes (record { member = m; place = at + pos; len = n })) out
+      due_put : (n : ℕ) → r ≡ Ok n → (o : List ℕ) → o ≡ put (12 * k) (row_bytes (record { member = m; place = at + pos; len = n })) out
           → Due old T t at count s out₀ (m + 1) end (pos + n) (k + 1) next o
       unfolding mapc
-      due_step n q o eo = record {
+      due_put n q o eo = record {
         seen = suc D.seen;
         inside = omega (arith, D.inside, value_held n q);
         within = omega arith;
@@ -225,27 +213,61 @@ module _ (old : Bool) (T : List ℕ) (t at count : ℕ) (s out₀ : List ℕ) (m
         gives = λ ps i h. next_later n q o eo _ (D.gives ps i h);
       }
 
-      pub due_next : (n : ℕ) → r ≡ Took n → (o : List ℕ) → ((n : ℕ) → r ≡ Took n → o ≡ put (12 * k) (row_bytes (record { member = m; place = at + pos; len = n })) out)
+      -- the answer, counted from the first byte
+      module _ (a : Result ℕ Refusal) (ea : a ≡ later pos r) where
+        pub due_next : (n : ℕ) → a ≡ Ok n → (o : List ℕ) → ((n : ℕ) → r ≡ Ok n → o ≡ put (12 * k) (row_bytes (record { member = m; place = at + pos; len = n })) out)
+            → Due old T t at count s out₀ (m + 1) end n (k + 1) next o
+        due_next n q o puts = go r refl
+          where
+            go : (b : Result ℕ Refusal) → r ≡ b → Due old T t at count s out₀ (m + 1) end n (k + 1) next o
+            go (Ok i) g =
+                let w = ap (later pos) g in
+                let z : n ≡ pos + i = cc in
+                rw z (due_put i g o (puts i g))
+            go (Err x) g =
+                let w = ap (later pos) g in
+                let z : ◌≡◌ {A = ℕ} 0 1 = cc in
+                absurd (omega arith)
+
+        pub due_fault : (x : Refusal) → a ≡ Err x → Err x ≡ members_of count (optional_start T t) (requireds (members_as old (Table.required_members T t)) s)
+        unfolding shift members_of
+        due_fault x q = go r refl
+          where
+            go : (b : Result ℕ Refusal) → r ≡ b → Err x ≡ members_of count (optional_start T t) (requireds (members_as old (Table.required_members T t)) s)
+            go (Ok i) g =
+                let w = ap (later pos) g in
+                let z : ◌≡◌ {A = ℕ} 0 1 = cc in
+                absurd (omega arith)
+            go (Err y) g =
+                let w = ap (later pos) g in
+                let z : x ≡ behind pos y = cc in
+                rw z (sym (D.says ∙ ap (λ (x : Res (List Piece)). members_of k (optional_start T t) (shift pos x)) (requireds_split ∙ bind_bad (bytes (value (type_as old (member_ty T (trees T) m)))) cont (drop pos s) (value_bad y g))))
+
+        -- then nothing is accepted
+        pub due_never : (x : Refusal) → a ≡ Err x → (o : List ℕ) (ps : List Piece) (n : ℕ) → requireds (members_as old (Table.required_members T t)) s ≡ ok ps n → o ≡ fill count (piece_rows T t at ps) out₀
+        due_never x q o ps n h = go r refl
+          where
+            go : (b : Result ℕ Refusal) → r ≡ b → o ≡ fill count (piece_rows T t at ps) out₀
+            go (Ok i) g =
+                let w = ap (later pos) g in
+                let z : ◌≡◌ {A = ℕ} 0 1 = cc in
+                absurd (omega arith)
+            go (Err y) g = absurd (ok≢bad (D.gives ps n h).read (requireds_split ∙ bind_bad (bytes (value (type_as old (member_ty T (trees T) m)))) cont (drop pos s) (value_bad y g)))
+
+      pub due_step : (n : ℕ) → r ≡ Ok n → (o : List ℕ) → ((n : ℕ) → r ≡ Ok n → o ≡ put (12 * k) (row_bytes (record { member = m; place = at + pos; len = n })) out)
           → Due old T t at count s out₀ (m + 1) end (pos + n) (k + 1) next o
-      due_next n q o puts = due_step n q o (puts n q)
-
-      pub due_fault : (c p : ℕ) → r ≡ Fault c p → Refused c (pos + p) ≡ members_of count (optional_start T t) (requireds (members_as old (Table.required_members T t)) s)
-      unfolding shift members_of
-      due_fault c p q =
-          sym (D.says ∙ ap (λ (x : Res (List Piece)). members_of k (optional_start T t) (shift pos x)) (requireds_split ∙ bind_bad (bytes (value (type_as old (member_ty T (trees T) m)))) cont (drop pos s) (value_bad c p q)))
-
-      -- then nothing is accepted
-      pub due_never : (c p : ℕ) → r ≡ Fault c p → (o : List ℕ) (ps : List Piece) (n : ℕ) → requireds (members_as old (Table.required_members T t)) s ≡ ok ps n → o ≡ fill count (piece_rows T t at ps) out₀
-      due_never c p q o ps n h =
-          absurd (ok≢bad (D.gives ps n h).read (requireds_split ∙ bind_bad (bytes (value (type_as old (member_ty T (trees T) m)))) cont (drop pos s) (value_bad c p q)))
+      due_step n q o puts = due_put n q o (puts n q)
 
       -- ---- what is added fits
-      pub due_room : (n : ℕ) → r ≡ Took n → at + length s < 2 ^ 63 → Fits w64 (pos + n)
+      pub due_room : (n : ℕ) → r ≡ Ok n → at + length s < 2 ^ 63 → Fits w64 (pos + n)
       due_room n q l = omega (arith, D.inside, value_held n q)
 
-      pub due_place : (c p : ℕ) → r ≡ Fault c p → at + length s < 2 ^ 63 → Fits w64 (pos + p)
-      due_place c p q l =
-          omega (arith, D.inside, held_refused (value (type_as old (member_ty T (trees T) m))) (held_value (type_as old (member_ty T (trees T) m))) (drop pos s) (step_fault (value (type_as old (member_ty T (trees T) m)) (drop pos s)) c p (sym q ∙ answer)), length-drop pos s)
+      pub due_fits : at + length s < 2 ^ 63 → LaterFits pos r
+      due_fits l = go r refl
+        where
+          go : (b : Result ℕ Refusal) → r ≡ b → LaterFits pos b
+          go (Ok n) g = omega (arith, D.inside, value_held n g)
+          go (Err x) g = omega (arith, D.inside, place_held x g)
 
 -- ---- optional rows
 

@@ -11,7 +11,7 @@
 --   members_within, refused_within          what they take, and where they are refused, is there
 use Rattle.std.proofs.Math.Path.{◌≡◌, refl, ap}
 use Rattle.std.proofs.Common.{sym, ◌∙◌, arith, ltb-true, ltb-false}
-use Rattle.std.specs.Prelude.{Bool, true, false, ◌&&◌, ℕ, suc, ◌+◌, ◌-◌, ◌/◌, ◌%◌, ◌^◌, ◌≤◌, ◌<◌, drop, eqb, ltb}
+use Rattle.std.specs.Prelude.{Result, Ok, Err, Bool, true, false, ◌&&◌, ℕ, suc, ◌+◌, ◌-◌, ◌/◌, ◌%◌, ◌^◌, ◌≤◌, ◌<◌, drop, eqb, ltb}
 use Rattle.std.proofs.Math.Option.{Option, none, some}
 use mathlib.Core.List.{List, ◌∷◌, ◌++◌}
 use Rattle.std.proofs.Math.ListN.{length, length-append}
@@ -26,11 +26,11 @@ use Rattle.encoding.specs.Optional.{Piece, optional, skipped, Header, first_form
 use Rattle.encoding.proofs.OptionalLaws.{held_optional, eats_optional, held_requireds}
 use Rattle.encoding.proofs.WeightLaws.{optional_weight}
 use Rattle.encoding.specs.Message.{list_row, piece_member, piece_rows}
+use Rattle.wire.specs.declared.Refusal.{Refusal}
 use Rattle.wire.specs.SizeLaws.{size_below}
 use Rattle.level.specs.declared.Members.{Members}
-use Rattle.level.specs.declared.Members.TheVariants.{Read, Refused}
 use Rattle.level.specs.declared.Optional.{Optional}
-use Rattle.level.specs.declared.Optional.TheVariants.{Known, Skipped, Wrong}
+use Rattle.level.specs.declared.Optional.TheVariants.{Known, Skipped}
 use Rattle.level.specs.Answers.{members_of, row_or, piece_answer, optional_answer}
 
 -- ---- tags
@@ -115,72 +115,69 @@ either ms least s r n e = go (bind_ok (header ms least) _ s e)
         let M = mapc_ok (content (lookup B.fst.tag ms) B.fst) (drop B.n s) (λ p _. (p, suc B.fst.tag)) B.next in
         piece B.fst (tag_below ms least s B.first) (header_rises ms least s B.first) (drop B.n s) M.0 B.m M.2 (lookup B.fst.tag ms) refl M.1
 
-module _ (ms : List Member) (least : ℕ) (s : List ℕ) (r : Optional) (e : r ≡ optional_answer ms (next_optional ms least s)) where
-  pub known_read : (m k a n : ℕ) → r ≡ Known m k a n → KnownRead ms least s m k a n
+module _ (ms : List Member) (least : ℕ) (s : List ℕ) (r : Result Optional Refusal) (e : r ≡ optional_answer ms (next_optional ms least s)) where
+  module _ (o : Optional) (q : r ≡ Ok o) where
+    pub known_read : (m k a n : ℕ) → o ≡ Known m k a n → KnownRead ms least s m k a n
+    unfolding optional_answer
+    known_read m k a n w = go (next_optional ms least s) refl (sym q ∙ e)
+      where
+        by_piece : (x : Piece × ℕ) (l : ℕ) → Either ms least s x l → Known m k a n ≡ piece_answer ms l x.0 → KnownRead ms least s m k a n
+        by_piece x l (one m' k' a' p K) h =
+            let em : m' ≡ m = cc in
+            let ek : k' ≡ k = cc in
+            let ea : a' ≡ a = cc in
+            let en : l ≡ n = cc in
+            rw (em, ek, ea, en) at K
+        by_piece x l (other k' p K) h = let z : ◌≡◌ {A = ℕ} 0 1 = cc in absurd (omega arith)
+
+        go : (x : Res (Piece × ℕ)) → next_optional ms least s ≡ x → Ok o ≡ optional_answer ms x → KnownRead ms least s m k a n
+        go (ok x l) f h = let g : Known m k a n ≡ piece_answer ms l x.0 = cc in by_piece x l (either ms least s x l f) g
+        go (bad c p) f h = let z : ◌≡◌ {A = ℕ} 0 1 = cc in absurd (omega arith)
+
+    pub skipped_read : (k n : ℕ) → o ≡ Skipped k n → SkippedRead ms least s k n
+    unfolding optional_answer
+    skipped_read k n w = go (next_optional ms least s) refl (sym q ∙ e)
+      where
+        by_piece : (x : Piece × ℕ) (l : ℕ) → Either ms least s x l → Skipped k n ≡ piece_answer ms l x.0 → SkippedRead ms least s k n
+        by_piece x l (one m' k' a' p K) h = let z : ◌≡◌ {A = ℕ} 0 1 = cc in absurd (omega arith)
+        by_piece x l (other k' p K) h =
+            let ek : k' ≡ k = cc in
+            let en : l ≡ n = cc in
+            rw (ek, en) at K
+
+        go : (x : Res (Piece × ℕ)) → next_optional ms least s ≡ x → Ok o ≡ optional_answer ms x → SkippedRead ms least s k n
+        go (ok x l) f h = let g : Skipped k n ≡ piece_answer ms l x.0 = cc in by_piece x l (either ms least s x l f) g
+        go (bad c p) f h = let z : ◌≡◌ {A = ℕ} 0 1 = cc in absurd (omega arith)
+
+    -- the bytes of a known optional are all there, and its value ends them
+    pub known_within : (m k a n : ℕ) → o ≡ Known m k a n → n ≤ length s
+    known_within m k a n w = held_took (next_optional ms least) (held_optional ms least) s (known_read m k a n w).read
+
+    pub known_start : (m k a n : ℕ) → o ≡ Known m k a n → a ≤ n
+    known_start m k a n w = let K = known_read m k a n w in omega (arith, K.sum)
+
+    pub known_tag : (m k a n : ℕ) → o ≡ Known m k a n → k < 2 ^ 31
+    known_tag m k a n w = (known_read m k a n w).low
+
+    pub skipped_some : (k n : ℕ) → o ≡ Skipped k n → 1 ≤ n
+    skipped_some k n w = eats_optional ms least s _ n (skipped_read k n w).read
+
+    pub skipped_within : (k n : ℕ) → o ≡ Skipped k n → n ≤ length s
+    skipped_within k n w = held_took (next_optional ms least) (held_optional ms least) s (skipped_read k n w).read
+
+    pub skipped_tag : (k n : ℕ) → o ≡ Skipped k n → k < 2 ^ 31
+    skipped_tag k n w = (skipped_read k n w).low
+
+  pub wrong_read : (x : Refusal) → r ≡ Err x → next_optional ms least s ≡ bad x.number x.place
   unfolding optional_answer
-  known_read m k a n q = go (next_optional ms least s) refl (sym q ∙ e)
+  wrong_read x q = go (next_optional ms least s) refl (sym q ∙ e)
     where
-      by_piece : (x : Piece × ℕ) (l : ℕ) → Either ms least s x l → Known m k a n ≡ piece_answer ms l x.0 → KnownRead ms least s m k a n
-      by_piece x l (one m' k' a' p K) h =
-          let em : m' ≡ m = cc in
-          let ek : k' ≡ k = cc in
-          let ea : a' ≡ a = cc in
-          let en : l ≡ n = cc in
-          rw (em, ek, ea, en) at K
-      by_piece x l (other k' p K) h = let z : ◌≡◌ {A = ℕ} 0 1 = cc in absurd (omega arith)
+      go : (y : Res (Piece × ℕ)) → next_optional ms least s ≡ y → Err x ≡ optional_answer ms y → next_optional ms least s ≡ bad x.number x.place
+      go (ok y l) f h = let z : ◌≡◌ {A = ℕ} 0 1 = cc in absurd (omega arith)
+      go (bad d y) f h = let z : x ≡ record { number = d; place = y } = cc in rw z f
 
-      go : (x : Res (Piece × ℕ)) → next_optional ms least s ≡ x → Known m k a n ≡ optional_answer ms x → KnownRead ms least s m k a n
-      go (ok x l) f h = by_piece x l (either ms least s x l f) h
-      go (bad c p) f h = let z : ◌≡◌ {A = ℕ} 0 1 = cc in absurd (omega arith)
-
-  pub skipped_read : (k n : ℕ) → r ≡ Skipped k n → SkippedRead ms least s k n
-  unfolding optional_answer
-  skipped_read k n q = go (next_optional ms least s) refl (sym q ∙ e)
-    where
-      by_piece : (x : Piece × ℕ) (l : ℕ) → Either ms least s x l → Skipped k n ≡ piece_answer ms l x.0 → SkippedRead ms least s k n
-      by_piece x l (one m' k' a' p K) h = let z : ◌≡◌ {A = ℕ} 0 1 = cc in absurd (omega arith)
-      by_piece x l (other k' p K) h =
-          let ek : k' ≡ k = cc in
-          let en : l ≡ n = cc in
-          rw (ek, en) at K
-
-      go : (x : Res (Piece × ℕ)) → next_optional ms least s ≡ x → Skipped k n ≡ optional_answer ms x → SkippedRead ms least s k n
-      go (ok x l) f h = by_piece x l (either ms least s x l f) h
-      go (bad c p) f h = let z : ◌≡◌ {A = ℕ} 0 1 = cc in absurd (omega arith)
-
-  pub wrong_read : (c p : ℕ) → r ≡ Wrong c p → next_optional ms least s ≡ bad c p
-  unfolding optional_answer
-  wrong_read c p q = go (next_optional ms least s) refl (sym q ∙ e)
-    where
-      by_piece : (x : Piece × ℕ) (l : ℕ) → Either ms least s x l → Wrong c p ≡ piece_answer ms l x.0 → next_optional ms least s ≡ bad c p
-      by_piece x l (one m' k' a' y K) h = let z : ◌≡◌ {A = ℕ} 0 1 = cc in absurd (omega arith)
-      by_piece x l (other k' y K) h = let z : ◌≡◌ {A = ℕ} 0 1 = cc in absurd (omega arith)
-
-      go : (x : Res (Piece × ℕ)) → next_optional ms least s ≡ x → Wrong c p ≡ optional_answer ms x → next_optional ms least s ≡ bad c p
-      go (ok x l) f h = by_piece x l (either ms least s x l f) h
-      go (bad d y) f h = f ∙ cc
-
-  -- the bytes of a known optional are all there, and its value ends them
-  pub known_within : (m k a n : ℕ) → r ≡ Known m k a n → n ≤ length s
-  known_within m k a n q = held_took (next_optional ms least) (held_optional ms least) s (known_read m k a n q).read
-
-  pub known_start : (m k a n : ℕ) → r ≡ Known m k a n → a ≤ n
-  known_start m k a n q = let K = known_read m k a n q in omega (arith, K.sum)
-
-  pub known_tag : (m k a n : ℕ) → r ≡ Known m k a n → k < 2 ^ 31
-  known_tag m k a n q = (known_read m k a n q).low
-
-  pub skipped_some : (k n : ℕ) → r ≡ Skipped k n → 1 ≤ n
-  skipped_some k n q = eats_optional ms least s _ n (skipped_read k n q).read
-
-  pub skipped_within : (k n : ℕ) → r ≡ Skipped k n → n ≤ length s
-  skipped_within k n q = held_took (next_optional ms least) (held_optional ms least) s (skipped_read k n q).read
-
-  pub skipped_tag : (k n : ℕ) → r ≡ Skipped k n → k < 2 ^ 31
-  skipped_tag k n q = (skipped_read k n q).low
-
-  pub wrong_within : (c p : ℕ) → r ≡ Wrong c p → p ≤ length s
-  wrong_within c p q = held_refused (next_optional ms least) (held_optional ms least) s (wrong_read c p q)
+  pub wrong_within : (x : Refusal) → r ≡ Err x → x.place ≤ length s
+  wrong_within x q = held_refused (next_optional ms least) (held_optional ms least) s (wrong_read x q)
 
 -- ---- rows
 
@@ -203,33 +200,35 @@ module _ (T : List ℕ) (t least : ℕ) (s : List ℕ) (at : ℕ) (ps : List Pie
 
 -- ---- required members
 
-module _ (ms : List Member) (count start : ℕ) (s : List ℕ) (r : Members) (e : r ≡ members_of count start (requireds ms s)) where
-  pub members_read : (n k i : ℕ) → r ≡ Read n k i → (ps : List Piece) × (requireds ms s ≡ ok ps n) × (k ≡ count + length ps)
-  unfolding members_of
-  members_read n k i q = go (requireds ms s) refl (sym q ∙ e)
-    where
-      go : (x : Res (List Piece)) → requireds ms s ≡ x → Read n k i ≡ members_of count start x → (ps : List Piece) × (requireds ms s ≡ ok ps n) × (k ≡ count + length ps)
-      go (ok ps l) f h = let en : l ≡ n = cc in (ps, f ∙ ap (ok ps) en, cc)
-      go (bad c p) f h = let z : ◌≡◌ {A = ℕ} 0 1 = cc in absurd (omega arith)
+module _ (ms : List Member) (count start : ℕ) (s : List ℕ) (r : Result Members Refusal) (e : r ≡ members_of count start (requireds ms s)) where
+  module _ (x : Members) (q : r ≡ Ok x) where
+    pub members_read : (ps : List Piece) × (requireds ms s ≡ ok ps x.bytes) × (x.count ≡ count + length ps)
+    unfolding members_of
+    members_read = go (requireds ms s) refl (sym q ∙ e)
+      where
+        go : (y : Res (List Piece)) → requireds ms s ≡ y → Ok x ≡ members_of count start y → (ps : List Piece) × (requireds ms s ≡ ok ps x.bytes) × (x.count ≡ count + length ps)
+        go (ok ps l) f h = let z : x ≡ record { bytes = l; count = count + length ps; optional = start } = cc in (ps, rw z f, rw z refl)
+        go (bad c p) f h = let z : ◌≡◌ {A = ℕ} 0 1 = cc in absurd (omega arith)
 
-  pub members_start : (n k i : ℕ) → r ≡ Read n k i → i ≡ start
-  unfolding members_of
-  members_start n k i q = go (requireds ms s) (sym q ∙ e)
-    where
-      go : (x : Res (List Piece)) → Read n k i ≡ members_of count start x → i ≡ start
-      go (ok ps l) h = cc
-      go (bad c p) h = let z : ◌≡◌ {A = ℕ} 0 1 = cc in absurd (omega arith)
+    pub members_start : x.optional ≡ start
+    unfolding members_of
+    members_start = go (requireds ms s) (sym q ∙ e)
+      where
+        go : (y : Res (List Piece)) → Ok x ≡ members_of count start y → x.optional ≡ start
+        go (ok ps l) h = let z : x ≡ record { bytes = l; count = count + length ps; optional = start } = cc in rw z refl
+        go (bad c p) h = let z : ◌≡◌ {A = ℕ} 0 1 = cc in absurd (omega arith)
 
-  pub members_refused : (c p : ℕ) → r ≡ Refused c p → requireds ms s ≡ bad c p
-  unfolding members_of
-  members_refused c p q = go (requireds ms s) refl (sym q ∙ e)
-    where
-      go : (x : Res (List Piece)) → requireds ms s ≡ x → Refused c p ≡ members_of count start x → requireds ms s ≡ bad c p
-      go (ok ps l) f h = let z : ◌≡◌ {A = ℕ} 0 1 = cc in absurd (omega arith)
-      go (bad d y) f h = f ∙ cc
+    pub members_within : x.bytes ≤ length s
+    members_within = held_took (requireds ms) (held_requireds ms) s members_read.1
 
-  pub members_within : (n k i : ℕ) → r ≡ Read n k i → n ≤ length s
-  members_within n k i q = held_took (requireds ms) (held_requireds ms) s (members_read n k i q).1
+  module _ (x : Refusal) (q : r ≡ Err x) where
+    pub members_refused : requireds ms s ≡ bad x.number x.place
+    unfolding members_of
+    members_refused = go (requireds ms s) refl (sym q ∙ e)
+      where
+        go : (y : Res (List Piece)) → requireds ms s ≡ y → Err x ≡ members_of count start y → requireds ms s ≡ bad x.number x.place
+        go (ok ps l) f h = let z : ◌≡◌ {A = ℕ} 0 1 = cc in absurd (omega arith)
+        go (bad d y) f h = let z : x ≡ record { number = d; place = y } = cc in rw z f
 
-  pub refused_within : (c p : ℕ) → r ≡ Refused c p → p ≤ length s
-  refused_within c p q = held_refused (requireds ms) (held_requireds ms) s (members_refused c p q)
+    pub refused_within : x.place ≤ length s
+    refused_within = held_refused (requireds ms) (held_requireds ms) s members_refused

@@ -3,7 +3,7 @@
 
 pub mod optionals;
 
-ghost use Rattle.std.specs.Prelude.{◌≡◌, false, List, ℕ, ◌+◌, ◌*◌, ◌^◌, ◌≤◌, ◌<◌, length};
+ghost use Rattle.std.specs.Prelude.{◌≡◌, Ok, false, List, ℕ, ◌+◌, ◌*◌, ◌^◌, ◌≤◌, ◌<◌, length};
 ghost use Rattle.encoding.specs.Result.{ok};
 ghost use Rattle.encoding.specs.Table.{members, types_at, members_at, member_at, field, ty_of, required_members};
 ghost use Rattle.table.specs.Rows.{Whole};
@@ -13,7 +13,6 @@ ghost use Rattle.encoding.specs.Optional.{Piece, requireds};
 ghost use Rattle.encoding.specs.Message.{row_bytes, piece_rows};
 ghost use Rattle.wire.specs.Put.{put};
 ghost use Rattle.wire.specs.Steps.{step_of};
-ghost use Rattle.wire.specs.declared.Step.TheVariants.{Took};
 ghost use Rattle.shapes.specs.Shapes.{shapes_of};
 ghost use Rattle.table.specs.Tags.{optional_start};
 ghost use Rattle.level.specs.Fill.{fill};
@@ -21,13 +20,14 @@ ghost use Rattle.level.specs.FillLaws.{Covered};
 ghost use Rattle.level.specs.Due.{Due};
 ghost use Rattle.level.specs.Answers.{members_of, Simple, Logged, LastLog};
 
-use wire::Step;
+use wire::Refusal;
 
-// The bytes taken, the rows there are, and where the optional members begin; or a refusal's number and place.
+// Required members that were read: the bytes taken, the rows there are, and where the optional members begin.
 #[derive(Clone, Copy)]
-pub enum Members {
-    Read(usize, usize, usize),
-    Refused(usize, usize),
+pub struct Members {
+    pub bytes: usize,
+    pub count: usize,
+    pub optional: usize,
 }
 
 // How far required members were read that may be any bytes: the bytes taken, the rows there are, and the first row that was not read.
@@ -38,12 +38,19 @@ pub struct Begun {
     pub row: usize,
 }
 
-// A known optional: its member row, its tag, where its bytes begin, the bytes taken. A skipped one: its tag, the bytes taken. Or a refusal's number and place.
+// An optional that was read. Of a known one: its member row, its tag, where its bytes begin, the bytes taken. Of a skipped one: its tag, the bytes taken.
 #[derive(Clone, Copy)]
 pub enum Optional {
-    Known(usize, usize, usize, usize),
-    Skipped(usize, usize),
-    Wrong(usize, usize),
+    Known {
+        member: usize,
+        tag: usize,
+        start: usize,
+        bytes: usize,
+    },
+    Skipped {
+        tag: usize,
+        bytes: usize,
+    },
 }
 
 // Reads required member m, of type row t, and puts row k for it; its value is at place `at`. `begin` is where the type rows begin. Here and below, `old` says whether the encoding is 1.0.
@@ -58,21 +65,16 @@ fn put_member(
     m: usize,
     out: &mut [u8],
     old: bool,
-) -> Step
+) -> Result<usize, Refusal>
     requires begin_value { begin ≡ types_at table.now }
     requires shapes_value { shapes.now ≡ shapes_of table.now }
     ensures value { result ≡ step_of (value (type_as old (ty_of table.now t)) s.now) }
     ensures out_len_unchanged { length out.new ≡ length out.old }
-    ensures by_index { (n : ℕ) → result ≡ Took n → out.new ≡ put (12 * k) (row_bytes (record { member = m; place = at; len = n })) out.old }
+    ensures by_index { (n : ℕ) → result ≡ Ok n → out.new ≡ put (12 * k) (row_bytes (record { member = m; place = at; len = n })) out.old }
 {
-    let step = value::read_member(table, begin, shapes, t, s, old);
-    match step {
-        Step::Took(n) => {
-            wire::rows::put_row(out, k, m, at, n);
-            Step::Took(n)
-        }
-        Step::Fault(c, p) => Step::Fault(c, p),
-    }
+    let n = value::read_member(table, begin, shapes, t, s, old)?;
+    wire::rows::put_row(out, k, m, at, n);
+    Ok(n)
 }
 
 // Reads the required members of owner t, as declared, and puts a row for each, from row `count` on; `at` is the place of the first. Gives the first optional row too. Optional rows that follow each other are passed by one call.
@@ -86,7 +88,7 @@ pub fn required(
     count: usize,
     out: &mut [u8],
     old: bool,
-) -> Members
+) -> Result<Members, Refusal>
     requires begin_value { begin ≡ types_at table.now }
     requires shapes_value { shapes.now ≡ shapes_of table.now }
     requires s_bound { (at + length s.now < 2 ^ 63) × (count < 2 ^ 63) }
@@ -102,10 +104,11 @@ pub fn required(
     let mut pos = 0;
     let mut k = count;
     let mut next = end;
+    // Stays: no `for`, since optional rows are passed by as many as the table has one after another.
     while m < end {
         let row = table::member_row_from(table, first, m);
         if row.mark == 0 {
-            let step = put_member(
+            let answer = put_member(
                 table,
                 begin,
                 shapes,
@@ -117,22 +120,19 @@ pub fn required(
                 out,
                 old,
             );
-            match step {
-                Step::Took(n) => {
-                    k += 1;
-                    pos += n;
-                    m += 1;
-                }
-                Step::Fault(c, p) => {
-                    return Members::Refused(c, pos + p);
-                }
-            }
+            pos = wire::later(pos, answer)?;
+            k += 1;
+            m += 1;
         } else {
-            next = wire::least(next, m);
+            next = next.min(m);
             m = table::chain::required_from(table, first, m + 1, end);
         }
     }
-    Members::Read(pos, k, next)
+    Ok(Members {
+        bytes: pos,
+        count: k,
+        optional: next,
+    })
 }
 
 // The bytes of required member m, which may be any bytes, where no more are left; 0 if m is optional, or its type asks more of its bytes, or more are needed. Row m is one of the table's member rows, which begin at `first`.
@@ -176,23 +176,25 @@ pub fn simples(
     ensures due { Due false table.now t at count s.now out.old result.row end result.bytes result.count end out.new }
     ensures covered { Covered count result.count out.new out.old }
 {
-    let mut m = from;
     let mut pos = 0;
     let mut k = count;
-    while m < end {
+    for m in from..end {
         let w = simple(table, first, shapes, m, s.len() - pos);
         if w == 0 {
-            break;
+            return Begun {
+                bytes: pos,
+                count: k,
+                row: m,
+            };
         }
         wire::rows::put_row(out, k, m, at + pos, w);
         k += 1;
         pos += w;
-        m += 1;
     }
     Begun {
         bytes: pos,
         count: k,
-        row: m,
+        row: end,
     }
 }
 
@@ -246,12 +248,22 @@ pub fn last_log(
 }
 
 // The same answer, taken apart and put together again, so that its numbers stay in registers.
-fn same(members: Members) -> Members
-    ensures { result ≡ members }
+fn same(answer: Result<Members, Refusal>) -> Result<Members, Refusal>
+    ensures { result ≡ answer }
 {
-    match members {
-        Members::Read(n, k, i) => Members::Read(n, k, i),
-        Members::Refused(c, p) => Members::Refused(c, p),
+    match answer {
+        Ok(
+            Members {
+                bytes,
+                count,
+                optional,
+            },
+        ) => Ok(Members {
+            bytes,
+            count,
+            optional,
+        }),
+        Err(Refusal { number, place }) => Err(Refusal { number, place }),
     }
 }
 
@@ -271,7 +283,7 @@ pub fn required_simple(
     at: usize,
     count: usize,
     out: &mut [u8],
-) -> Members
+) -> Result<Members, Refusal>
     requires begin_value { begin ≡ types_at table.now }
     requires first_value { (first ≡ members_at table.now) × (first < 1048576) }
     requires whole { (0 < limit → Whole table.now limit) × (limit ≤ end) }
@@ -291,7 +303,11 @@ pub fn required_simple(
     let k = r.count;
     let m = r.row;
     if table::chain::required_from(table, first, m, end) == end {
-        return Members::Read(bytes, k, m);
+        return Ok(Members {
+            bytes,
+            count: k,
+            optional: m,
+        });
     }
     let n = last_log(
         table,
@@ -307,7 +323,11 @@ pub fn required_simple(
         out,
     );
     if n != 0 {
-        return Members::Read(bytes + n, k + 1, m + 1);
+        return Ok(Members {
+            bytes: bytes + n,
+            count: k + 1,
+            optional: m + 1,
+        });
     }
     same(required(table, begin, shapes, t, s, at, count, out, false))
 }

@@ -14,7 +14,7 @@ ghost use Rattle.level.specs.Answers.{Tagged, Bare, Headed, bare_shape, optional
 
 use crate::Optional;
 use optional::{Head, Title};
-use wire::{Sized, Step};
+use wire::{Counted, Refusal};
 
 // A simple optional: its tag, and the bytes that it takes with its header of one byte; 0 bytes if there is none.
 #[derive(Clone, Copy)]
@@ -44,7 +44,14 @@ fn none() -> Found
 
 // A value of type row t in the declared bytes of the form of number f, which it uses up: how many bytes it has, and the bytes taken.
 // A string with its own size is read once; a value that may be any bytes needs as many as its type has.
-fn used_up(table: &[u8], begin: usize, shapes: &[u8; 256], t: usize, s: &[u8], f: usize) -> Sized
+fn used_up(
+    table: &[u8],
+    begin: usize,
+    shapes: &[u8; 256],
+    t: usize,
+    s: &[u8],
+    f: usize,
+) -> Result<Counted, Refusal>
     requires begin_value { begin ≡ types_at table.now }
     requires shapes_value { shapes.now ≡ shapes_of table.now }
     ensures { result ≡ bytes_of (inside (part (form_named f)) (bytes (value (ty_of table.now t))) s.now) }
@@ -54,30 +61,23 @@ fn used_up(table: &[u8], begin: usize, shapes: &[u8; 256], t: usize, s: &[u8], f
             return optional::extents::whole(text::read_string(s));
         }
     }
-    let p = optional::extents::part(s, f);
-    match p {
-        Sized::Is(n, e) => {
-            let w = shapes::width(shapes, t);
-            if 0 < w {
-                if w == n {
-                    return Sized::Is(n, e);
-                }
-            }
-            let a = e - n;
-            let step = value::read_value(table, begin, shapes, t, &s[a..e], false);
-            match step {
-                Step::Took(m) => {
-                    if m == n {
-                        Sized::Is(n, e)
-                    } else {
-                        Sized::Isnt(11, 0)
-                    }
-                }
-                Step::Fault(c, q) => Sized::Isnt(c, a + q),
-            }
+    let part = optional::extents::part(s, f)?;
+    let w = shapes::width(shapes, t);
+    if 0 < w {
+        if w == part.number {
+            return Ok(part);
         }
-        Sized::Isnt(c, q) => Sized::Isnt(c, q),
     }
+    let start = part.bytes - part.number;
+    let value = value::read_value(table, begin, shapes, t, &s[start..part.bytes], false);
+    let end = wire::later(start, value)?;
+    if end != part.bytes {
+        return Err(Refusal {
+            number: 11,
+            place: 0,
+        });
+    }
+    Ok(part)
 }
 
 // The next optional: a known value in its declared bytes, or a skipped one. Its tag is at least `least`, and is looked up among the member rows from `from` up to `end`; `begin` is where the type rows begin, `first` where the member rows do.
@@ -90,30 +90,33 @@ pub fn optional(
     from: usize,
     least: usize,
     s: &[u8],
-) -> Optional
+) -> Result<Optional, Refusal>
     requires begin_value { begin ≡ types_at table.now }
     requires first_value { (first ≡ members_at table.now) × (first < 1048576) }
     requires shapes_value { shapes.now ≡ shapes_of table.now }
     requires end_bound { end ≤ 131072 }
     ensures { result ≡ optional_answer (optional_from table.now end from) (next_optional (optional_from table.now end from) least s.now) }
 {
-    let h = optional::headers::header(table, first, shapes, end, from, least, s);
-    match h {
-        Head::Known(m, ty, tag, n, f) => {
-            let p = used_up(table, begin, shapes, ty, &s[n..], f);
-            match p {
-                Sized::Is(l, e) => Optional::Known(m, tag, n + (e - l), n + e),
-                Sized::Isnt(c, q) => Optional::Wrong(c, n + q),
+    let header = optional::headers::header(table, first, shapes, end, from, least, s)?;
+    match header {
+        Head::Known(member, ty, tag, head, form) => {
+            match used_up(table, begin, shapes, ty, &s[head..], form) {
+                Ok(value) => Ok(Optional::Known {
+                    member,
+                    tag,
+                    start: head + (value.bytes - value.number),
+                    bytes: head + value.bytes,
+                }),
+                Err(refusal) => Err(refusal.behind(head)),
             }
         }
-        Head::Unknown(tag, k, n) => {
-            let p = optional::extents::extent(&s[n..], k);
-            match p {
-                Sized::Is(l, e) => Optional::Skipped(tag, n + e),
-                Sized::Isnt(c, q) => Optional::Wrong(c, n + q),
-            }
-        }
-        Head::Wrong(c, p) => Optional::Wrong(c, p),
+        Head::Unknown(tag, bits, head) => match optional::extents::extent(&s[head..], bits) {
+            Ok(value) => Ok(Optional::Skipped {
+                tag,
+                bytes: head + value.bytes,
+            }),
+            Err(refusal) => Err(refusal.behind(head)),
+        },
     }
 }
 

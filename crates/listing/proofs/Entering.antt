@@ -2,7 +2,7 @@
 --
 --   five_put                      five numbers put one after another
 --   entry_put                     a difference in its own bytes of the list
---   put_here, put_past            listed where there is room, and where there is none
+--   put_here, put_as, put_past    listed where there is room, and where there is none
 use mathlib.Core.Path.{◌≡◌, sym, ap, ◌∙◌}
 use mathlib.Core.List.{List, [], ◌∷◌, ◌++◌, append_assoc, append-nil}
 use Prim.Native.Nat.{ℕ, ◌+◌, ◌-◌, ◌*◌, ◌/◌, ◌≤◌}
@@ -62,3 +62,6 @@ module _ (x : Difference) (n : ℕ) (out : List ℕ) where
 
   pub put_past : length out / 20 ≤ n → Listed (x ∷ []) n out out (n + 1)
   put_past h = listed_one n out x out (sym (put_over (20 * n) (difference_bytes x) out (omega (arith, length_difference x))))
+
+pub put_as : (w v o p m k n : ℕ) (out last : List ℕ) → w ≡ v → last ≡ put (20 * n) (difference_bytes (five_of w o p m k)) out → Listed (five_of v o p m k ∷ []) n out last (n + 1)
+put_as w v o p m k n out last e h = put_here (five_of v o p m k) n out last (rw e at h)

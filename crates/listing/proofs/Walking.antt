@@ -8,54 +8,57 @@
 --   differ_.., bases_..           the bases
 --   owner_.., pair_..             two owners, a pair of rows
 use mathlib.Core.Path.{◌≡◌, refl, sym, ap, ap₂, ◌∙◌}
-use mathlib.Core.Bool.{Bool, true, false, not}
+use mathlib.Core.Bool.{Bool, true, false, not, true≢false}
 use mathlib.Core.List.{List, [], ◌∷◌, ◌++◌}
 use Prim.Native.Nat.{ℕ, zero, suc, ◌+◌, ◌-◌, ◌≤◌, ◌<◌}
 use native.Mathlib.Numerals.{add-one}
 use native.Mathlib.Omega.{arith}
-use lib.ListN.{length, drop, get_or, length-append, drop_of_length-le}
-use lib.Seq.{drop-cons}
+use lib.ListN.{length, take, drop, get_or, length-append, length-drop, drop_of_length-le}
+use lib.Seq.{drop-cons, take-length}
 use lib.Dec.{eqb}
-use borrow.Author.Tests.{eq-eqb, ne_eqb}
-use Rattle.encoding.specs.Result.{pick, same_bytes}
-use Rattle.encoding.specs.Table.{field, range, trees, member_ty, lookup, own_rows, optional_members, name_of, base}
-use Rattle.table.specs.declared.MemberRow.{MemberRow}
-use Rattle.table.specs.Rows.{IsMemberRow}
-use Rattle.table.proofs.Ranges.{range_more, range_none}
-use Rattle.differences.specs.Compare.{same_ty, those, paired, Difference, given, member_row, member_differences, required_differences, optional_differences, tags_of, bases_differ, base_difference, owner_differences, pair_differences}
-use Rattle.listing.specs.Listing.{Listed, Listing, agree_rows, member_difference, is_required, head_row, next_of, follow_of, left_of, row_differences, tag_difference, FewMembers}
-use Rattle.listing.specs.ListingLaws.{listed_none, listed_more, listed_as, listing_begin, listing_end, listing_next, left_all, left_falls, paired_none, paired_next, required_is, tags_next, tags_none}
+use borrow.Author.Tests.{ne_eqb}
+use Rattle.std.proofs.Common.{Option, None, Some}
+use Rattle.std.specs.Option.{is_some}
+use Rattle.encoding.specs.Result.{same_bytes}
+use Rattle.encoding.specs.Table.{field, mark, range, search as find, trees, member_ty, lookup, own_rows, optional_members, name_of, base}
+use Rattle.differences.specs.Compare.{same_ty, row_or_none, paired, Difference, given, member_row, member_differences, required_differences, optional_differences, tags_of, bases_differ, base_difference, owner_differences, pair_differences}
+use Rattle.ordering.specs.Ordering.{row_number}
+use Rattle.listing.specs.Listing.{Listed, Listing, agree_rows, member_difference, is_required, next_of, follow_of, left_of, row_differences, tag_difference, FewMembers}
+use Rattle.listing.specs.ListingLaws.{next_found, listed_none, listed_more, listed_as, listing_begin, listing_end, listing_next, left_all, left_falls, paired_none, paired_next, required_is, tags_next, tags_none}
 
 module _ (S T : List ℕ) where
   -- ---- two member rows
 
-  module _ (m k : ℕ) where
-    pub agree_none : m ≡ 0 → eqb k 0 ≡ agree_rows S T m k
+  module _ (m k : Option ℕ) where
+    pub agree_none : m ≡ None → (r : Bool) → is_some k ≡ not r → r ≡ agree_rows S T (row_number m) (row_number k)
     unfolding agree_rows
-    agree_none e = rw e (go k)
+    agree_none e r h = rw e (go k r h)
       where
-        go : (x : ℕ) → eqb x 0 ≡ agree_rows S T 0 x
-        go zero = refl
-        go (suc x) = ne_eqb (suc x) 0 (λ z. omega arith)
+        go : (o : Option ℕ) (x : Bool) → is_some o ≡ not x → x ≡ agree_rows S T 0 (row_number o)
+        go None true q = refl
+        go None false q = absurd (true≢false (sym q))
+        go (Some u) true q = absurd (true≢false q)
+        go (Some u) false q = refl
 
-    module _ (h : m ≡ 0 → ⊥) where
-      pub agree_one : k ≡ 0 → false ≡ agree_rows S T m k
+    module _ (i : ℕ) (h : m ≡ Some i) where
+      pub agree_one : k ≡ None → false ≡ agree_rows S T (row_number m) (row_number k)
       unfolding agree_rows
-      agree_one e = let z : m ≡ suc (m - 1) = omega arith in rw (z, e)
+      agree_one e = rw (h, e)
 
-      pub agree_both : (k ≡ 0 → ⊥) → (r : Bool) → r ≡ same_ty (member_ty S (trees S) (m - 1)) (member_ty T (trees T) (k - 1)) → r ≡ agree_rows S T m k
+      pub agree_both : (j : ℕ) → k ≡ Some j → (r : Bool) → r ≡ same_ty (member_ty S (trees S) i) (member_ty T (trees T) j) → r ≡ agree_rows S T (row_number m) (row_number k)
       unfolding agree_rows
-      agree_both l r e = let z : m ≡ suc (m - 1) = omega arith in let y : k ≡ suc (k - 1) = omega arith in e ∙ sym (ap₂ (agree_rows S T) z y)
+      agree_both j l r e = rw (h, l) e
 
+  module _ (m k : ℕ) where
     module _ (what t u n : ℕ) (out : List ℕ) (b : Bool) (e : b ≡ agree_rows S T m k) where
       pub member_same : b ≡ true → Listed (member_difference S T what t u m k) n out out n
       unfolding member_difference given
       member_same q = rw (← e, q) (listed_none n out)
 
-      pub member_differs : b ≡ false → (last : List ℕ) (r : ℕ) → Listed (record { what = what; owner = t + 1; owner' = u + 1; member = m; member' = k } ∷ []) n out last r
+      pub member_differs : b ≡ false → (x y : ℕ) → x ≡ m → y ≡ k → (last : List ℕ) (r : ℕ) → Listed (record { what = what; owner = t + 1; owner' = u + 1; member = x; member' = y } ∷ []) n out last r
           → Listed (member_difference S T what t u m k) n out last r
       unfolding member_difference given
-      member_differs q last r A = listed_as n out _ _ (rw (← e, q, add-one, add-one)) last r A
+      member_differs q x y ex ey last r A = listed_as n out _ _ (rw (← e, q, ex, ey, add-one, add-one)) last r A
 
   -- ---- the bases
 
@@ -101,31 +104,31 @@ module _ (S T : List ℕ) where
     abbrev pub by_tags : List ℕ → List Difference
     by_tags gs = member_differences 3 t u (optional_members S t) (optional_members T u) gs
 
-    pub tags_begin : (tags : List ℕ) (s : ℕ) → Listing (by_tags (drop s tags)) n out (by_tags (drop s tags)) n out
-    tags_begin tags s = listing_begin (by_tags (drop s tags)) n out _ refl
+    pub tags_begin : (tags : List ℕ) → Listing (by_tags tags) n out (by_tags (drop 0 tags)) n out
+    tags_begin tags = listing_begin (by_tags tags) n out _ refl
 
-    module _ (tags : List ℕ) (e : length tags ≡ 2048) (s i : ℕ) (l : List ℕ) (j : ℕ) (R : Listing (by_tags (drop s tags)) n out (by_tags (drop j tags)) i l) where
-      pub tags_below : n + length (by_tags (drop s tags)) < 4294967296 → i < 4294967296
+    module _ (tags : List ℕ) (i : ℕ) (l : List ℕ) (j : ℕ) (R : Listing (by_tags tags) n out (by_tags (drop j tags)) i l) where
+      pub tags_below : n + length (by_tags tags) < 4294967296 → i < 4294967296
       tags_below h = omega (arith, R.count)
 
-      pub tags_step : j < 2048 → (last : List ℕ) (r : ℕ) → Listed (tag_difference S T t u (get_or tags j 0)) i l last r
-          → Listing (by_tags (drop s tags)) n out (by_tags (drop (j + 1) tags)) r last
+      pub tags_step : j < length tags → (last : List ℕ) (r : ℕ) → Listed (tag_difference S T t u (get_or tags j 0)) i l last r
+          → Listing (by_tags tags) n out (by_tags (drop (j + 1) tags)) r last
       tags_step h last r A =
-          listing_next (by_tags (drop s tags)) n out (by_tags (drop j tags)) i l R (tag_difference S T t u (get_or tags j 0)) (by_tags (drop (j + 1) tags))
+          listing_next (by_tags tags) n out (by_tags (drop j tags)) i l R (tag_difference S T t u (get_or tags j 0)) (by_tags (drop (j + 1) tags))
           (ap by_tags (drop-cons tags j 0 (omega arith)) ∙ tags_next S T t u (get_or tags j 0) (drop (suc j) tags) ∙ rw add-one) r last A
 
-      pub tags_end : 2048 ≤ j → Listed (by_tags (drop s tags)) n out l i
-      tags_end h = listing_end (by_tags (drop s tags)) n out (by_tags (drop j tags)) i l R (ap by_tags (drop_of_length-le tags {i = j} (omega arith)) ∙ tags_none S T t u)
+      pub tags_end : length tags ≤ j → Listed (by_tags tags) n out l i
+      tags_end h = listing_end (by_tags tags) n out (by_tags (drop j tags)) i l R (ap by_tags (drop_of_length-le tags {i = j} (omega arith)) ∙ tags_none S T t u)
 
-    module _ (gs : List ℕ) (e : gs ≡ tags_of (optional_members S t) (optional_members T u)) where
-      optional_are : by_tags gs ≡ optional_differences S T t u
+    module _ (tags : List ℕ) (s : ℕ) (z : length tags ≡ 2048) (e : drop s tags ≡ tags_of (optional_members S t) (optional_members T u)) where
+      optional_are : by_tags (take (2048 - s) (drop s tags)) ≡ optional_differences S T t u
       unfolding optional_differences
-      optional_are = ap by_tags e
+      optional_are = let y : 2048 - s ≡ length (drop s tags) = omega (arith, length-drop s tags) in ap by_tags (rw (y, take-length (drop s tags)) e)
 
-      pub optional_few : n + length (optional_differences S T t u) < 4294967296 → n + length (by_tags gs) < 4294967296
+      pub optional_few : n + length (optional_differences S T t u) < 4294967296 → n + length (by_tags (take (2048 - s) (drop s tags))) < 4294967296
       optional_few h = omega (arith, ap length optional_are)
 
-      pub optional_listed : (last : List ℕ) (r : ℕ) → Listed (by_tags gs) n out last r → Listed (optional_differences S T t u) n out last r
+      pub optional_listed : (last : List ℕ) (r : ℕ) → Listed (by_tags (take (2048 - s) (drop s tags))) n out last r → Listed (optional_differences S T t u) n out last r
       optional_listed last r A = listed_as n out _ _ optional_are last r A
 
   -- ---- two owners
@@ -154,64 +157,52 @@ module _ (S T : List ℕ) where
             listed_more n out (base_difference S T t u ++ required_differences S T t u) (optional_differences S T t u) l' last j r
             (listed_more n out (base_difference S T t u) (required_differences S T t u) l l' i j A B) C
 
-  module _ (o p n : ℕ) (out last : List ℕ) (r : ℕ) where
-    pub pair_new : o ≡ 0 → Listed (record { what = 0; owner = 0; owner' = p; member = 0; member' = 0 } ∷ []) n out last r → Listed (pair_differences S T o p) n out last r
+  module _ (o p : Option ℕ) (n : ℕ) (out last : List ℕ) (r : ℕ) where
+    pub pair_new : o ≡ None → (x : ℕ) → x ≡ row_number p → Listed (record { what = 0; owner = 0; owner' = x; member = 0; member' = 0 } ∷ []) n out last r
+        → Listed (pair_differences S T (row_number o) (row_number p)) n out last r
     unfolding pair_differences
-    pair_new e A = rw e A
+    pair_new e x ex A = listed_as n out _ _ (rw (e, ex)) last r A
 
-    module _ (h : o ≡ 0 → ⊥) where
-      pub pair_old : p ≡ 0 → Listed (record { what = 0; owner = o; owner' = 0; member = 0; member' = 0 } ∷ []) n out last r → Listed (pair_differences S T o p) n out last r
+    module _ (t : ℕ) (h : o ≡ Some t) where
+      pub pair_old : p ≡ None → Listed (record { what = 0; owner = t + 1; owner' = 0; member = 0; member' = 0 } ∷ []) n out last r
+          → Listed (pair_differences S T (row_number o) (row_number p)) n out last r
       unfolding pair_differences
-      pair_old e A = let z : o ≡ suc (o - 1) = omega arith in listed_as n out _ _ (rw (e, z)) last r A
+      pair_old e A = listed_as n out _ _ (rw (h, e, add-one)) last r A
 
-      pair_are : (p ≡ 0 → ⊥) → owner_differences S T (o - 1) (p - 1) ≡ pair_differences S T o p
-      unfolding pair_differences
-      pair_are l = let z : o ≡ suc (o - 1) = omega arith in let y : p ≡ suc (p - 1) = omega arith in sym (ap₂ (pair_differences S T) z y)
+      module _ (u : ℕ) (l : p ≡ Some u) where
+        pair_are : owner_differences S T t u ≡ pair_differences S T (row_number o) (row_number p)
+        unfolding pair_differences
+        pair_are = rw (h, l)
 
-      pub pair_few : (p ≡ 0 → ⊥) → n + length (pair_differences S T o p) < 4294967296 → n + length (owner_differences S T (o - 1) (p - 1)) < 4294967296
-      pair_few l k = omega (arith, ap length (pair_are l))
+        pub pair_few : n + length (pair_differences S T (row_number o) (row_number p)) < 4294967296 → n + length (owner_differences S T t u) < 4294967296
+        pair_few k = omega (arith, ap length pair_are)
 
-      pub pair_both : (p ≡ 0 → ⊥) → Listed (owner_differences S T (o - 1) (p - 1)) n out last r → Listed (pair_differences S T o p) n out last r
-      pair_both l A = listed_as n out _ _ (pair_are l) last r A
+        pub pair_both : Listed (owner_differences S T t u) n out last r → Listed (pair_differences S T (row_number o) (row_number p)) n out last r
+        pair_both A = listed_as n out _ _ pair_are last r A
 
-pub few_members : (T : List ℕ) (o : ℕ) → FewMembers T o → (o ≡ 0 → ⊥) → field T (o - 1) 1 ≤ 1024
-few_members T o F h = F (omega arith)
+pub few_members : (T : List ℕ) (o : Option ℕ) (t : ℕ) → o ≡ Some t → FewMembers T (row_number o) → field T t 1 ≤ 1024
+few_members T o t h F = go (rw h at F)
+  where
+    go : FewMembers T (suc t) → field T t 1 ≤ 1024
+    go G = let z : suc t - 1 ≡ t = omega arith in rw z at (G (omega arith))
 
 -- ---- a required member looked for
 
-module _ (T : List ℕ) (m end : ℕ) where
-  abbrev pub Next : ℕ → Type 0
-  Next i = next_of (is_required T) m end ≡ next_of (is_required T) i end
+pub required_mark : (T : List ℕ) (m k : ℕ) → k ≡ mark T m → eqb k 0 ≡ is_required T m
+unfolding is_required
+required_mark T m k e = ap (λ (x : ℕ). eqb x 0) e
 
-  module _ (i : ℕ) (inv : Next i) where
-    pub next_end : end ≤ i → 0 ≡ next_of (is_required T) m end
-    unfolding next_of head_row those
-    next_end h = sym (inv ∙ rw (range_none i end h))
+pub next_first : (T : List ℕ) (t end x r : ℕ) → x ≡ field T t 0 → r ≡ row_or_none (find (is_required T) (range x (end - x))) → r ≡ next_of (is_required T) (field T t 0) end
+next_first T t end x r ex e = next_found (is_required T) x end r e ∙ ap (λ (y : ℕ). next_of (is_required T) y end) ex
 
-    module _ (h : i < end) (r : MemberRow) (e : IsMemberRow T i r) where
-      next_more : next_of (is_required T) m end ≡ head_row (pick (eqb r.mark 0) (i ∷ those (is_required T) (range (i + 1) (end - (i + 1)))) (those (is_required T) (range (i + 1) (end - (i + 1)))))
-      unfolding next_of those is_required
-      next_more = inv ∙ rw (range_more i end h, e.mark_is)
-
-      pub next_here : r.mark ≡ 0 → i + 1 ≡ next_of (is_required T) m end
-      unfolding head_row
-      next_here q = sym (next_more ∙ rw (eq-eqb r.mark 0 q, add-one))
-
-      pub next_step : (r.mark ≡ 0 → ⊥) → Next (i + 1)
-      unfolding next_of
-      next_step q = next_more ∙ rw (ne_eqb r.mark 0 q)
-
-pub next_first : (T : List ℕ) (t end x r : ℕ) → x ≡ field T t 0 → r ≡ next_of (is_required T) x end → r ≡ next_of (is_required T) (field T t 0) end
-next_first T t end x r ex e = e ∙ ap (λ (y : ℕ). next_of (is_required T) y end) ex
-
-module _ (T : List ℕ) (a end : ℕ) where
-  pub follow_none : a ≡ 0 → 0 ≡ follow_of (is_required T) a end
+module _ (f : ℕ → Bool) (a : Option ℕ) (end : ℕ) where
+  pub follow_none : a ≡ None → 0 ≡ follow_of f (row_number a) end
   unfolding follow_of
   follow_none e = rw e
 
-  pub follow_next : (a ≡ 0 → ⊥) → (r : ℕ) → r ≡ next_of (is_required T) a end → r ≡ follow_of (is_required T) a end
+  pub follow_next : (x : ℕ) → a ≡ Some x → (r : ℕ) → r ≡ row_or_none (find f (range (x + 1) (end - (x + 1)))) → r ≡ follow_of f (row_number a) end
   unfolding follow_of
-  follow_next h r e = let z : a ≡ suc (a - 1) = omega arith in e ∙ ap (λ (x : ℕ). next_of (is_required T) x end) z ∙ ap (λ (x : ℕ). follow_of (is_required T) x end) (sym z)
+  follow_next x h r e = rw h (next_found f (suc x) end r (rw add-one at e))
 
 -- ---- required members
 

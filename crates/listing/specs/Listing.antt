@@ -1,5 +1,6 @@
 -- Differences put into a lent list one after another, and the rows of two lists set against each other.
 --
+--   what_number w            the number of what a difference is of
 --   enter k ds out           out with the differences ds from entry k on, those that fit
 --   Listed ds n out last r   what a function answers that lists ds from entry n on: the list, and the entry after them
 --   Listing .. rest i l      a loop that lists: what is left makes the whole
@@ -14,7 +15,15 @@
 use Rattle.std.specs.Prelude.{ℕ, zero, suc, ◌+◌, ◌-◌, ◌*◌, ◌≤◌, ◌<◌, ◌≡◌, Bool, true, false, not, List, [], ◌∷◌, ◌++◌, length, eqb}
 use Rattle.encoding.specs.Table.{kind, field, mark, range, trees, member_ty, lookup, optional_members}
 use Rattle.wire.specs.Put.{put}
+use Rattle.listing.specs.declared.entries.What.{What}
+use Rattle.listing.specs.declared.entries.What.TheVariants.{Owner, Base, Required, Optional}
 use Rattle.differences.specs.Compare.{same_ty, those, Pair, Difference, given, member_row, difference_bytes}
+
+abbrev pub what_number : What → ℕ
+what_number Owner = 0
+what_number Base = 1
+what_number Required = 2
+what_number Optional = 3
 
 unfoldable pub enter : ℕ → List Difference → List ℕ → List ℕ
 enter k [] out = out

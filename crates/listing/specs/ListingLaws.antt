@@ -3,6 +3,8 @@
 --   listed_..               none, one, some after others
 --   enter_listed            where all fit: their bytes one after another, and the rest as it was
 --   listing_..              a loop that lists
+--   any_some, any_none      one row or the other, or neither
+--   next_found              the first row that passes, looked for
 --   left_all, left_follow, left_none, left_falls    the rows left, from one on
 --   paired_..               two lists of rows set against each other, one pair after another
 --   required_is             the differences of required members, pair by pair
@@ -20,14 +22,17 @@ use native.Mathlib.Omega.{arith}
 use Rattle.std.proofs.Math.ListN.{length, length-append}
 use Rattle.std.proofs.Math.Dec.{eqb}
 use Rattle.std.proofs.lemmas.Bool.{lt-leb}
+use borrow.Author.Tests.{ltb-true, ltb-false}
+use Rattle.std.specs.Prelude.{Option as Row}
+use Rattle.ordering.specs.Ordering.{row_number}
 use Rattle.encoding.specs.Result.{pick, concat}
 use Rattle.encoding.proofs.NumberLaws.{length_le_bytes}
 use Rattle.encoding.specs.Number.{le_bytes}
 use Rattle.encoding.proofs.RuleLaws.{length_range, own_sum}
-use Rattle.encoding.specs.Table.{field, mark, tag, range, trees, member_ty, Member, lookup, requireds_in, optionals_in, own_rows, required_members, optional_members}
+use Rattle.encoding.specs.Table.{field, mark, tag, range, search as find, trees, member_ty, Member, lookup, requireds_in, optionals_in, own_rows, required_members, optional_members}
 use Rattle.wire.specs.Put.{put}
 use Rattle.wire.specs.PutLaws.{put_length, put_none, put_put, put_front}
-use Rattle.differences.specs.Compare.{same_ty, insert, ordered, those, paired, Difference, given, agree, member_row, member_differences, longer, required_differences, is_there, keys, keys_without, optional_differences, tags_of, required_match, difference_bytes}
+use Rattle.differences.specs.Compare.{same_ty, insert, ordered, those, row_or_none, paired, Difference, given, agree, member_row, member_differences, longer, required_differences, is_there, keys, keys_without, optional_differences, tags_of, required_match, difference_bytes}
 use Rattle.listing.specs.Listing.{enter, Listed, Listing, agree_rows, member_difference, is_required, head_row, next_of, follow_of, left_of, row_differences, tag_difference}
 
 -- ---- differences in a list
@@ -118,6 +123,28 @@ module _ (ds : List Difference) (n : ℕ) (out : List ℕ) where
 -- ---- rows
 
 -- the rows that pass, from the first of them on
+-- there is one row or the other exactly if the sum of their numbers is not 0
+module _ (a b : Row ℕ) (r : Bool) (e : r ≡ ltb 0 (row_number a + row_number b)) where
+  pub any_some : r ≡ true → 0 < row_number a + row_number b
+  any_some q = ltb-true 0 (row_number a + row_number b) (sym e ∙ q)
+
+  pub any_none : r ≡ false → row_number a + row_number b ≤ 0
+  any_none q = ltb-false 0 (row_number a + row_number b) (sym e ∙ q)
+
+head_find : (f : ℕ → Bool) (l : List ℕ) → row_or_none (find f l) ≡ head_row (those f l)
+unfolding find row_or_none head_row those
+head_find f [] = refl
+head_find f (i ∷ l) = go (f i) (head_find f l)
+  where
+    go : (b : Bool) → row_or_none (find f l) ≡ head_row (those f l) → row_or_none (pick b (some i) (find f l)) ≡ head_row (pick b (i ∷ those f l) (those f l))
+    go true e = refl
+    go false e = e
+
+-- the first row that is found
+pub next_found : (f : ℕ → Bool) (m end r : ℕ) → r ≡ row_or_none (find f (range m (end - m))) → r ≡ next_of f m end
+unfolding next_of
+next_found f m end r e = e ∙ head_find f (range m (end - m))
+
 head_left : (f : ℕ → Bool) (n m end : ℕ) → n ≡ end - m → left_of f (head_row (those f (range m n))) end ≡ those f (range m n)
 unfolding left_of head_row those range
 head_left f zero m end e = refl

@@ -2,7 +2,7 @@
 ghost use Rattle.std.specs.Prelude.{◌≡◌, [], ◌∷◌, ◌+◌, ◌*◌, ◌≤◌, ◌<◌, length};
 ghost use Rattle.wire.specs.Put.{put};
 ghost use Rattle.differences.specs.Compare.{difference_bytes};
-ghost use Rattle.listing.specs.Listing.{Listed};
+ghost use Rattle.listing.specs.Listing.{Listed, what_number};
 
 // Puts the five numbers into the difference's own 20 bytes.
 fn put_five(entry: &mut [u8], what: usize, owner: usize, other: usize, member: usize, mate: usize)
@@ -33,21 +33,42 @@ fn put_entry(
     put_five(&mut list[a..a + 20], what, owner, other, member, mate);
 }
 
+// What a difference is of.
+#[derive(Clone, Copy)]
+pub enum What {
+    Owner,
+    Base,
+    Required,
+    Optional,
+}
+
+// Its number in a difference.
+fn number_of(what: What) -> usize
+    ensures { result ≡ what_number what }
+{
+    match what {
+        What::Owner => 0,
+        What::Base => 1,
+        What::Required => 2,
+        What::Optional => 3,
+    }
+}
+
 // Lists one difference.
 pub fn put_difference(
     list: &mut [u8],
     n: usize,
-    what: usize,
+    what: What,
     owner: usize,
     other: usize,
     member: usize,
     mate: usize,
 ) -> usize
     requires { n < 4294967296 }
-    ensures { Listed (record { what = what; owner = owner; owner' = other; member = member; member' = mate } ∷ []) n list.old list.new result }
+    ensures { Listed (record { what = what_number what; owner = owner; owner' = other; member = member; member' = mate } ∷ []) n list.old list.new result }
 {
     if n < list.len() / 20 {
-        put_entry(list, n, what, owner, other, member, mate);
+        put_entry(list, n, number_of(what), owner, other, member, mate);
         return n + 1;
     }
     n + 1

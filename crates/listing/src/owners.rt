@@ -3,9 +3,12 @@ ghost use Rattle.std.specs.Prelude.{◌≡◌, ◌+◌, ◌≤◌, ◌<◌, leng
 ghost use Rattle.encoding.specs.Table.{types_at, field};
 ghost use Rattle.agreeing.specs.Agreeing.{Agreed};
 ghost use Rattle.differences.specs.Compare.{bases_differ, base_difference, owner_differences, pair_differences};
+ghost use Rattle.ordering.specs.Ordering.{row_number};
 ghost use Rattle.listing.specs.Listing.{Listed, FewMembers};
 
+use crate::entries::What;
 use crate::{entries, members};
+use ordering::rows::number;
 
 // One base row + 1, or 0 for none, is there and the other not, or their names differ.
 fn bases_differ(old: &[u8], begin: usize, new: &[u8], start: usize, b: usize, c: usize) -> bool
@@ -39,7 +42,7 @@ fn bases(
     let b = table::chain::base(old, begin, t);
     let c = table::chain::base(new, start, u);
     if bases_differ(old, begin, new, start, b, c) {
-        return entries::put_difference(list, n, 1, t + 1, u + 1, 0, 0);
+        return entries::put_difference(list, n, What::Base, t + 1, u + 1, 0, 0);
     }
     n
 }
@@ -69,7 +72,7 @@ fn owners(
     members::optionals(old, begin, new, start, cells, tags, t, u, list, j)
 }
 
-// Lists the differences of a pair of rows, each + 1 or 0 for none. The array is used for tags.
+// Lists the differences of a pair of rows, of which one may be missing. The array is used for tags.
 pub fn pair(
     old: &[u8],
     begin: usize,
@@ -77,23 +80,23 @@ pub fn pair(
     start: usize,
     cells: &[usize; 514],
     tags: &mut [usize; 2048],
-    o: usize,
-    p: usize,
+    o: Option<usize>,
+    p: Option<usize>,
     list: &mut [u8],
     n: usize,
 ) -> usize
     requires begin_value { (begin ≡ types_at old.now) × (start ≡ types_at new.now) }
     requires agreed { Agreed old.now new.now cells.now }
-    requires o_bound { (o ≤ 65536) × (p ≤ 65536) × (length tags.old ≡ 2048) × FewMembers old.now o × FewMembers new.now p }
-    requires p_bound { n + length (pair_differences old.now new.now o p) < 4294967296 }
-    ensures listed { Listed (pair_differences old.now new.now o p) n list.old list.new result }
+    requires o_bound { (row_number o ≤ 65536) × (row_number p ≤ 65536) × (length tags.old ≡ 2048) × FewMembers old.now (row_number o) × FewMembers new.now (row_number p) }
+    requires p_bound { n + length (pair_differences old.now new.now (row_number o) (row_number p)) < 4294967296 }
+    ensures listed { Listed (pair_differences old.now new.now (row_number o) (row_number p)) n list.old list.new result }
     ensures tags_len { length tags.new ≡ 2048 }
 {
-    if o == 0 {
-        return entries::put_difference(list, n, 0, 0, p, 0, 0);
+    match o {
+        Some(t) => match p {
+            Some(u) => owners(old, begin, new, start, cells, tags, t, u, list, n),
+            None => entries::put_difference(list, n, What::Owner, t + 1, 0, 0, 0),
+        },
+        None => entries::put_difference(list, n, What::Owner, 0, number(p), 0, 0),
     }
-    if p == 0 {
-        return entries::put_difference(list, n, 0, o, 0, 0, 0);
-    }
-    owners(old, begin, new, start, cells, tags, o - 1, p - 1, list, n)
 }

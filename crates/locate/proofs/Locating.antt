@@ -3,225 +3,239 @@
 --   counted_.., referenced_.., generals_..   the general parameters, one reader after another
 --   passed_..         the endpoints before the wanted one, then that one
 --   spot_..           by the number of endpoints
---   at_..             3, the proxy's own refusals, 18
---   near_.., three_put, put_.., room_at, roomy_at   22 last; the three numbers
+--   at_..             3, the proxy's own refusals, 18; then the answer, whose numbers fit
+--   near_.., put_.., room_at, roomy_at   22 last; the three numbers
 use mathlib.Core.Path.{◌≡◌, refl, sym, ap, ◌∙◌, subst}
 use mathlib.Core.Bool.{Bool, true, false}
-use mathlib.Core.List.{List, ◌++◌}
+use mathlib.Core.List.{List, [], ◌∷◌, ◌++◌, append_assoc, append-nil}
 use Prim.Native.Nat.{ℕ, ◌+◌, ◌-◌, ◌^◌, ◌≤◌, ◌<◌}
 use native.Mathlib.Omega.{arith}
 use native.Mathlib.Nat.{add-zero}
-use lib.ListN.{length, take, drop, length-append, length-drop}
+use lib.ListN.{length, take, drop, length-drop}
 use lib.Seq.{drop-drop}
-use lib.Dec.{eqb, leb}
-use borrow.Author.Tests.{leb-true, le-leb, lt-leb, lt-ltb, le-ltb, ne_eqb}
-use mir.Syntax.{w64}
+use lib.Dec.{eqb, leb, ltb}
+use borrow.Author.Tests.{leb-true, ltb-false, le-leb, lt-leb, lt-ltb, le-ltb, ne_eqb}
+use mir.Syntax.{w32}
 use mir.Val.{Fits}
-use Rattle.encoding.specs.Result.{ok, bad, Parser, pick, shift, after, ◌>>=◌, pure, chunk, skip, made, mapc, times, first_of}
-use Rattle.encoding.proofs.ResultLaws.{Bound, bind_ok, pure_ok, Held, held_took, held_refused, held_times}
-use Rattle.encoding.specs.Number.{size, le_bytes}
-use Rattle.encoding.proofs.NumberLaws.{held_size, length_le_bytes}
+use Rattle.encoding.specs.Result.{Res, ok, bad, Parser, pick, shift, after, ◌>>=◌, pure, chunk, skip, made, mapc, times, first_of, concat}
+use Rattle.encoding.proofs.ResultLaws.{Bound, bind_ok, pure_ok, Lies, Held, held_bind, held_took, held_refused, held_times}
+use Rattle.encoding.specs.Number.{size}
+use Rattle.encoding.proofs.NumberLaws.{held_size}
 use Rattle.encoding.specs.Types.{proxy as proxy-type}
 use Rattle.encoding.specs.Value.{value}
 use Rattle.encoding.proofs.ValueLaws.{held_value, held_endpoint}
 use Rattle.encoding.specs.Proxy.{facets, endpoint, proxy}
-use Rattle.encoding.specs.Message.{limit, refused_first}
-use Rattle.wire.specs.declared.Step.{Step}
-use Rattle.wire.specs.declared.Step.TheVariants.{Took, Fault}
-use Rattle.wire.specs.declared.Sized.{Sized}
-use Rattle.wire.specs.declared.Sized.TheVariants.{Is, Isnt}
-use Rattle.wire.specs.Steps.{step_of, sized_of}
+use Rattle.encoding.specs.Message.{ended, limit, refused_first}
+use Rattle.std.specs.Prelude.{Result, Ok, Err}
+use Rattle.wire.specs.declared.Refusal.{Refusal}
+use Rattle.wire.specs.declared.Counted.{Counted}
+use Rattle.wire.specs.Steps.{step_of, sized_of, refused, counted as read, behind, later, LaterFits}
 use Rattle.wire.specs.StepLaws.{rest_is, step_took, step_fault, sized_is, sized_isnt, sized_held}
+use Rattle.wire.proofs.Sums.{later_fits}
 use Rattle.wire.specs.SizeLaws.{size_below}
-use Rattle.wire.specs.Put.{put}
-use Rattle.wire.specs.PutLaws.{put_front}
 use Rattle.proxy.specs.Parts.{named}
 use Rattle.locate.specs.declared.Located.{Located}
 use Rattle.locate.specs.declared.Located.TheVariants.{At, Refused}
-use Rattle.locate.specs.Locate.{counted, referenced, generals, started, apart, placed, spot_at, unless_bad, locating, located_of, three_bytes, located_within, with_located, RoomyAt}
-use Rattle.endpoint.proofs.RefusalLaws.{ended_more, ended_done, told_bad}
+use Rattle.locate.specs.declared.Spot.{Spot as Spotted}
+use Rattle.locate.specs.CountLater.{count_later, CountFits}
+use Rattle.locate.specs.Locate.{Spot, counted, referenced, generals, started, apart, placed, spot_at, unless_bad, locating, spot, spotted, located_of, three_bytes, located_within, with_located, RoomyAt}
+use Rattle.endpoint.proofs.RefusalLaws.{ended_more, ended_done, held_ended, Told, Refuses, refuses_bind, told_bad}
 use Rattle.locate.specs.ProxyRefusals.{held_facets, held_counted, held_referenced, held_named, held_generals, Few, few_endpoint, few_endpoint_list, few_proxy, few_generals}
-use Rattle.endpoint.proofs.Openings.{next_put}
+use Rattle.endpoint.specs.Parts.{int_bytes}
 
 -- ---- one reader, then another that gives a number
 
+count_later_of : (n : ℕ) (r : Res ℕ) → count_later n (sized_of r) ≡ sized_of (shift n r)
+unfolding sized_of shift
+count_later_of n (ok a m) = refl
+count_later_of n (bad c p) = refl
+
 -- an answer about the rest, moved past the k bytes before it
-module _ (p : Parser ℕ) (P : Held p) (s : List ℕ) (k : ℕ) (h : k ≤ length s) (z : Sized) (d : z ≡ sized_of (p (take (length s - k) (drop k s)))) where
+module _ (p : Parser ℕ) (P : Held p) (s : List ℕ) (k : ℕ) (h : k ≤ length s) (z : Result Counted Refusal) (d : z ≡ sized_of (p (take (length s - k) (drop k s)))) where
   rest_of : z ≡ sized_of (p (drop k s))
   rest_of = rw rest_is at d
 
-  moved_is : (n j : ℕ) → z ≡ Is n j → Is n (k + j) ≡ sized_of (shift k (p (drop k s)))
-  unfolding shift sized_of
-  moved_is n j q = rw (sized_is (p (drop k s)) n j (sym q ∙ rest_of))
+  moved_is : count_later k z ≡ sized_of (shift k (p (drop k s)))
+  moved_is = ap (count_later k) rest_of ∙ count_later_of k (p (drop k s))
 
-  moved_isnt : (c q : ℕ) → z ≡ Isnt c q → Isnt c (k + q) ≡ sized_of (shift k (p (drop k s)))
-  unfolding shift sized_of
-  moved_isnt c q i = rw (sized_isnt (p (drop k s)) c q (sym i ∙ rest_of))
-
-  moved_fit : (n j : ℕ) → z ≡ Is n j → length s < 2 ^ 64 → Fits w64 (k + j)
-  moved_fit n j q l = record { fits = omega (arith, h, sized_held p P (drop k s) z rest_of n j q, length-drop k s) }
-
-  moved_bad_fit : (c q : ℕ) → z ≡ Isnt c q → length s < 2 ^ 64 → Fits w64 (k + q)
-  moved_bad_fit c q i l = record { fits = omega (arith, h, held_refused p P (drop k s) (sized_isnt (p (drop k s)) c q (sym i ∙ rest_of)), length-drop k s) }
+  moved_fit : length s < 2 ^ 64 → CountFits k z
+  moved_fit l = go z refl
+    where
+      go : (t : Result Counted Refusal) → z ≡ t → CountFits k t
+      go (Ok x) q = omega (arith, h, sized_held p P (drop k s) z rest_of x q, length-drop k s)
+      go (Err x) q = omega (arith, h, held_refused p P (drop k s) (sized_isnt (p (drop k s)) x (sym q ∙ rest_of)), length-drop k s)
 
 -- ---- the count, after six bytes
 
-pub counted_cut : (s : List ℕ) → length s < 6 → Isnt 4 0 ≡ sized_of (counted s)
+pub counted_cut : (s : List ℕ) → length s < 6 → refused 4 0 ≡ sized_of (counted s)
 unfolding counted skip chunk ◌>>=◌ after sized_of
 counted_cut s h = rw (lt-leb 6 (length s) h)
 
-module _ (s : List ℕ) (h : 6 ≤ length s) (z : Sized) (d : z ≡ sized_of (size (take (length s - 6) (drop 6 s)))) where
+module _ (s : List ℕ) (h : 6 ≤ length s) (z : Result Counted Refusal) (d : z ≡ sized_of (size (take (length s - 6) (drop 6 s)))) where
   six : counted s ≡ shift 6 (size (drop 6 s))
   unfolding counted skip chunk ◌>>=◌ after
   six = rw (le-leb 6 (length s) h)
 
-  pub counted_fit : (n j : ℕ) → z ≡ Is n j → length s < 2 ^ 64 → Fits w64 (6 + j)
+  pub counted_fit : length s < 2 ^ 64 → CountFits 6 z
   counted_fit = moved_fit size held_size s 6 h z d
 
-  pub counted_bad_fit : (c q : ℕ) → z ≡ Isnt c q → length s < 2 ^ 64 → Fits w64 (6 + q)
-  counted_bad_fit = moved_bad_fit size held_size s 6 h z d
-
-  pub counted_is : (n j : ℕ) → z ≡ Is n j → Is n (6 + j) ≡ sized_of (counted s)
-  counted_is n j q = rw six (moved_is size held_size s 6 h z d n j q)
-
-  pub counted_isnt : (c q : ℕ) → z ≡ Isnt c q → Isnt c (6 + q) ≡ sized_of (counted s)
-  counted_isnt c q i = rw six (moved_isnt size held_size s 6 h z d c q i)
+  pub counted_is : count_later 6 z ≡ sized_of (counted s)
+  counted_is = rw six (moved_is size held_size s 6 h z d)
 
 -- ---- after the facets
 
-module _ (s : List ℕ) (r : Step) (e : r ≡ step_of (facets s)) where
-  pub referenced_none : (c q : ℕ) → r ≡ Fault c q → Isnt c q ≡ sized_of (referenced s)
+module _ (s : List ℕ) (r : Result ℕ Refusal) (e : r ≡ step_of (facets s)) where
+  pub referenced_none : (x : Refusal) → r ≡ Err x → Err x ≡ sized_of (referenced s)
   unfolding referenced ◌>>=◌ after sized_of
-  referenced_none c q i = rw (step_fault (facets s) c q (sym i ∙ e))
+  referenced_none x i = rw (step_fault (facets s) x (sym i ∙ e))
 
-  module _ (k : ℕ) (f : r ≡ Took k) where
+  module _ (k : ℕ) (f : r ≡ Ok k) where
     pub facets_end : k ≤ length s
     facets_end = held_took facets held_facets s (step_took (facets s) k (sym f ∙ e)).1
 
-    module _ (z : Sized) (d : z ≡ sized_of (counted (take (length s - k) (drop k s)))) where
+    module _ (z : Result Counted Refusal) (d : z ≡ sized_of (counted (take (length s - k) (drop k s)))) where
       after_facets : referenced s ≡ shift k (counted (drop k s))
       unfolding referenced ◌>>=◌ after
       after_facets = rw (step_took (facets s) k (sym f ∙ e)).1
 
-      pub referenced_fit : (n j : ℕ) → z ≡ Is n j → length s < 2 ^ 64 → Fits w64 (k + j)
+      pub referenced_fit : length s < 2 ^ 64 → CountFits k z
       referenced_fit = moved_fit counted held_counted s k facets_end z d
 
-      pub referenced_bad_fit : (c q : ℕ) → z ≡ Isnt c q → length s < 2 ^ 64 → Fits w64 (k + q)
-      referenced_bad_fit = moved_bad_fit counted held_counted s k facets_end z d
-
-      pub referenced_is : (n j : ℕ) → z ≡ Is n j → Is n (k + j) ≡ sized_of (referenced s)
-      referenced_is n j q = rw after_facets (moved_is counted held_counted s k facets_end z d n j q)
-
-      pub referenced_isnt : (c q : ℕ) → z ≡ Isnt c q → Isnt c (k + q) ≡ sized_of (referenced s)
-      referenced_isnt c q i = rw after_facets (moved_isnt counted held_counted s k facets_end z d c q i)
+      pub referenced_is : count_later k z ≡ sized_of (referenced s)
+      referenced_is = rw after_facets (moved_is counted held_counted s k facets_end z d)
 
 -- ---- after the identity
 
-module _ (s : List ℕ) (y : Sized) (e : y ≡ sized_of (named s)) where
-  pub generals_none : (c q : ℕ) → y ≡ Isnt c q → Isnt c q ≡ sized_of (generals s)
+module _ (s : List ℕ) (y : Result Counted Refusal) (e : y ≡ sized_of (named s)) where
+  pub generals_none : (x : Refusal) → y ≡ Err x → Err x ≡ sized_of (generals s)
   unfolding generals ◌>>=◌ after sized_of
-  generals_none c q i = rw (sized_isnt (named s) c q (sym i ∙ e))
+  generals_none x i = rw (sized_isnt (named s) x (sym i ∙ e))
 
-  module _ (m k : ℕ) (f : y ≡ Is m k) where
-    pub named_end : k ≤ length s
-    named_end = sized_held named held_named s y e m k f
+  module _ (x : Counted) (f : y ≡ Ok x) where
+    pub named_end : x.bytes ≤ length s
+    named_end = sized_held named held_named s y e x f
 
-    pub generals_nil : m ≡ 0 → Is 0 k ≡ sized_of (generals s)
+    -- an empty name's length is the number of endpoints
+    pub generals_nil : x.number ≡ 0 → Ok x ≡ sized_of (generals s)
     unfolding generals ◌>>=◌ after pure shift sized_of
-    generals_nil o = rw (sized_is (named s) m k (sym f ∙ e), o, add-zero)
+    generals_nil o = ap (λ (n : ℕ). read n x.bytes) o ∙ rw (sized_is (named s) x (sym f ∙ e), o, add-zero)
 
-    module _ (o : m ≡ 0 → ⊥) (z : Sized) (d : z ≡ sized_of (referenced (take (length s - k) (drop k s)))) where
-      after_named : generals s ≡ shift k (referenced (drop k s))
+    module _ (o : x.number ≡ 0 → ⊥) (z : Result Counted Refusal) (d : z ≡ sized_of (referenced (take (length s - x.bytes) (drop x.bytes s)))) where
+      after_named : generals s ≡ shift x.bytes (referenced (drop x.bytes s))
       unfolding generals ◌>>=◌ after
-      after_named = rw (sized_is (named s) m k (sym f ∙ e), ne_eqb m 0 o)
+      after_named = rw (sized_is (named s) x (sym f ∙ e), ne_eqb x.number 0 o)
 
-      pub generals_fit : (n j : ℕ) → z ≡ Is n j → length s < 2 ^ 64 → Fits w64 (k + j)
-      generals_fit = moved_fit referenced held_referenced s k named_end z d
+      pub generals_fit : length s < 2 ^ 64 → CountFits x.bytes z
+      generals_fit = moved_fit referenced held_referenced s x.bytes named_end z d
 
-      pub generals_bad_fit : (c q : ℕ) → z ≡ Isnt c q → length s < 2 ^ 64 → Fits w64 (k + q)
-      generals_bad_fit = moved_bad_fit referenced held_referenced s k named_end z d
-
-      pub generals_is : (n j : ℕ) → z ≡ Is n j → Is n (k + j) ≡ sized_of (generals s)
-      generals_is n j q = rw after_named (moved_is referenced held_referenced s k named_end z d n j q)
-
-      pub generals_isnt : (c q : ℕ) → z ≡ Isnt c q → Isnt c (k + q) ≡ sized_of (generals s)
-      generals_isnt c q i = rw after_named (moved_isnt referenced held_referenced s k named_end z d c q i)
+      pub generals_is : count_later x.bytes z ≡ sized_of (generals s)
+      generals_is = rw after_named (moved_is referenced held_referenced s x.bytes named_end z d)
 
 -- ---- the endpoints before the wanted one, then that one
 
-module _ (s : List ℕ) (i n at : ℕ) (short : length s ≤ 65536) (h : at ≤ length s) (a : Step) (e : a ≡ step_of (times i endpoint (take (length s - at) (drop at s)))) where
+module _ (s : List ℕ) (i n at : ℕ) (h : at ≤ length s) (a : Result ℕ Refusal) (e : a ≡ step_of (times i endpoint (take (length s - at) (drop at s)))) where
+  pub passed_fit : length s < 2 ^ 64 → LaterFits at a
+  passed_fit l = later_fits (times i endpoint) (held_times i endpoint held_endpoint) s at a e h l
+
   before : a ≡ step_of (times i endpoint (drop at s))
   before = rw rest_is at e
 
-  module _ (c q : ℕ) (g : a ≡ Fault c q) where
-    gone : times i endpoint (drop at s) ≡ bad c q
-    gone = step_fault (times i endpoint (drop at s)) c q (sym g ∙ before)
+  pub passed_bad : (x : Refusal) → later at a ≡ Err x → Err x ≡ spotted (shift at (placed i n at (drop at s)))
+  unfolding placed apart mapc made ◌>>=◌ after shift spotted step_of
+  passed_bad x g = go (times i endpoint (drop at s)) refl
+    where
+      go : (t : Res (Unit {0})) → times i endpoint (drop at s) ≡ t → Err x ≡ spotted (shift at (placed i n at (drop at s)))
+      go (ok u m) q =
+          let w : Ok (at + m) ≡ Err x = ap (later at) (sym (before ∙ ap step_of q)) ∙ g in
+          let z : ◌≡◌ {A = ℕ} 0 1 = cc in absurd (omega arith)
+      go (bad c p) q =
+          let w : refused c (at + p) ≡ Err x = ap (later at) (sym (before ∙ ap step_of q)) ∙ g in
+          let v : x ≡ record { number = c; place = at + p } = cc in
+          rw q (ap (λ (u : Refusal). refused {T = Spotted} u.number u.place) v)
 
-    pub passed_number : c < 2 ^ 32
-    passed_number = omega (arith, told_bad Few (times i endpoint) (few_endpoint_list i) (drop at s) gone)
+  module _ (place : ℕ) (g : later at a ≡ Ok place) where
+    came : (m : ℕ) × (times i endpoint (drop at s) ≡ ok tt m) × (place ≡ at + m)
+    unfolding step_of
+    came = go (times i endpoint (drop at s)) refl
+      where
+        go : (t : Res (Unit {0})) → times i endpoint (drop at s) ≡ t → (m : ℕ) × (times i endpoint (drop at s) ≡ ok tt m) × (place ≡ at + m)
+        go (ok tt m) q =
+            let w : Ok (at + m) ≡ Ok place = ap (later at) (sym (before ∙ ap step_of q)) ∙ g in
+            let v : at + m ≡ place = cc in (m, q, sym v)
+        go (bad c p) q =
+            let w : refused c (at + p) ≡ Ok place = ap (later at) (sym (before ∙ ap step_of q)) ∙ g in
+            let z : ◌≡◌ {A = ℕ} 0 1 = cc in absurd (omega arith)
 
-    reach : q ≤ length (drop at s)
-    reach = held_refused (times i endpoint) (held_times i endpoint held_endpoint) (drop at s) gone
+    pub next_within : place ≤ length s
+    next_within = omega (arith, came.2, held_took (times i endpoint) (held_times i endpoint held_endpoint) (drop at s) came.1, length-drop at s, h)
 
-    pub passed_sum : Fits w64 (at + q)
-    passed_sum = record { fits = omega (arith, reach, length-drop at s) }
+    module _ (b : Result ℕ Refusal) (d : b ≡ step_of (endpoint (take (length s - place) (drop place s)))) where
+      here : b ≡ step_of (endpoint (drop place s))
+      here = rw rest_is at d
 
-    pub passed_place : at + q < 2 ^ 32
-    passed_place = omega (arith, reach, length-drop at s)
+      -- the same bytes, counted from the first endpoint
+      there : (m : ℕ) → place ≡ at + m → b ≡ step_of (endpoint (drop m (drop at s)))
+      there m p = here ∙ ap (λ (k : ℕ). step_of (endpoint (drop k s))) p ∙ ap (λ (t : List ℕ). step_of (endpoint t)) (sym (drop-drop m at s))
 
-    pub passed_bad : Refused c (at + q) ≡ located_of (shift at (placed i n at (drop at s)))
-    unfolding placed apart mapc made ◌>>=◌ after shift located_of
-    passed_bad = rw gone
+      pub passed_is : (l : ℕ) → b ≡ Ok l → spot n place l ≡ spotted (shift at (placed i n at (drop at s)))
+      unfolding placed apart mapc made ◌>>=◌ after shift spotted
+      passed_is l f = go came.0 came.1 came.2
+        where
+          go : (m : ℕ) → times i endpoint (drop at s) ≡ ok tt m → place ≡ at + m → spot n place l ≡ spotted (shift at (placed i n at (drop at s)))
+          go m c p = rw (c, (step_took (endpoint (drop m (drop at s))) l (sym f ∙ there m p)).1) (ap (λ (k : ℕ). spot n k l) p)
 
-  module _ (m : ℕ) (g : a ≡ Took m) where
-    came : times i endpoint (drop at s) ≡ ok tt m
-    came = (step_took (times i endpoint (drop at s)) m (sym g ∙ before)).1
+      module _ (x : Refusal) (f : b ≡ Err x) where
+        pub passed_wrong_fit : length s < 2 ^ 64 → place + x.place < 2 ^ 64
+        passed_wrong_fit l = omega (arith, next_within, held_refused endpoint held_endpoint (drop place s) (step_fault (endpoint (drop place s)) x (sym f ∙ here)), length-drop place s)
 
-    inside_list : m ≤ length (drop at s)
-    inside_list = held_took (times i endpoint) (held_times i endpoint held_endpoint) (drop at s) came
-
-    pub next_sum : Fits w64 (at + m)
-    next_sum = record { fits = omega (arith, inside_list, length-drop at s) }
-
-    pub next_within : at + m ≤ length s
-    next_within = omega (arith, inside_list, length-drop at s, h)
-
-    pub next_place : at + m < 2 ^ 32
-    next_place = omega (arith, next_within)
-
-    module _ (b : Step) (d : b ≡ step_of (endpoint (take (length s - (at + m)) (drop (at + m) s)))) where
-      here : b ≡ step_of (endpoint (drop m (drop at s)))
-      here = rw (drop-drop m at s) (rw rest_is at d)
-
-      module _ (l : ℕ) (f : b ≡ Took l) where
-        pub found_length : l < 2 ^ 32
-        found_length = omega (arith, held_took endpoint held_endpoint (drop m (drop at s)) (step_took (endpoint (drop m (drop at s))) l (sym f ∙ here)).1, length-drop m (drop at s), length-drop at s)
-
-        pub passed_is : At n (at + m) l ≡ located_of (shift at (placed i n at (drop at s)))
-        unfolding placed apart mapc made ◌>>=◌ after shift located_of
-        passed_is = rw (came, (step_took (endpoint (drop m (drop at s))) l (sym f ∙ here)).1)
-
-      module _ (c q : ℕ) (f : b ≡ Fault c q) where
-        wrong : endpoint (drop m (drop at s)) ≡ bad c q
-        wrong = step_fault (endpoint (drop m (drop at s))) c q (sym f ∙ here)
-
-        far : q ≤ length s - (at + m)
-        far = omega (arith, held_refused endpoint held_endpoint (drop m (drop at s)) wrong, length-drop m (drop at s), length-drop at s)
-
-        pub wrong_number : c < 2 ^ 32
-        wrong_number = omega (arith, told_bad Few endpoint few_endpoint (drop m (drop at s)) wrong)
-
-        pub wrong_sum : Fits w64 (at + m + q)
-        wrong_sum = record { fits = omega (arith, far, next_within) }
-
-        pub wrong_place : at + m + q < 2 ^ 32
-        wrong_place = omega (arith, far, next_within)
-
-        pub passed_wrong : Refused c (at + m + q) ≡ located_of (shift at (placed i n at (drop at s)))
-        unfolding placed apart mapc made ◌>>=◌ after shift located_of
-        passed_wrong = rw (came, wrong) (ap (Refused c) (omega arith))
+        pub passed_wrong : Err (behind place x) ≡ spotted (shift at (placed i n at (drop at s)))
+        unfolding placed apart mapc made ◌>>=◌ after shift spotted
+        passed_wrong = go came.0 came.1 came.2
+          where
+            go : (m : ℕ) → times i endpoint (drop at s) ≡ ok tt m → place ≡ at + m → Err (behind place x) ≡ spotted (shift at (placed i n at (drop at s)))
+            go m c p = rw (c, step_fault (endpoint (drop m (drop at s))) x (sym f ∙ there m p)) (ap (λ (k : ℕ). refused {T = Spotted} x.number k) (omega (arith, p)))
 
 -- ---- by the number of endpoints
+
+module _ (s : List ℕ) (i : ℕ) (z : Result Counted Refusal) (e : z ≡ sized_of (generals s)) where
+  pub spot_bad : (x : Refusal) → z ≡ Err x → Err x ≡ spotted (spot_at i s)
+  unfolding spot_at started mapc made ◌>>=◌ after spotted
+  spot_bad x g = rw (sized_isnt (generals s) x (sym g ∙ e))
+
+  module _ (x : Counted) (g : z ≡ Ok x) where
+    pub spot_end : x.bytes ≤ length s
+    spot_end = sized_held generals held_generals s z e x g
+
+    pub spot_none : x.number ≤ i → spot x.number 0 0 ≡ spotted (spot_at i s)
+    unfolding spot_at started mapc made ◌>>=◌ after pure shift spotted
+    spot_none l = rw (sized_is (generals s) x (sym g ∙ e), le-ltb i x.number l)
+
+    pub spot_there : i < x.number → (r : Result Spotted Refusal) → r ≡ spotted (shift x.bytes (placed i x.number x.bytes (drop x.bytes s))) → r ≡ spotted (spot_at i s)
+    unfolding spot_at started mapc made ◌>>=◌ after
+    spot_there l r q = rw (sized_is (generals s) x (sym g ∙ e), lt-ltb i x.number l) q
+
+-- ---- 3, the proxy's own refusals, 18
+
+module _ (s : List ℕ) (i : ℕ) where
+  pub at_long : 65536 < length s → refused 3 0 ≡ spotted (locating i s)
+  unfolding locating refused_first first_of spotted
+  at_long h = rw (lt-ltb limit (length s) h)
+
+  module _ (h : length s ≤ 65536) (r : Result ℕ Refusal) (e : r ≡ step_of (proxy false s)) where
+    pub at_bad : (x : Refusal) → r ≡ Err x → Err x ≡ spotted (locating i s)
+    unfolding locating refused_first first_of unless_bad ◌>>=◌ after spotted
+    at_bad x g = rw (le-ltb limit (length s) h, step_fault (proxy false s) x (sym g ∙ e))
+
+    module _ (k : ℕ) (g : r ≡ Ok k) where
+      pub at_more : k < length s → refused 18 k ≡ spotted (locating i s)
+      unfolding locating refused_first first_of unless_bad ◌>>=◌ after shift spotted
+      at_more l = rw (le-ltb limit (length s) h, (step_took (proxy false s) k (sym g ∙ e)).1, ended_more (tt {0}) k s l, add-zero)
+
+      pub at_whole : length s ≤ k → (o : Result Spotted Refusal) → o ≡ spotted (spot_at i s) → o ≡ spotted (locating i s)
+      unfolding locating refused_first first_of unless_bad ◌>>=◌ after shift
+      at_whole l o q = rw (le-ltb limit (length s) h, (step_took (proxy false s) k (sym g ∙ e)).1, ended_done (tt {0}) k s l) q
+
+-- ---- every number fits 32 bits
 
 -- a count is a size
 count_below : (s : List ℕ) {n k : ℕ} → generals s ≡ ok n k → n < 2 ^ 31
@@ -241,84 +255,135 @@ count_below s {n} {k} h = go (bind_ok named (λ m. pick (eqb m 0) (pure 0) refer
     go : Bound named (λ m. pick (eqb m 0) (pure 0) referenced) s n k → n < 2 ^ 31
     go B = pass (eqb B.fst 0) (drop B.n s) B.next
 
-module _ (s : List ℕ) (i : ℕ) (z : Sized) (e : z ≡ sized_of (generals s)) where
-  module _ (c q : ℕ) (g : z ≡ Isnt c q) where
-    ill : generals s ≡ bad c q
-    ill = sized_isnt (generals s) c q (sym g ∙ e)
+abbrev Narrow : Res Spot → Type 0
+Narrow (ok s n) = (s.count < 2 ^ 32) × (s.place < 2 ^ 32) × (s.len < 2 ^ 32)
+Narrow (bad c q) = (c < 2 ^ 32) × (q < 2 ^ 32)
 
-    pub spot_number : c < 2 ^ 32
-    spot_number = omega (arith, told_bad Few generals few_generals s ill)
+module _ (s : List ℕ) (short : length s ≤ 65536) (i : ℕ) where
+  placed_narrow : (n h : ℕ) → n < 2 ^ 31 → h ≤ length s → Narrow (shift h (placed i n h (drop h s)))
+  unfolding placed apart mapc made ◌>>=◌ after shift
+  placed_narrow n h l k = go (times i endpoint (drop h s)) refl
+    where
+      own : (m : ℕ) → m ≤ length s - h → (t : Res (Unit {0})) → endpoint (drop m (drop h s)) ≡ t
+          → Narrow (shift h (made (λ (e : ℕ × ℕ) _. record { count = n; place = h + e.0; len = e.1 }) (shift m (made (λ _ l. (m, l)) t))))
+      own m j (ok u o) f = (omega (arith, l), omega (arith, j, k, short), omega (arith, short, held_took endpoint held_endpoint (drop m (drop h s)) f, length-drop m (drop h s), length-drop h s))
+      own m j (bad c q) f = (omega (arith, told_bad Few endpoint few_endpoint (drop m (drop h s)) f), omega (arith, j, k, short, held_refused endpoint held_endpoint (drop m (drop h s)) f, length-drop m (drop h s), length-drop h s))
 
-    pub spot_place : length s ≤ 65536 → q < 2 ^ 32
-    spot_place l = omega (arith, held_refused generals held_generals s ill)
+      go : (t : Res (Unit {0})) → times i endpoint (drop h s) ≡ t
+          → Narrow (shift h (made (λ (e : ℕ × ℕ) _. record { count = n; place = h + e.0; len = e.1 }) (after (made (λ _ m. m) t) (λ m. mapc (λ _ l. (m, l)) endpoint) (drop h s))))
+      go (ok u m) f = own m (omega (arith, held_took (times i endpoint) (held_times i endpoint held_endpoint) (drop h s) f, length-drop h s)) (endpoint (drop m (drop h s))) refl
+      go (bad c q) f = (omega (arith, told_bad Few (times i endpoint) (few_endpoint_list i) (drop h s) f), omega (arith, k, short, held_refused (times i endpoint) (held_times i endpoint held_endpoint) (drop h s) f, length-drop h s))
 
-    pub spot_bad : Refused c q ≡ located_of (spot_at i s)
-    unfolding spot_at started mapc made ◌>>=◌ after located_of
-    spot_bad = rw ill
+  spot_narrow : Narrow (spot_at i s)
+  unfolding spot_at started mapc made ◌>>=◌ after pure shift
+  spot_narrow = go (generals s) refl
+    where
+      by : (n h : ℕ) → n < 2 ^ 31 → h ≤ length s → (b : Bool) → Narrow (shift h (pick b (placed i n h) (pure (record { count = n; place = 0; len = 0 })) (drop h s)))
+      by n h l k true = placed_narrow n h l k
+      by n h l k false = (omega (arith, l), omega arith, omega arith)
 
-  module _ (n k : ℕ) (g : z ≡ Is n k) where
-    well : generals s ≡ ok n k
-    well = sized_is (generals s) n k (sym g ∙ e)
-
-    pub spot_end : k ≤ length s
-    spot_end = held_took generals held_generals s well
-
-    pub spot_count : n < 4294967296
-    spot_count = omega (arith, count_below s well)
-
-    pub spot_none : n ≤ i → At n 0 0 ≡ located_of (spot_at i s)
-    unfolding spot_at started mapc made ◌>>=◌ after pure shift located_of
-    spot_none l = rw (well, le-ltb i n l)
-
-    pub spot_there : i < n → (r : Located) → r ≡ located_of (shift k (placed i n k (drop k s))) → r ≡ located_of (spot_at i s)
-    unfolding spot_at started mapc made ◌>>=◌ after
-    spot_there l r q = rw (well, lt-ltb i n l) q
-
--- ---- 3, the proxy's own refusals, 18
+      go : (t : Res ℕ) → generals s ≡ t → Narrow (after (made (λ n h. (n, h)) t) (λ (s : ℕ × ℕ). pick (ltb i s.0) (placed i s.0 s.1) (pure (record { count = s.0; place = 0; len = 0 }))) s)
+      go (ok n h) e = by n h (count_below s e) (held_took generals held_generals s e) (ltb i n)
+      go (bad c q) e = (omega (arith, told_bad Few generals few_generals s e), omega (arith, short, held_refused generals held_generals s e))
 
 held_proxy : Held (proxy false)
 unfolding value
 held_proxy = held_value proxy-type
 
-module _ (s : List ℕ) (i : ℕ) where
-  pub at_long : 65536 < length s → Refused 3 0 ≡ located_of (locating i s)
-  unfolding locating refused_first first_of located_of
-  at_long h = rw (lt-ltb limit (length s) h)
+few_ended : {A : Type 0} (a : A) → Refuses Few (ended a)
+unfolding ended
+few_ended a [] = tt
+few_ended a (x ∷ xs) = omega arith
 
-  module _ (h : length s ≤ 65536) (r : Step) (e : r ≡ step_of (proxy false s)) where
-    module _ (c q : ℕ) (g : r ≡ Fault c q) where
-      pub at_number : c < 2 ^ 32
-      at_number = omega (arith, told_bad Few (proxy false) few_proxy s (step_fault (proxy false s) c q (sym g ∙ e)))
+locating_narrow : (i : ℕ) (s : List ℕ) → Narrow (locating i s)
+unfolding locating refused_first first_of unless_bad
+locating_narrow i s = go (ltb limit (length s)) refl
+  where
+    read : length s ≤ 65536 → (t : Res (Unit {0})) → Told Few t → Lies (length s) t → Narrow (unless_bad t (spot_at i s))
+    read l (ok u n) f h = spot_narrow s l i
+    read l (bad c q) f h = (omega (arith, f), omega (arith, l, h))
 
-      pub at_place : q < 2 ^ 32
-      at_place = omega (arith, held_refused (proxy false) held_proxy s (step_fault (proxy false s) c q (sym g ∙ e)))
+    go : (b : Bool) → ltb limit (length s) ≡ b → Narrow (refused_first (pick b 3 0) (unless_bad ((proxy false >>= ended) s) (spot_at i s)))
+    go true e = (omega arith, omega arith)
+    go false e = read (ltb-false limit (length s) e) ((proxy false >>= ended) s) (refuses_bind Few (proxy false) ended few_proxy few_ended s) (held_bind (proxy false) ended held_proxy held_ended s)
 
-      pub at_bad : Refused c q ≡ located_of (locating i s)
-      unfolding locating refused_first first_of unless_bad ◌>>=◌ after located_of
-      at_bad = rw (le-ltb limit (length s) h, step_fault (proxy false s) c q (sym g ∙ e))
+module _ (s : List ℕ) (i : ℕ) (r : Result Spotted Refusal) (e : r ≡ spotted (locating i s)) where
+  module _ (x : Spotted) (g : r ≡ Ok x) where
+    found : (y : Spot) × (n : ℕ) × (locating i s ≡ ok y n) × (x ≡ record { count = y.count; place = y.place; len = y.len })
+    unfolding spotted
+    found = go (locating i s) refl
+      where
+        go : (t : Res Spot) → locating i s ≡ t → (y : Spot) × (n : ℕ) × (locating i s ≡ ok y n) × (x ≡ record { count = y.count; place = y.place; len = y.len })
+        go (ok y n) q =
+            let w : Ok x ≡ spotted (ok y n) = sym g ∙ e ∙ ap spotted q in
+            let v : x ≡ record { count = y.count; place = y.place; len = y.len } = cc in (y, n, q, v)
+        go (bad c p) q =
+            let w : Ok x ≡ spotted (bad c p) = sym g ∙ e ∙ ap spotted q in
+            let z : ◌≡◌ {A = ℕ} 0 1 = cc in absurd (omega arith)
 
-    module _ (k : ℕ) (g : r ≡ Took k) where
-      pub at_more : k < length s → Refused 18 k ≡ located_of (locating i s)
-      unfolding locating refused_first first_of unless_bad ◌>>=◌ after shift located_of
-      at_more l = rw (le-ltb limit (length s) h, (step_took (proxy false s) k (sym g ∙ e)).1, ended_more (tt {0}) k s l, add-zero)
+    narrow : (found.0.count < 2 ^ 32) × (found.0.place < 2 ^ 32) × (found.0.len < 2 ^ 32)
+    narrow = subst Narrow found.2 (locating_narrow i s)
 
-      pub at_whole : length s ≤ k → (o : Located) → o ≡ located_of (spot_at i s) → o ≡ located_of (locating i s)
-      unfolding locating refused_first first_of unless_bad ◌>>=◌ after shift
-      at_whole l o q = rw (le-ltb limit (length s) h, (step_took (proxy false s) k (sym g ∙ e)).1, ended_done (tt {0}) k s l) q
+    pub count_fits : Fits w32 x.count
+    count_fits = record { fits = omega (arith, narrow.0, ap (λ (v : Spotted). v.count) found.3) }
+
+    pub place_fits : Fits w32 x.place
+    place_fits = record { fits = omega (arith, narrow.1, ap (λ (v : Spotted). v.place) found.3) }
+
+    pub len_fits : Fits w32 x.len
+    len_fits = record { fits = omega (arith, narrow.2, ap (λ (v : Spotted). v.len) found.3) }
+
+    pub at_is : At x.count x.place x.len ≡ located_of (locating i s)
+    unfolding located_of
+    at_is = ap (λ (v : Spotted). At v.count v.place v.len) found.3 ∙ ap located_of (sym found.2)
+
+  module _ (x : Refusal) (g : r ≡ Err x) where
+    lost : locating i s ≡ bad x.number x.place
+    unfolding spotted
+    lost = go (locating i s) refl
+      where
+        go : (t : Res Spot) → locating i s ≡ t → locating i s ≡ bad x.number x.place
+        go (ok y n) q =
+            let w : Err x ≡ spotted (ok y n) = sym g ∙ e ∙ ap spotted q in
+            let z : ◌≡◌ {A = ℕ} 0 1 = cc in absurd (omega arith)
+        go (bad c p) q =
+            let w : Err x ≡ spotted (bad c p) = sym g ∙ e ∙ ap spotted q in
+            let v : x ≡ record { number = c; place = p } = cc in q ∙ ap (λ (u : Refusal). bad u.number u.place) (sym v)
+
+    few : (x.number < 2 ^ 32) × (x.place < 2 ^ 32)
+    few = subst Narrow lost (locating_narrow i s)
+
+    pub number_fits : Fits w32 x.number
+    number_fits = record { fits = few.0 }
+
+    pub refusal_fits : Fits w32 x.place
+    refusal_fits = record { fits = few.1 }
+
+    pub at_refused : Refused x.number x.place ≡ located_of (locating i s)
+    unfolding located_of
+    at_refused = ap located_of (sym lost)
 
 -- ---- 22 last, and the three numbers
 
 module _ (o : Located) (room : ℕ) where
-  module _ (n a l : ℕ) (e : o ≡ At n a l) where
+  module _ (n : (c p : ℕ) → o ≡ Refused c p → ⊥) where
     pub near_few : room < 12 → Refused 22 12 ≡ located_within room o
     unfolding located_within
-    near_few h = rw (e, lt-leb 12 room h)
+    near_few h = go o refl
+      where
+        go : (x : Located) → o ≡ x → Refused 22 12 ≡ located_within room x
+        go (At n a l) e = rw (lt-leb 12 room h)
+        go (Refused c p) e = absurd (n c p e)
 
-    pub near_is : 12 ≤ room → At n a l ≡ located_within room o
+    pub near_given : 12 ≤ room → o ≡ located_within room o
     unfolding located_within
-    near_is h = rw (e, le-leb 12 room h)
+    near_given h = go o refl
+      where
+        go : (x : Located) → o ≡ x → x ≡ located_within room x
+        go (At n a l) e = rw (le-leb 12 room h)
+        go (Refused c p) e = absurd (n c p e)
 
-  pub near_refused : (c p : ℕ) → o ≡ Refused c p → Refused c p ≡ located_within room o
+  pub near_refused : (c p : ℕ) → o ≡ Refused c p → o ≡ located_within room o
   unfolding located_within
   near_refused c p e = rw e
 
@@ -331,20 +396,13 @@ roomy_near (At n a l) room = go (leb 12 room) refl
     go false e = tt
 roomy_near (Refused c p) room = tt
 
-pub three_put : (lent : List ℕ) → 12 ≤ length lent → (n a l : ℕ) (u v w : List ℕ) → u ≡ put 0 (le_bytes 4 n) lent → v ≡ put 4 (le_bytes 4 a) u → w ≡ put 8 (le_bytes 4 l) v
-    → w ≡ three_bytes n a l ++ drop 12 lent
-unfolding three_bytes
-three_put lent h n a l u v w eu ev ew =
-    let one = length_le_bytes 4 n in
-    let two : length (le_bytes 4 n ++ le_bytes 4 a) ≡ 8 = omega (arith, length-append (le_bytes 4 n) (le_bytes 4 a), one, length_le_bytes 4 a) in
-    let three : length (le_bytes 4 n ++ le_bytes 4 a ++ le_bytes 4 l) ≡ 12 = omega (arith, length-append (le_bytes 4 n ++ le_bytes 4 a) (le_bytes 4 l), two, length_le_bytes 4 l) in
-    let fv = next_put 4 (le_bytes 4 n) (le_bytes 4 a) lent u v eu ev (sym one) (omega (arith, one, length_le_bytes 4 a)) in
-    let fw = next_put 8 (le_bytes 4 n ++ le_bytes 4 a) (le_bytes 4 l) lent v w fv ew (sym two) (omega (arith, two, length_le_bytes 4 l)) in
-    fw ∙ put_front _ lent (omega (arith, three)) ∙ ap (λ (i : ℕ). three_bytes n a l ++ drop i lent) three
+three_is : (n a l : ℕ) → int_bytes (n ∷ a ∷ l ∷ []) ≡ three_bytes n a l
+unfolding concat three_bytes
+three_is n a l = simp (append_assoc, append-nil)
 
-pub put_at : (r : Located) (lent x : List ℕ) (n a l : ℕ) → r ≡ At n a l → x ≡ three_bytes n a l ++ drop 12 lent → x ≡ with_located r lent
+pub put_at : (r : Located) (lent x : List ℕ) (n a l : ℕ) → r ≡ At n a l → x ≡ int_bytes (n ∷ a ∷ l ∷ []) ++ drop 12 lent → x ≡ with_located r lent
 unfolding with_located
-put_at r lent x n a l e q = rw e q
+put_at r lent x n a l e q = rw (e, ← three_is n a l) q
 
 pub put_none : (r : Located) (lent : List ℕ) (c p : ℕ) → r ≡ Refused c p → lent ≡ with_located r lent
 unfolding with_located
@@ -354,12 +412,6 @@ pub room_at : (r : Located) (room : ℕ) → RoomyAt r room → (n a l : ℕ) �
 unfolding RoomyAt
 room_at r room w n a l e = subst (λ (o : Located). RoomyAt o room) e w
 
-pub near_same : (s : List ℕ) (i room : ℕ) (o r : Located) → o ≡ located_of (locating i s) → r ≡ located_within room o → r ≡ located_within room (located_of (locating i s))
-near_same s i room o r e q = q ∙ ap (located_within room) e
-
 module _ (s : List ℕ) (i : ℕ) (lent : List ℕ) (r : Located) (e : r ≡ located_within (length lent) (located_of (locating i s))) where
   pub roomy_at : RoomyAt r (length lent)
   roomy_at = subst (λ (o : Located). RoomyAt o (length lent)) (sym e) (roomy_near (located_of (locating i s)) (length lent))
-
-  pub put_located_same : (x : List ℕ) → x ≡ with_located r lent → x ≡ with_located (located_within (length lent) (located_of (locating i s))) lent
-  put_located_same x q = q ∙ ap (λ (o : Located). with_located o lent) e

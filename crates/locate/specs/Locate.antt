@@ -5,15 +5,19 @@
 --   started, apart   the count with the bytes before the first endpoint; where endpoint i is among the endpoints
 --   placed, spot_at   where endpoint i is in the proxy, counted from 0
 --   unless_bad, locating i            3, the proxy's own refusals, 18 for what is after it; then where endpoint i is
+--   spot n a l, spotted   an answer as the functions within return it
 --   located_of        the answer as the call returns it; located_numbers: its five numbers
 --   located_within    22 where too few bytes are lent for the three numbers; three_bytes, with_located: the numbers as bytes; the lent bytes after the call
 --   RoomyAt          so many lent bytes hold the three numbers of an answer that has some
-use Rattle.std.specs.Prelude.{false, List, [], ◌∷◌, ◌++◌, ℕ, ◌+◌, ◌≤◌, length, drop, eqb, leb, ltb}
+use Rattle.std.specs.Prelude.{false, List, [], ◌∷◌, ◌++◌, ℕ, ◌+◌, ◌≤◌, length, drop, eqb, leb, ltb, Result, Ok}
 use Rattle.encoding.specs.Result.{Res, ok, bad, Parser, pick, ◌>>=◌, pure, skip, mapc, times, first_of}
 use Rattle.encoding.specs.Number.{size, le_bytes}
 use Rattle.encoding.specs.Proxy.{facets, endpoint, proxy}
 use Rattle.proxy.specs.Parts.{named}
 use Rattle.encoding.specs.Message.{ended, limit, refused_first}
+use Rattle.wire.specs.declared.Refusal.{Refusal}
+use Rattle.wire.specs.Steps.{refused}
+use Rattle.locate.specs.declared.Spot.{Spot as Spotted}
 use Rattle.locate.specs.declared.Located.{Located}
 use Rattle.locate.specs.declared.Located.TheVariants.{At, Refused}
 
@@ -61,6 +65,14 @@ unfoldable pub locating : ℕ → Parser Spot
 locating i p = refused_first (first_of ((3, ltb limit (length p)) ∷ [])) (unless_bad ((proxy false >>= ended) p) (spot_at i p))
 
 -- ---- the answer
+
+-- an answer as the functions within return it
+abbrev pub spot : ℕ → ℕ → ℕ → Result Spotted Refusal
+spot n a l = Ok (record { count = n; place = a; len = l })
+
+unfoldable pub spotted : Res Spot → Result Spotted Refusal
+spotted (ok s n) = spot s.count s.place s.len
+spotted (bad c p) = refused c p
 
 -- an answer as the call returns it
 unfoldable pub located_of : Res Spot → Located

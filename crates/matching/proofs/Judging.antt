@@ -9,7 +9,6 @@ use Prim.Native.Nat.{ℕ, zero, suc, ◌+◌, ◌-◌, ◌≤◌, ◌<◌}
 use mathlib.Core.Path.{◌≡◌, refl, sym, ap, ap₂, ◌∙◌}
 use mathlib.Core.Bool.{Bool, true, false, ◌&&◌, ◌||◌, not, true≢false}
 use mathlib.Core.List.{List, [], ◌∷◌}
-use native.Mathlib.Numerals.{add-one}
 use native.Mathlib.Omega.{arith}
 use lib.ListN.{length}
 use lib.Dec.{eqb}
@@ -21,6 +20,8 @@ use Rattle.table.specs.declared.MemberRow.{MemberRow}
 use Rattle.table.specs.Rows.{IsMemberRow}
 use Rattle.table.proofs.Ranges.{range_more, range_none, range_left, range_empty}
 use Rattle.differences.specs.Compare.{those, rows_of, records, same_record, partner, member_row, required_differences, required_match, optionals_match, owners_match, bases_match, matched_by, all_matched, tops_match, extending}
+use Rattle.std.proofs.Common.{Option, None, Some}
+use Rattle.ordering.specs.Ordering.{row_number}
 use Rattle.listing.specs.Listing.{Listed, FewMembers, agree_rows}
 use Rattle.listing.specs.ListingLaws.{required_match_lem, required_most}
 use Rattle.matching.specs.Matching.{optional_matches, every_row, row_matched}
@@ -34,9 +35,9 @@ module _ (S T : List ℕ) where
     unfolding optional_matches
     optional_none q = rw (eq-eqb (mark S m) 0 (sym i.mark_is ∙ q))
 
-    pub optional_is : (r.mark ≡ 0 → ⊥) → (k : ℕ) → k ≡ member_row (lookup r.tag (optional_members T u)) → (b : Bool) → b ≡ agree_rows S T (m + 1) k → b ≡ optional_matches S T u m
+    pub optional_is : (r.mark ≡ 0 → ⊥) → (k : ℕ) → k ≡ member_row (lookup r.tag (optional_members T u)) → (b : Bool) → b ≡ agree_rows S T (suc m) k → b ≡ optional_matches S T u m
     unfolding optional_matches
-    optional_is q k ek b e = e ∙ rw (ek, i.tag_is, add-one) (sym (rw (ne_eqb (mark S m) 0 (λ z. q (i.mark_is ∙ z)))))
+    optional_is q k ek b e = e ∙ rw (ek, i.tag_is) (sym (rw (ne_eqb (mark S m) 0 (λ z. q (i.mark_is ∙ z)))))
 
   module _ (u m n : ℕ) where
     abbrev pub Every : ℕ → Type 0
@@ -121,24 +122,28 @@ module _ (S T : List ℕ) where
 
   -- ---- a record and its partner
 
-  module _ (t p : ℕ) where
-    pub by_none : p ≡ 0 → false ≡ matched_by S T t p
+  module _ (t : ℕ) (p : Option ℕ) where
+    pub by_none : p ≡ None → false ≡ matched_by S T t (row_number p)
     unfolding matched_by
     by_none e = rw e
 
-    module _ (h : p ≡ 0 → ⊥) (b c : ℕ) (eb : b ≡ base S t) (ec : c ≡ base T (p - 1)) (a : Bool) (e : a ≡ owners_match S T t (p - 1)) where
-      by_step : matched_by S T t p ≡ a && bases_match S T b c
-      unfolding matched_by
-      by_step = let z : p ≡ suc (p - 1) = omega arith in ap (matched_by S T t) z ∙ rw (← e, ← eb, ← ec)
+    module _ (u : ℕ) (h : p ≡ Some u) where
+      module _ (b c : ℕ) (eb : b ≡ base S t) (ec : c ≡ base T u) (a : Bool) (e : a ≡ owners_match S T t u) where
+        by_step : matched_by S T t (row_number p) ≡ a && bases_match S T b c
+        unfolding matched_by
+        by_step = rw (h, ← e, ← eb, ← ec)
 
-      pub by_bases : a ≡ true → (r : Bool) → r ≡ bases_match S T b c → r ≡ matched_by S T t p
-      by_bases q r f = f ∙ sym (by_step ∙ rw q)
+        pub by_bases : a ≡ true → (r : Bool) → r ≡ bases_match S T b c → r ≡ matched_by S T t (row_number p)
+        by_bases q r f = f ∙ sym (by_step ∙ rw q)
 
-      pub by_not : a ≡ false → false ≡ matched_by S T t p
-      by_not q = sym (by_step ∙ rw q)
+        pub by_not : a ≡ false → false ≡ matched_by S T t (row_number p)
+        by_not q = sym (by_step ∙ rw q)
 
-    pub by_few : FewMembers T p → (p ≡ 0 → ⊥) → field T (p - 1) 1 ≤ 1024
-    by_few F h = F (omega arith)
+      pub by_few : FewMembers T (row_number p) → field T u 1 ≤ 1024
+      by_few F = go (rw h at F)
+        where
+          go : FewMembers T (suc u) → field T u 1 ≤ 1024
+          go G = let z : suc u - 1 ≡ u = omega arith in rw z at (G (omega arith))
 
   module _ (t k : ℕ) (ek : k ≡ kind S t) (b : Bool) (e : b ≡ is_record k) where
     pub matched_none : b ≡ false → true ≡ row_matched S T t

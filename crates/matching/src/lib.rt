@@ -5,6 +5,7 @@ ghost use Rattle.std.specs.Prelude.{◌≡◌, ◌+◌, ◌≤◌, ◌<◌};
 ghost use Rattle.encoding.specs.Table.{types, types_at, members_at, field, fine, faults, range, required_members, optional_members};
 ghost use Rattle.agreeing.specs.Agreeing.{Agreed};
 ghost use Rattle.differences.specs.Compare.{records, same_record, required_match, optionals_match, owners_match, bases_match, matched_by, all_matched, tops_match, extending};
+ghost use Rattle.ordering.specs.Ordering.{row_number};
 ghost use Rattle.listing.specs.Listing.{FewMembers};
 ghost use Rattle.matching.specs.Matching.{optional_matches, every_row, row_matched};
 
@@ -29,7 +30,7 @@ fn optional(
         return true;
     }
     let k = ordering::tags::tag_row(new, start, u, row.tag);
-    listing::members::agree(old, begin, new, start, cells, m + 1, k)
+    listing::members::agree(old, begin, new, start, cells, Some(m), k)
 }
 
 // Each of the n member rows from row m on is required, or has a match.
@@ -49,12 +50,10 @@ fn every(
     ensures { result ≡ every_row (optional_matches old.now new.now u) (range m n) }
 {
     let first = table::members_at(old, begin);
-    let mut i = 0;
-    while i < n {
+    for i in 0..n {
         if !optional(old, begin, new, start, cells, u, first, m + i) {
             return false;
         }
-        i += 1;
     }
     true
 }
@@ -143,7 +142,7 @@ fn bases(old: &[u8], begin: usize, new: &[u8], start: usize, b: usize, c: usize)
     same_record(old, begin, new, start, b - 1, c - 1)
 }
 
-// Record t of the old table matches row p - 1 of the new one; p = 0 means that there is none.
+// Record t of the old table matches row p of the new one, if there is one.
 fn matched_by(
     old: &[u8],
     begin: usize,
@@ -151,22 +150,24 @@ fn matched_by(
     start: usize,
     cells: &[usize; 514],
     t: usize,
-    p: usize,
+    p: Option<usize>,
 ) -> bool
     requires begin_value { (begin ≡ types_at old.now) × (start ≡ types_at new.now) }
     requires agreed { Agreed old.now new.now cells.now }
-    requires t_bound { (t < 65536) × (p ≤ 65536) × (field old.now t 1 ≤ 1024) × FewMembers new.now p }
-    ensures { result ≡ matched_by old.now new.now t p }
+    requires t_bound { (t < 65536) × (row_number p ≤ 65536) × (field old.now t 1 ≤ 1024) × FewMembers new.now (row_number p) }
+    ensures { result ≡ matched_by old.now new.now t (row_number p) }
 {
-    if p == 0 {
-        return false;
+    match p {
+        Some(u) => {
+            let b = table::chain::base(old, begin, t);
+            let c = table::chain::base(new, start, u);
+            if owners(old, begin, new, start, cells, t, u) {
+                return bases(old, begin, new, start, b, c);
+            }
+            false
+        }
+        None => false,
     }
-    let b = table::chain::base(old, begin, t);
-    let c = table::chain::base(new, start, p - 1);
-    if owners(old, begin, new, start, cells, t, p - 1) {
-        return bases(old, begin, new, start, b, c);
-    }
-    false
 }
 
 // Row t of the old table is no record, or matches its partner.
@@ -198,12 +199,10 @@ fn all_matched(old: &[u8], begin: usize, new: &[u8], start: usize, cells: &[usiz
     ensures { result ≡ all_matched old.now new.now (records old.now) }
 {
     let n = table::types(old);
-    let mut t = 0;
-    while t < n {
+    for t in 0..n {
         if !matched(old, begin, new, start, cells, t) {
             return false;
         }
-        t += 1;
     }
     true
 }

@@ -1,9 +1,8 @@
 -- Optionals in a line of descent: a row's members, the loops up the line and over the rows after the top. Assumes nothing.
 --
 --   members_optional           some of a row's member rows is optional
---   bars_row, _not             a row of the table
 --   above_here, _end, _next    the loop up the line
---   inherits_row, _other, _plain   a row after the top
+--   inherits_other, _plain     a row after the top that does not descend from it
 --   Rows, rows_..              the loop over those rows
 --   any_ok, any_of_lem, any_in     what is true of some number of a list; of a range
 --   chain_low                  a row's bases are smaller rows
@@ -15,7 +14,7 @@ use mathlib.Core.List.{List, [], ◌∷◌}
 use native.Mathlib.Numerals.{sub-one}
 use native.Mathlib.Omega.{arith}
 use lib.Dec.{eqb, ltb}
-use borrow.Author.Tests.{eq-eqb, ne_eqb, eqb-true, lt-ltb, le-ltb, ltb-true}
+use borrow.Author.Tests.{eq-eqb, ne_eqb, eqb-true, lt-ltb, ltb-true}
 use Rattle.encoding.specs.Result.{pick}
 use Rattle.encoding.proofs.ResultLaws.{both_true}
 use Rattle.encoding.specs.Types.{Ty}
@@ -52,13 +51,6 @@ members_optional T t a b ea eb r e =
 abbrev barred : List ℕ → ℕ → Bool
 barred T o = ltb o (types T) && any_of (optional_members T o)
 
-module _ (T : List ℕ) (n o : ℕ) (e : n ≡ types T) where
-  pub bars_row : o < n → (b : Bool) → b ≡ any_of (optional_members T o) → b ≡ ltb o (types T) && any_of (optional_members T o)
-  bars_row h b eb = let l : o < types T = omega arith in rw (lt-ltb o (types T) l) eb
-
-  pub bars_not : n ≤ o → false ≡ ltb o (types T) && any_of (optional_members T o)
-  bars_not h = let l : types T ≤ o = omega arith in rw (le-ltb o (types T) l)
-
 module _ (T : List ℕ) (o : ℕ) (whole : Bool) (inv : whole ≡ any (λ r. ltb r (types T) && any_of (optional_members T r)) (chain T o)) (r : Bool) (er : r ≡ ltb o (types T) && any_of (optional_members T o)) where
   pub above_here : r ≡ true → true ≡ whole
   unfolding any
@@ -90,9 +82,6 @@ module _ (T : List ℕ) (top t : ℕ) where
     inherits_plain h q = rw (plain_line (ap is_record (sym ek) ∙ sym eb ∙ q) h)
 
   module _ (d : Bool) (ed : d ≡ descends T top t) where
-    pub inherits_row : d ≡ true → (b : Bool) → b ≡ any_of (optional_members T t) → b ≡ descends T top t && any_of (optional_members T t)
-    inherits_row q b eb = rw (sym ed ∙ q) eb
-
     pub inherits_other : d ≡ false → false ≡ descends T top t && any_of (optional_members T t)
     inherits_other q = rw (sym ed ∙ q)
 
@@ -103,9 +92,6 @@ inherited T top t = descends T top t && any_of (optional_members T t)
 pub record Rows (T : List ℕ) (top n t : ℕ) : Type 0 where
   pub after : top < t
   pub rest : any (λ r. descends T top r && any_of (optional_members T r)) (range (top + 1) (n - (top + 1))) ≡ any (λ r. descends T top r && any_of (optional_members T r)) (range t (n - t))
-
-pub rows_begin : (T : List ℕ) (top n : ℕ) → Rows T top n (top + 1)
-rows_begin T top n = record { after = omega arith; rest = refl }
 
 module _ (T : List ℕ) (top n t : ℕ) (inv : Rows T top n t) where
   pub rows_end : n ≤ t → false ≡ any (λ r. descends T top r && any_of (optional_members T r)) (range (top + 1) (n - (top + 1)))

@@ -23,10 +23,7 @@ fn bars(table: &[u8], begin: usize, first: usize, n: usize, o: usize) -> bool
     requires n_value { n ≡ types table.now }
     ensures { result ≡ ltb o (types table.now) && any_of (optional_members table.now o) }
 {
-    if o < n {
-        return has_optionals(table, begin, first, o);
-    }
-    false
+    o < n && has_optionals(table, begin, first, o)
 }
 
 // The top or a base of it has optional members.
@@ -37,6 +34,7 @@ fn above(table: &[u8], begin: usize, n: usize, top: usize) -> bool
 {
     let first = table::members_at(table, begin);
     let mut o = top;
+    // Stays: the next row is read from the table, and a row without a base ends the line: that is no `for`.
     loop {
         if bars(table, begin, first, n, o) {
             return true;
@@ -56,12 +54,9 @@ fn inherits(table: &[u8], begin: usize, first: usize, top: usize, t: usize) -> b
     requires top_lt_t { top < t }
     ensures { result ≡ descends table.now top t && any_of (optional_members table.now t) }
 {
-    if table::is_record(table::kind(table, begin, t)) {
-        if table::chain::in_chain(table, t, top) {
-            return has_optionals(table, begin, first, t);
-        }
-    }
-    false
+    table::is_record(table::kind(table, begin, t))
+        && table::chain::in_chain(table, t, top)
+        && has_optionals(table, begin, first, t)
 }
 
 // Some row after the top descends from it and has optional members.
@@ -71,12 +66,10 @@ fn below(table: &[u8], begin: usize, n: usize, top: usize) -> bool
     ensures { result ≡ any (λ t. descends table.now top t && any_of (optional_members table.now t)) (range (top + 1) (n - (top + 1))) }
 {
     let first = table::members_at(table, begin);
-    let mut t = top + 1;
-    while t < n {
+    for t in top + 1..n {
         if inherits(table, begin, first, top, t) {
             return true;
         }
-        t += 1;
     }
     false
 }
@@ -88,11 +81,5 @@ pub fn no_old(table: &[u8], begin: usize, top: usize) -> bool
     ensures { result ≡ no_old table.now top }
 {
     let n = table::types(table);
-    if above(table, begin, n, top) {
-        return true;
-    }
-    if n <= top {
-        return false;
-    }
-    below(table, begin, n, top)
+    above(table, begin, n, top) || top < n && below(table, begin, n, top)
 }

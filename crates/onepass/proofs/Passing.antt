@@ -10,33 +10,31 @@
 --   StructMembers, structs_..        the loop over the members of a struct, with their widths
 --   width_.., shape_..               the width and the shape of a struct, by those of its members
 --   Rows, rows_..                    the pass over the rows
---   Blank, blank_..                  the array as it is cleared
---   no_lists, few_types, pass_fine   the pass after the header
+--   no_lists, few_types, all_there, pass_fine   the pass after the header
 use Prim.Native.Nat.{ℕ, zero, suc, ◌+◌, ◌-◌, ◌*◌, ◌/◌, ◌%◌, ◌≤◌, ◌<◌, min, max}
 use mathlib.Core.Path.{◌≡◌, refl, sym, ap, ◌∙◌}
 use mathlib.Core.Bool.{Bool, true, false, ◌&&◌, ◌||◌, not, false≢true}
 use mathlib.Core.Logic.{⊎_elim}
 use mathlib.Core.List.{List}
-use native.Mathlib.Nat.{add-zero, sub-zero, eq-or-lt_of_le}
+use native.Mathlib.Nat.{add-zero, eq-or-lt_of_le}
 use native.Mathlib.Omega.{arith}
-use lib.ListN.{length, get_or, set, replicate, length-set, length-replicate, get_or-replicate}
-use lib.Seq.{get_or-set_same, get_or-set_other, ext_get_or}
+use lib.ListN.{length, get_or, set, replicate}
 use lib.Dec.{eqb, leb, ltb}
 use borrow.Author.Tests.{eqb-true, eqb-false, leb-false, ltb-false, not-true, not-false, le-leb, lt-leb, ne_eqb, eq-eqb}
-use Rattle.encoding.specs.Result.{pick, first_of}
+use Rattle.encoding.specs.Result.{pick}
 use Rattle.encoding.proofs.ResultLaws.{either_false}
 use Rattle.encoding.specs.Types.{seq, dict, fixed, fixeds}
-use Rattle.encoding.specs.Table.{at, with_lists, types, members, member_at, kind, field, is_record, owns, range, member_type, member_tys, own_rows, tys, part_ty, type_rows, used, no_part, header_tests, header_rules, fault_at, fine, faults}
+use Rattle.encoding.specs.Table.{at, row_at, with_lists, types, members, member_at, kind, field, is_record, owns, range, member_type, member_tys, own_rows, tys, part_ty, type_rows, used, no_part, header_tests, header_rules, fine, faults}
 use Rattle.encoding.proofs.TableLaws.{rows_below, member_in, members_more, members_none}
 use Rattle.encoding.proofs.RuleLaws.{header_test}
 use Rattle.table.specs.Rows.{IsTypeRow, greatest_of}
 use Rattle.table.specs.declared.TypeRow.{TypeRow}
-use Rattle.rules.specs.Checks.{finding_of, is_set_from, alike_from, record_rules, row_rules, share, is_basic, past, rows_pass, is_usual, owner_pass, owners_pass, OwnersThere}
-use Rattle.rules.specs.declared.Finding.TheVariants.{Fine}
-use Rattle.rules.proofs.Judging.{unused_enum, enum_plain, unused_seq, unused_two, unused_proxy, unused_exception, unused_class, enum_fine, struct_fine, list_fine, seq_fine, dict_fine, kind_enum, kind_struct, kind_seq, kind_dict, kind_list, kind_record, kind_plain, row_known, share_own, share_none, basic_kind, is_fine, Types, types_begin, types_basic, types_next, types_end, lists_without, Owner, owner_none, owner_begin, owner_end, usual_small, usual_next, type_of, Owners, owners_begin, owners_end, owners_next, owners_low, check_members}
+use Rattle.rules.specs.Checks.{finding_of, broken_of, placed, is_set_from, alike_from, record_rules, row_rules, share, is_basic, past, rows_pass, is_usual, owner_pass, owners_pass, OwnersThere}
+use Rattle.std.specs.Prelude.{Result, Ok, Err, Option, Some, None, IfSome, is_ok, is_err}
+use Rattle.rules.proofs.Judging.{unused_enum, enum_plain, unused_seq, unused_two, unused_proxy, unused_exception, unused_class, enum_fine, struct_fine, list_fine, seq_fine, dict_fine, kind_enum, kind_struct, kind_seq, kind_dict, kind_list, kind_record, kind_plain, row_known, share_own, share_none, basic_kind, is_fine, Types, types_begin, types_basic, types_next, types_end, lists_without, Owner, owner_none, owner_begin, owner_end, usual_small, usual_next, type_of, Owners, owners_begin, owners_end, owners_next, owners_low, all_rows_there, members_judged, header_judged}
 use Rattle.shapes.specs.Shapes.{narrow, width_of, widths_from, struct_shape, shape_of, plain_shape, shape_at, shapes_of, Shaped, width_in}
 use Rattle.shapes.proofs.Filling.{seq_single, seq_other, dict_other, dict_not, row_of_struct, row_of_seq, row_of_dict, row_of_none, plain_none, width_part, Filling, filling_begin, filling_next, filling_end}
-use Rattle.onepass.specs.Passing.{RowPassed, UnnamedPassed, AlonePassed, PlainRows}
+use Rattle.onepass.specs.Passing.{RowPassed, UnnamedPassed, AlonePassed, StructPassed, PlainRows}
 
 -- ---- rows that take no member rows
 
@@ -45,7 +43,7 @@ unfolding no_part
 part_there T t i b e q = leb-false _ _ (either_false (leb t i) _ (sym e ∙ q)).0
 
 module _ (T : List ℕ) (t : ℕ) (r : TypeRow) (h : t < type_rows T) (er : IsTypeRow T t r) (spare : r.spare ≡ 0) where
-  none_owned : owns r.kind ≡ false → Fine ≡ finding_of (owner_pass T t)
+  none_owned : owns r.kind ≡ false → Ok tt ≡ finding_of (owner_pass T t)
   none_owned e = owner_none T t 0 r er (share_none r (owns r.kind) refl e) refl
 
   pub enum_passed : with_lists T ≡ false → r.kind ≡ 8 → (s : Bool) → s ≡ is_set_from r 2 → s ≡ false → (g : ℕ) → g ≡ greatest_of r → g < 2147483648 → AlonePassed T t r 4
@@ -53,7 +51,7 @@ module _ (T : List ℕ) (t : ℕ) (r : TypeRow) (h : t < type_rows T) (er : IsTy
   enum_passed lists e s es q g eg l = record {
     passed = λ n. record {
       passed = λ b. record {
-        rules = row_known T t r n b spare s (unused_enum T r r.kind s e (enum_plain T r false (sym lists) refl s es)) q (omega arith) 0 (kind_enum T t r n 0 b e (enum_fine r g eg l));
+        rules = row_known T t r n b spare s (unused_enum T r r.kind s e (enum_plain T r false (sym lists) refl s es)) q (omega arith) (Ok tt) (kind_enum T t r n (Ok tt) b e (enum_fine r g eg l));
         members = none_owned (rw e);
         shape = row_of_none T t h r.kind er.kind_is (λ z. omega arith) (λ z. omega arith) (λ z. omega arith) 4 (ap plain_shape (sym e));
       };
@@ -65,7 +63,7 @@ module _ (T : List ℕ) (t : ℕ) (r : TypeRow) (h : t < type_rows T) (er : IsTy
     seq_passed x ex = record {
       passed = λ n. record {
         passed = λ b. record {
-          rules = row_known T t r n b spare s (unused_seq T r r.kind s e es) q (omega arith) 0 (kind_seq T t r n 0 b e (seq_fine T t r p ep fp));
+          rules = row_known T t r n b spare s (unused_seq T r r.kind s e es) q (omega arith) (Ok tt) (kind_seq T t r n (Ok tt) b e (seq_fine T t r p ep fp));
           members = none_owned (rw e);
           shape = row_of_seq T t h r.kind er.kind_is e x ex;
         };
@@ -76,8 +74,8 @@ module _ (T : List ℕ) (t : ℕ) (r : TypeRow) (h : t < type_rows T) (er : IsTy
       pub single_passed : k ≤ 1 → AlonePassed T t r 7
       single_passed l = seq_passed 7 (seq_single T t r.a (omega arith) er.a_is (part_there T t r.a p ep fp) k ek l)
 
-      pub other_passed : 1 < k → (b : Bool) → b ≡ fixed (part_ty T t r.a) → (y : ℕ) → y ≡ pick b 9 10 → (x : ℕ) → x ≡ y → AlonePassed T t r x
-      other_passed l b eb y ey x ex = seq_passed x (seq_other T t r.a (omega arith) er.a_is (part_there T t r.a p ep fp) k ek l b eb x (ex ∙ ey))
+      pub other_passed : 1 < k → (b : Bool) → b ≡ fixed (part_ty T t r.a) → (x : ℕ) → x ≡ pick b 9 10 → AlonePassed T t r x
+      other_passed l b eb x ex = seq_passed x (seq_other T t r.a (omega arith) er.a_is (part_there T t r.a p ep fp) k ek l b eb x ex)
 
   module _ (e : r.kind ≡ 11) (s : Bool) (es : s ≡ is_set_from r 2) (q : s ≡ false) (p : Bool) (ep : p ≡ no_part T t r.a) (fp : p ≡ false) (v : Bool) (ev : v ≡ no_part T t r.b) (fv : v ≡ false) (a : Bool) (ea : a ≡ fixed (part_ty T t r.a)) where
     dict_passed : (x : ℕ) → x ≡ shape_of (dict (part_ty T t (field T t 0)) (part_ty T t (field T t 1))) → AlonePassed T t r x
@@ -86,8 +84,8 @@ module _ (T : List ℕ) (t : ℕ) (r : TypeRow) (h : t < type_rows T) (er : IsTy
         passed = λ b. record {
           rules =
               row_known T t r n b spare s
-              (unused_two T r r.kind s (omega arith) (λ z. omega arith) (λ z. omega arith) (λ z. omega arith) (λ z. omega arith) (λ z. omega arith) (omega arith) es) q (omega arith) 0
-              (kind_dict T t r n 0 b e (dict_fine T t r p ep fp v ev fv));
+              (unused_two T r r.kind s (omega arith) (λ z. omega arith) (λ z. omega arith) (λ z. omega arith) (λ z. omega arith) (λ z. omega arith) (omega arith) es) q (omega arith) (Ok tt)
+              (kind_dict T t r n (Ok tt) b e (dict_fine T t r p ep fp v ev fv));
           members = none_owned (rw e);
           shape = row_of_dict T t h r.kind er.kind_is e x ex;
         };
@@ -97,8 +95,8 @@ module _ (T : List ℕ) (t : ℕ) (r : TypeRow) (h : t < type_rows T) (er : IsTy
     pub key_passed : not a ≡ true → AlonePassed T t r 10
     key_passed z = dict_passed 10 (dict_not T t r.a a er.a_is ea (not-true a z))
 
-    pub value_passed : not a ≡ false → (b : Bool) → b ≡ fixed (part_ty T t r.b) → (y : ℕ) → y ≡ pick b 9 10 → (x : ℕ) → x ≡ y → AlonePassed T t r x
-    value_passed z b eb y ey x ex = dict_passed x (dict_other T t r.a r.b er.a_is er.b_is a ea (not-false a z) b eb x (ex ∙ ey))
+    pub value_passed : not a ≡ false → (b : Bool) → b ≡ fixed (part_ty T t r.b) → (x : ℕ) → x ≡ pick b 9 10 → AlonePassed T t r x
+    value_passed z b eb x ex = dict_passed x (dict_other T t r.a r.b er.a_is er.b_is a ea (not-false a z) b eb x ex)
 
   pub proxy_passed : r.kind ≡ 12 → (s : Bool) → s ≡ is_set_from r 0 → s ≡ false → AlonePassed T t r 10
   unfolding plain_shape
@@ -106,8 +104,8 @@ module _ (T : List ℕ) (t : ℕ) (r : TypeRow) (h : t < type_rows T) (er : IsTy
     passed = λ n. record {
       passed = λ b. record {
         rules =
-            row_known T t r n b spare s (unused_proxy T r r.kind s e es) q (omega arith) 0
-            (kind_plain T t r n 0 b (λ z. omega arith) (λ z. omega arith) (λ z. omega arith) (λ z. omega arith) (is_record r.kind) refl (rw e) (λ z. omega arith));
+            row_known T t r n b spare s (unused_proxy T r r.kind s e es) q (omega arith) (Ok tt)
+            (kind_plain T t r n b (λ z. omega arith) (λ z. omega arith) (λ z. omega arith) (λ z. omega arith) (is_record r.kind) refl (rw e) (λ z. omega arith));
         members = none_owned (rw e);
         shape = row_of_none T t h r.kind er.kind_is (λ z. omega arith) (λ z. omega arith) (λ z. omega arith) 10 (ap plain_shape (sym e));
       };
@@ -117,39 +115,41 @@ module _ (T : List ℕ) (t : ℕ) (r : TypeRow) (h : t < type_rows T) (er : IsTy
   -- ---- a struct
 
   pub struct_passed : r.kind ≡ 9 → (s : Bool) → s ≡ is_set_from r 2 → s ≡ false → (n : ℕ) → r.a ≡ n → (r.b ≡ 0 → ⊥)
-      → (x : ℕ) → (x < 256 → Fine ≡ finding_of (owner_pass T t)) → (x < 256 → x ≡ shape_at T t) → x < 256 → UnnamedPassed T t r n x
-  struct_passed e s es q n ea nb x m y l = record {
+      → (o : Option ℕ) → IfSome o (StructPassed T t) → IfSome o (UnnamedPassed T t r n)
+  struct_passed e s es q n ea nb None p = tt
+  struct_passed e s es q n ea nb (Some x) p = record {
     passed = λ b. record {
       rules =
           row_known T t r n b spare s
-          (unused_two T r r.kind s (omega arith) (λ z. omega arith) (λ z. omega arith) (λ z. omega arith) (λ z. omega arith) (λ z. omega arith) (omega arith) es) q (omega arith) 0
-          (kind_struct T t r n 0 b e (struct_fine r n ea nb));
-      members = m l;
-      shape = y l;
+          (unused_two T r r.kind s (omega arith) (λ z. omega arith) (λ z. omega arith) (λ z. omega arith) (λ z. omega arith) (λ z. omega arith) (omega arith) es) q (omega arith) (Ok tt)
+          (kind_struct T t r n (Ok tt) b e (struct_fine r n ea nb));
+      members = p.members;
+      shape = p.shape;
     };
   }
 
 -- ---- the kinds 13 to 15
 
 module _ (T : List ℕ) (t : ℕ) (r : TypeRow) (spare : r.spare ≡ 0) where
-  pub record_rules_lem : (b : Bool) → b ≡ is_record r.kind → b ≡ true → (n : ℕ) (s : Bool) → 0 ≡ first_of (record_rules T t r n s) → 0 ≡ first_of (row_rules T t r n s)
-  record_rules_lem b eb q n s f = go (eqb r.kind 13) refl (eqb r.kind 14) refl (sym eb ∙ q)
+  pub record_rules_lem : (b : Bool) → b ≡ is_record r.kind → b ≡ true → (n : ℕ) (s : Bool) (v : Result Unit ℕ) → v ≡ broken_of (record_rules T t r n s) → (o : Bool) → o ≡ is_ok v → o ≡ true → Ok tt ≡ broken_of (row_rules T t r n s)
+  record_rules_lem b eb q n s (Err c) ev o eo h = absurd (false≢true (sym eo ∙ h))
+  record_rules_lem b eb q n s (Ok u) f o eo h = go (eqb r.kind 13) refl (eqb r.kind 14) refl (sym eb ∙ q)
     where
-      known : (k : ℕ) → r.kind ≡ k → 12 < k → k < 15 → false ≡ is_set_from r (used T r.kind) → 0 ≡ first_of (row_rules T t r n s)
+      known : (k : ℕ) → r.kind ≡ k → 12 < k → k < 15 → false ≡ is_set_from r (used T r.kind) → Ok tt ≡ broken_of (row_rules T t r n s)
       known k e low high u =
-          row_known T t r n s spare false u refl (omega arith) 0
-          (kind_record T t r n 0 s (λ z. omega arith) (λ z. omega arith) (λ z. omega arith) (λ z. omega arith) b eb q f)
+          row_known T t r n s spare false u refl (omega arith) (Ok tt)
+          (kind_record T t r n (Ok tt) s (λ z. omega arith) (λ z. omega arith) (λ z. omega arith) (λ z. omega arith) b eb q f)
 
-      go : (x : Bool) → eqb r.kind 13 ≡ x → (y : Bool) → eqb r.kind 14 ≡ y → x || y ≡ true → 0 ≡ first_of (row_rules T t r n s)
+      go : (x : Bool) → eqb r.kind 13 ≡ x → (y : Bool) → eqb r.kind 14 ≡ y → x || y ≡ true → Ok tt ≡ broken_of (row_rules T t r n s)
       go true ex y ey z = let e = eqb-true _ _ ex in known 13 e (omega arith) (omega arith) (unused_exception T r r.kind e)
       go false ex true ey z = let e = eqb-true _ _ ey in known 14 e (omega arith) (omega arith) (unused_class T r r.kind e)
       go false ex false ey z = absurd (false≢true z)
 
-  pub list_rules : r.kind ≡ 15 → (s : Bool) → s ≡ is_set_from r 2 → s ≡ false → (n : ℕ) → (b : Bool) → eqb r.a n ≡ true → 0 ≡ first_of (row_rules T t r n b)
+  pub list_rules : r.kind ≡ 15 → (s : Bool) → s ≡ is_set_from r 2 → s ≡ false → (n : ℕ) → (b : Bool) → eqb r.a n ≡ true → Ok tt ≡ broken_of (row_rules T t r n b)
   list_rules e s es q n b ea =
       row_known T t r n b spare s
-      (unused_two T r r.kind s (omega arith) (λ z. omega arith) (λ z. omega arith) (λ z. omega arith) (λ z. omega arith) (λ z. omega arith) (omega arith) es) q (omega arith) 0
-      (kind_list T t r n 0 b e (list_fine r n (eqb-true _ _ ea)))
+      (unused_two T r r.kind s (omega arith) (λ z. omega arith) (λ z. omega arith) (λ z. omega arith) (λ z. omega arith) (λ z. omega arith) (omega arith) es) q (omega arith) (Ok tt)
+      (kind_list T t r n (Ok tt) b e (list_fine r n (eqb-true _ _ ea)))
 
 record_within : (k : ℕ) → is_record k ≡ true → (13 ≤ k) × (k ≤ 15)
 record_within k q = go (eqb k 13) refl (eqb k 14) refl q
@@ -165,11 +165,11 @@ record_least k b eb q = (record_within k (sym eb ∙ q)).0
 pub record_most : (k : ℕ) (b : Bool) → b ≡ is_record k → b ≡ true → k ≤ 15
 record_most k b eb q = (record_within k (sym eb ∙ q)).1
 
--- the loop over the member rows of row o, of one of these kinds: `left` rows from m on remain, and the tags before are below `above`
-pub record Usual (T : List ℕ) (o left m above : ℕ) : Type 0 where
+-- the loop over the member rows of row o, of one of these kinds, up to row `end`: the tags before row m are below `above`
+pub record Usual (T : List ℕ) (o end m above : ℕ) : Type 0 where
   pub own : TypeRow
   pub no_struct : 13 ≤ own.kind
-  pub rows_left : Owner T o own left m above
+  pub rows_left : Owner T o own end m above
 
 module _ (own : TypeRow) (least : 13 ≤ own.kind) (most : own.kind ≤ 15) where
   owned : owns own.kind ≡ true
@@ -180,12 +180,12 @@ module _ (own : TypeRow) (least : 13 ≤ own.kind) (most : own.kind ≤ 15) wher
       go false ex true ey = let e : own.kind ≡ 14 = eqb-true own.kind 14 ey in rw e
       go false ex false ey = let e : own.kind ≡ 15 = omega (arith, eqb-false own.kind 13 ex, eqb-false own.kind 14 ey) in rw e
 
-  pub usual_begin : (T : List ℕ) (o : ℕ) → ((i : ℕ) → get_or T i 0 < 256) → IsTypeRow T o own → Usual T o own.b own.a 0
+  pub usual_begin : (T : List ℕ) (o : ℕ) → ((i : ℕ) → get_or T i 0 < 256) → IsTypeRow T o own → Usual T o (own.a + own.b) own.a 0
   usual_begin T o small eo = record { own = own; no_struct = least; rows_left = owner_begin T o own.b own eo (share_own own (owns own.kind) refl owned) small }
 
 pub owner_passed : (T : List ℕ) (o : ℕ) (own : TypeRow) (n : ℕ) (s : Bool) → o < type_rows T → IsTypeRow T o own
-    → (b : Bool) → (b ≡ true → 0 ≡ first_of (row_rules T o own n s)) → (b ≡ true → (13 ≤ own.kind) × (own.kind ≤ 15)) → b ≡ true
-    → (m : Bool) → (m ≡ true → Fine ≡ finding_of (owner_pass T o)) → m ≡ true → RowPassed T o own n s 10
+    → (b : Bool) → (b ≡ true → Ok tt ≡ broken_of (row_rules T o own n s)) → (b ≡ true → (13 ≤ own.kind) × (own.kind ≤ 15)) → b ≡ true
+    → (m : Bool) → (m ≡ true → Ok tt ≡ finding_of (owner_pass T o)) → m ≡ true → RowPassed T o own n s 10
 owner_passed T o own n s h eo b fb kb qb m fm qm =
     let K = kb qb in
     record {
@@ -197,28 +197,28 @@ owner_passed T o own n s h eo b fb kb qb m fm qm =
     ten : (k : ℕ) → 13 ≤ k → 10 ≡ plain_shape k
     ten k l = plain_none k (λ z. omega arith) (λ z. omega arith) (λ z. omega arith) (λ z. omega arith) (λ z. omega arith) (λ z. omega arith) (λ z. omega arith) (λ z. omega arith) (λ z. omega arith)
 
-module _ (T : List ℕ) (o left m above : ℕ) (inv : Usual T o left m above) where
-  pub usual_step : 0 < left → (p x : ℕ) → p ≡ member_at T m → x ≡ at T 8 p → (u : Bool) → u ≡ is_usual x true above → not u ≡ false
-      → (b : Bool) → b ≡ no_part T o (x % 65536) → b ≡ false → (a : ℕ) → a ≡ max above (x / 4294967296 + 1) → Usual T o (left - 1) (m + 1) a
+module _ (T : List ℕ) (o end m above : ℕ) (inv : Usual T o end m above) where
+  pub usual_step : m < end → (p x : ℕ) → p ≡ member_at T m → x ≡ at T 8 p → (u : Bool) → u ≡ is_usual x true above → not u ≡ false
+      → (b : Bool) → b ≡ no_part T o (x % 65536) → b ≡ false → (a : ℕ) → a ≡ max above (x / 4294967296 + 1) → Usual T o end (m + 1) a
   usual_step h p x ep ex u eu q b eb fb a ea = record {
     own = inv.own;
     no_struct = inv.no_struct;
-    rows_left = usual_next T o inv.own left m above inv.rows_left h p x ep ex u (eu ∙ ap (λ (z : Bool). is_usual x z above) (other inv.own.kind inv.no_struct)) q b eb fb a ea;
+    rows_left = usual_next T o inv.own end m above inv.rows_left h p x ep ex u (eu ∙ ap (λ (z : Bool). is_usual x z above) (other inv.own.kind inv.no_struct)) q b eb fb a ea;
   }
     where
       other : (k : ℕ) → 13 ≤ k → true ≡ not (eqb k 9)
       other k l = rw (ne_eqb k 9 (λ z. omega arith))
 
-  pub usual_end : left ≤ 0 → Fine ≡ finding_of (owner_pass T o)
-  usual_end h = owner_end T o inv.own left m above inv.rows_left h
+  pub usual_end : end ≤ m → Ok tt ≡ finding_of (owner_pass T o)
+  usual_end h = owner_end T o inv.own end m above inv.rows_left h
 
 -- a required member row with tag 0, one number
-usual_required : (T : List ℕ) (o left m above : ℕ) → Usual T o left m above → 0 < left → above ≤ 1 → o < type_rows T
-    → (x : ℕ) → x ≡ at T 8 (member_at T m) → no_part T o x ≡ false → Usual T o (left - 1) (m + 1) 1
-usual_required T o left m above inv h l low x ex part =
+usual_required : (T : List ℕ) (o end m above : ℕ) → Usual T o end m above → m < end → above ≤ 1 → o < type_rows T
+    → (x : ℕ) → x ≡ at T 8 (member_at T m) → no_part T o x ≡ false → Usual T o end (m + 1) 1
+usual_required T o end m above inv h l low x ex part =
     let below = part_there T o x false (sym part) refl in
     let whole : x % 65536 ≡ x = omega (arith, below, rows_below T) in
-    usual_step T o left m above inv h (member_at T m) x refl ex true (usual_small x above true (omega (arith, below, rows_below T))) refl
+    usual_step T o end m above inv h (member_at T m) x refl ex true (usual_small x above true (omega (arith, below, rows_below T))) refl
     false (sym (ap (no_part T o) whole ∙ part)) refl 1 (omega (arith, below, rows_below T))
 
 -- these rows: none, one more, and the loop after them
@@ -232,69 +232,76 @@ module _ (T : List ℕ) (o from : ℕ) where
         ⊎_elim (λ z. rw z (ap (no_part T o) (sym (ex ∙ ap (at T 8) ep)) ∙ sym eb ∙ fb)) (λ l. inv.plain j l) (eq-or-lt_of_le le);
   }
 
-  module _ (low : o < type_rows T) (n : ℕ) (inv : Usual T o n from 0) where
-    plain_steps : (k : ℕ) → k ≤ n → PlainRows T o from k → Usual T o (n - k) (from + k) (min k 1)
-    plain_steps zero h P = rw (sub-zero, add-zero) inv
+  module _ (low : o < type_rows T) (end : ℕ) (inv : Usual T o end from 0) where
+    plain_steps : (k : ℕ) → from + k ≤ end → PlainRows T o from k → Usual T o end (from + k) (min k 1)
+    plain_steps zero h P = rw add-zero inv
     plain_steps (suc k) h P =
-        go (n - suc k) (from + suc k) (min (suc k) 1) (omega arith) (omega arith) (omega arith)
-        (usual_required T o (n - k) (from + k) (min k 1) (plain_steps k (omega arith) (record { plain = λ j l. P.plain j (omega arith) })) (omega arith) (omega arith) low
+        go (from + suc k) (min (suc k) 1) (omega arith) (omega arith)
+        (usual_required T o end (from + k) (min k 1) (plain_steps k (omega arith) (record { plain = λ j l. P.plain j (omega arith) })) (omega arith) (omega arith) low
         _ refl (P.plain k (omega arith)))
       where
-        go : (left m above : ℕ) → left ≡ n - k - 1 → m ≡ from + k + 1 → above ≡ 1 → Usual T o (n - k - 1) (from + k + 1) 1 → Usual T o left m above
-        go left m above e f g u = rw (e, f, g) u
+        go : (m above : ℕ) → m ≡ from + k + 1 → above ≡ 1 → Usual T o end (from + k + 1) 1 → Usual T o end m above
+        go m above f g u = rw (f, g) u
 
-    pub usual_plain : (k : ℕ) → (k ≤ n) × PlainRows T o from k → (a : ℕ) → a ≡ min k 1 → Usual T o (n - k) (from + k) a
-    usual_plain k P a e = rw e (plain_steps k P.0 P.1)
+    pub usual_plain : (k n : ℕ) → (k ≤ n) × PlainRows T o from k → from + n ≡ end → (a : ℕ) → a ≡ min k 1 → Usual T o end (from + k) a
+    usual_plain k n P l a e = rw e (plain_steps k (omega (arith, P.0)) P.1)
 
-pub alone_passed : (T : List ℕ) (t : ℕ) (r : TypeRow) (x n : ℕ) (b : Bool) → (x < 256 → AlonePassed T t r x) → x < 256 → RowPassed T t r n b x
-alone_passed T t r x n b f l = ((f l).passed n).passed b
+-- a row alone, or without a name, is a row
+pub alone_passed : (T : List ℕ) (t : ℕ) (r : TypeRow) (n : ℕ) (b : Bool) (o : Option ℕ) → IfSome o (AlonePassed T t r) → IfSome o (RowPassed T t r n b)
+alone_passed T t r n b None p = tt
+alone_passed T t r n b (Some x) p = (p.passed n).passed b
 
-pub unnamed_passed : (T : List ℕ) (t : ℕ) (r : TypeRow) (x n : ℕ) (b : Bool) → (x < 256 → UnnamedPassed T t r n x) → x < 256 → RowPassed T t r n b x
-unnamed_passed T t r x n b f l = (f l).passed b
+pub unnamed_passed : (T : List ℕ) (t : ℕ) (r : TypeRow) (n : ℕ) (b : Bool) (o : Option ℕ) → IfSome o (UnnamedPassed T t r n) → IfSome o (RowPassed T t r n b)
+unnamed_passed T t r n b None p = tt
+unnamed_passed T t r n b (Some x) p = p.passed b
 
 -- ---- the members of a struct
 
--- the loop over a struct's members: `sum`, `wide` and `all` of those so far, and what the `left` rows from m on add
-pub record StructMembers (T : List ℕ) (t m left sum : ℕ) (wide all : Bool) : Type 0 where
+-- the loop over a struct's members: `sum`, `wide` and `all` of those so far, and what the rows from m to `end` add
+pub record StructMembers (T : List ℕ) (t m end sum : ℕ) (wide all : Bool) : Type 0 where
   pub own : TypeRow
   pub nine : own.kind ≡ 9
-  pub owner : Owner T t own left m 1
-  pub bound : sum + 256 * left < 16777216
-  pub widths : widths_from 0 (member_tys T (tys T t) (own_rows T t)) ≡ pick wide (widths_from sum (member_tys T (tys T t) (range m left))) 0
-  pub fixed_size : fixeds (member_tys T (tys T t) (own_rows T t)) ≡ all && fixeds (member_tys T (tys T t) (range m left))
+  pub owner : Owner T t own end m 1
+  pub bound : sum + 256 * (end - m) < 16777216
+  pub widths : widths_from 0 (member_tys T (tys T t) (own_rows T t)) ≡ pick wide (widths_from sum (member_tys T (tys T t) (range m (end - m)))) 0
+  pub fixed_size : fixeds (member_tys T (tys T t) (own_rows T t)) ≡ all && fixeds (member_tys T (tys T t) (range m (end - m)))
 
 -- the invariant holds with a higher bound on tags too
-raise : (T : List ℕ) (t : ℕ) (own : TypeRow) (left m : ℕ) → Owner T t own left m 0 → Owner T t own left m 1
-raise T t own left m inv = record { bytes = inv.bytes; own_is = inv.own_is; below = λ i l h. omega (arith, inv.below i l h); rest = inv.rest }
+raise : (T : List ℕ) (t : ℕ) (own : TypeRow) (end m : ℕ) → Owner T t own end m 0 → Owner T t own end m 1
+raise T t own end m inv = record { bytes = inv.bytes; own_is = inv.own_is; below = λ i l h. omega (arith, inv.below i l h); rest = inv.rest }
 
-pub structs_begin : (T : List ℕ) (t : ℕ) (own : TypeRow) → ((i : ℕ) → get_or T i 0 < 256) → IsTypeRow T t own → own.kind ≡ 9 → StructMembers T t own.a own.b 0 true true
+pub structs_begin : (T : List ℕ) (t : ℕ) (own : TypeRow) → ((i : ℕ) → get_or T i 0 < 256) → IsTypeRow T t own → own.kind ≡ 9 → StructMembers T t own.a (own.a + own.b) 0 true true
 unfolding own_rows
-structs_begin T t own small eo e = record {
-  own = own;
-  nine = e;
-  owner = raise T t own own.b own.a (owner_begin T t own.b own eo (share_own own (owns own.kind) refl (rw e)) small);
-  bound = omega (arith, eo.b_small);
-  widths = rw (eo.a_is, eo.b_is);
-  fixed_size = rw (eo.a_is, eo.b_is);
-}
+structs_begin T t own small eo e =
+    let z : own.a + own.b - own.a ≡ field T t 1 = omega (arith, eo.b_is) in
+    record {
+      own = own;
+      nine = e;
+      owner = raise T t own (own.a + own.b) own.a (owner_begin T t own.b own eo (share_own own (owns own.kind) refl (rw e)) small);
+      bound = omega (arith, eo.b_small);
+      widths = rw (z, eo.a_is);
+      fixed_size = rw (z, eo.a_is);
+    }
 
-module _ (T : List ℕ) (t m left sum : ℕ) (wide all : Bool) (inv : StructMembers T t m left sum wide all) where
-  pub structs_fine : left ≤ 0 → Fine ≡ finding_of (owner_pass T t)
-  structs_fine h = owner_end T t inv.own left m 1 inv.owner h
+module _ (T : List ℕ) (t m end sum : ℕ) (wide all : Bool) (inv : StructMembers T t m end sum wide all) where
+  -- no member is left
+  module _ (h : end ≤ m) (low : t < type_rows T) (w : ℕ) (ew : w ≡ narrow (pick wide sum 0)) (x : ℕ) (ex : x ≡ struct_shape w all) where
+    shape_is : x ≡ shape_at T t
+    unfolding shape_of width_of widths_from fixeds
+    shape_is =
+        let none = members_none T (tys T t) m (end - m) (omega arith) in
+        let a : widths_from 0 (member_tys T (tys T t) (own_rows T t)) ≡ pick wide sum 0 = inv.widths ∙ rw none in
+        let f : fixeds (member_tys T (tys T t) (own_rows T t)) ≡ all = inv.fixed_size ∙ rw none (plus all) in
+        row_of_struct T t low inv.own.kind inv.owner.own_is.kind_is inv.nine x (ex ∙ rw (ew, ← a, ← f))
+      where
+        plus : (b : Bool) → b && true ≡ b
+        plus true = refl
+        plus false = refl
 
-  pub structs_shape : left ≤ 0 → t < type_rows T → (w : ℕ) → w ≡ narrow (pick wide sum 0) → (x : ℕ) → x ≡ struct_shape w all → x ≡ shape_at T t
-  unfolding shape_of width_of widths_from fixeds
-  structs_shape h l w ew x ex =
-      let none = members_none T (tys T t) m left h in
-      let a : widths_from 0 (member_tys T (tys T t) (own_rows T t)) ≡ pick wide sum 0 = inv.widths ∙ rw none in
-      let f : fixeds (member_tys T (tys T t) (own_rows T t)) ≡ all = inv.fixed_size ∙ rw none (plus all) in
-      row_of_struct T t l inv.own.kind inv.owner.own_is.kind_is inv.nine x (ex ∙ rw (ew, ← a, ← f))
-    where
-      plus : (b : Bool) → b && true ≡ b
-      plus true = refl
-      plus false = refl
+    pub structs_end : StructPassed T t x
+    structs_end = record { members = owner_end T t inv.own end m 1 inv.owner h; shape = shape_is }
 
-  module _ (h : 0 < left) (count : ℕ) (ec : count ≡ members T) (few : m + left ≤ count) (p x : ℕ) (ep : p ≡ member_at T m) (ex : x ≡ at T 8 p)
+  module _ (h : m < end) (count : ℕ) (ec : count ≡ members T) (few : end ≤ count) (p x : ℕ) (ep : p ≡ member_at T m) (ex : x ≡ at T 8 p)
       (b : Bool) (eb : b ≡ no_part T t x) (fb : b ≡ false) (low : t < type_rows T) where
     part_low : x < t
     part_low = part_there T t x b eb fb
@@ -305,27 +312,30 @@ module _ (T : List ℕ) (t m left sum : ℕ) (wide all : Bool) (inv : StructMemb
     part_is : x ≡ member_type T m
     part_is = sym part_small ∙ type_of T inv.owner.bytes m x (ex ∙ ap (at T 8) ep)
 
-    part_next : Owner T t inv.own (left - 1) (m + 1) 1
-    part_next = usual_next T t inv.own left m 1 inv.owner h p x ep ex true (usual_small x 1 (not (eqb inv.own.kind 9)) (omega (arith, part_low, rows_below T))) refl b (eb ∙ ap (no_part T t) (sym part_small)) fb 1 (omega (arith, part_low, rows_below T))
+    part_next : Owner T t inv.own end (m + 1) 1
+    part_next = usual_next T t inv.own end m 1 inv.owner h p x ep ex true (usual_small x 1 (not (eqb inv.own.kind 9)) (omega (arith, part_low, rows_below T))) refl b (eb ∙ ap (no_part T t) (sym part_small)) fb 1 (omega (arith, part_low, rows_below T))
+
+    later : end - m - 1 ≡ end - (m + 1)
+    later = omega arith
 
     module _ (shapes : List ℕ) (below : Shaped T shapes t) (w : ℕ) (ew : w ≡ pick (leb t x) 0 (width_in shapes x)) (small : w < 256)
         (f : Bool) (ef : f ≡ fixed (part_ty T t x)) where
-      first_width : widths_from sum (member_tys T (tys T t) (range m left)) ≡ pick (eqb w 0) 0 (widths_from (sum + w) (member_tys T (tys T t) (range (m + 1) (left - 1))))
+      first_width : widths_from sum (member_tys T (tys T t) (range m (end - m))) ≡ pick (eqb w 0) 0 (widths_from (sum + w) (member_tys T (tys T t) (range (m + 1) (end - (m + 1)))))
       unfolding widths_from part_ty
-      first_width = rw (members_more T (tys T t) m left h, member_in T m (tys T t) (omega arith), ← part_is, ← width_part T shapes t x w (omega arith) below ew)
+      first_width = rw (members_more T (tys T t) m (end - m) (omega arith), later, member_in T m (tys T t) (omega arith), ← part_is, ← width_part T shapes t x w (omega arith) below ew)
 
-      first_fixed : fixeds (member_tys T (tys T t) (range m left)) ≡ f && fixeds (member_tys T (tys T t) (range (m + 1) (left - 1)))
+      first_fixed : fixeds (member_tys T (tys T t) (range m (end - m))) ≡ f && fixeds (member_tys T (tys T t) (range (m + 1) (end - (m + 1))))
       unfolding fixeds part_ty
-      first_fixed = rw (members_more T (tys T t) m left h, member_in T m (tys T t) (omega arith), ← part_is, ← ef)
+      first_fixed = rw (members_more T (tys T t) m (end - m) (omega arith), later, member_in T m (tys T t) (omega arith), ← part_is, ← ef)
 
-      pub structs_next : (g : Bool) → g ≡ wide && not (eqb w 0) → (k : Bool) → k ≡ all && f → StructMembers T t (m + 1) (left - 1) (sum + w) g k
-      structs_next g eg k ek = record {
+      pub structs_next : StructMembers T t (m + 1) end (sum + w) (wide && not (eqb w 0)) (all && f)
+      structs_next = record {
         own = inv.own;
         nine = inv.nine;
         owner = part_next;
         bound = omega (arith, inv.bound);
-        widths = inv.widths ∙ ap (λ (z : ℕ). pick wide z 0) first_width ∙ both_wide wide (eqb w 0) _ ∙ ap (λ (z : Bool). pick z (widths_from (sum + w) (member_tys T (tys T t) (range (m + 1) (left - 1)))) 0) (sym eg);
-        fixed_size = inv.fixed_size ∙ ap (λ (z : Bool). all && z) first_fixed ∙ and_assoc all f _ ∙ ap (λ (z : Bool). z && fixeds (member_tys T (tys T t) (range (m + 1) (left - 1)))) (sym ek);
+        widths = inv.widths ∙ ap (λ (z : ℕ). pick wide z 0) first_width ∙ both_wide wide (eqb w 0) _;
+        fixed_size = inv.fixed_size ∙ ap (λ (z : Bool). all && z) first_fixed ∙ and_assoc all f _;
       }
         where
           both_wide : (c d : Bool) (y : ℕ) → pick c (pick d 0 y) 0 ≡ pick (c && not d) y 0
@@ -353,8 +363,8 @@ module _ (w : ℕ) (b : Bool) where
   pub shape_wide : (w ≡ 0 → ⊥) → 18 + w ≡ struct_shape w b
   shape_wide h = rw (ne_eqb w 0 h)
 
-  pub shape_other : w ≡ 0 → (y : ℕ) → y ≡ pick b 9 10 → (x : ℕ) → x ≡ y → x ≡ struct_shape w b
-  shape_other h y ey x ex = ex ∙ ey ∙ sym (rw (eq-eqb w 0 h))
+  pub shape_other : w ≡ 0 → (x : ℕ) → x ≡ pick b 9 10 → x ≡ struct_shape w b
+  shape_other h x ex = ex ∙ sym (rw (eq-eqb w 0 h))
 
 -- ---- the pass over the rows
 
@@ -384,65 +394,49 @@ module _ (T shapes : List ℕ) (n t prior from : ℕ) (inv : Rows T shapes n t p
           shapes_so_far = filling_next T shapes t inv.shapes_so_far n y er h (row_of_none T t (omega arith) k ek (λ z. omega arith) (λ z. omega arith) (λ z. omega arith) y ey);
         }
 
-    pub rows_next : (r : TypeRow) → IsTypeRow T t r → (x : ℕ) → (x < 256 → RowPassed T t r prior (alike_from T from t) x) → x ≤ 255
+    pub rows_next : (r : TypeRow) → IsTypeRow T t r → (o : Option ℕ) → IfSome o (RowPassed T t r prior (alike_from T from t)) → (x : ℕ) → o ≡ Some x
         → (s : ℕ) → s ≡ share r → s ≤ r.b → (b : Bool) → b ≡ is_record r.kind → (f : ℕ) → f ≡ past from t (not b)
         → Rows T (set shapes t x) n (t + 1) (prior + s) f
-    rows_next r er' x p l s es hs b eb f ef =
-        let P = p (omega arith) in
+    unfolding placed
+    rows_next r er' o p x q s es hs b eb f ef =
+        let P : RowPassed T t r prior (alike_from T from t) x = rw q at p in
         record {
-          types_so_far = types_next T n t prior from inv.types_so_far h r er' 0 P.rules refl s es hs b eb f ef;
-          owners_so_far = owners_next T n t inv.owners_so_far h en Fine (λ there. P.members) refl;
+          types_so_far = types_next T n t prior from inv.types_so_far h r er' (row_at T t) refl (Ok tt) P.rules (Ok tt) refl tt refl s es hs b eb f ef;
+          owners_so_far = owners_next T n t inv.owners_so_far h en (Ok tt) (λ there. P.members) tt refl;
           shapes_so_far = filling_next T shapes t inv.shapes_so_far n x er h P.shape;
         }
 
   module _ (h : n ≤ t) where
-    pub rows_types : n ≡ types T → with_lists T ≡ false → (all : ℕ) → all ≡ members T → eqb prior all ≡ true → Fine ≡ finding_of (rows_pass T)
-    rows_types en lists all ea q = types_end T n t prior from inv.types_so_far en h Fine (lists_without T false (sym lists) refl) refl all ea (eqb-true _ _ q)
+    pub rows_types : n ≡ types T → with_lists T ≡ false → (all : ℕ) → all ≡ members T → eqb prior all ≡ true → Ok tt ≡ finding_of (rows_pass T)
+    rows_types en lists all ea q = types_end T n t prior from inv.types_so_far en h (Ok tt) (lists_without T false (sym lists) refl) tt refl all ea (eqb-true _ _ q)
 
-    pub rows_owners : OwnersThere T → Fine ≡ finding_of (owners_pass T (range 0 (types T)))
+    pub rows_owners : OwnersThere T → Ok tt ≡ finding_of (owners_pass T (range 0 (types T)))
     rows_owners there = owners_end T n t inv.owners_so_far h there
 
     pub rows_shapes : n ≡ type_rows T → shapes ≡ shapes_of T
     rows_shapes er = filling_end T shapes t n inv.shapes_so_far er h
-
--- ---- the array as it is cleared
-
-pub record Blank (shapes : List ℕ) (i : ℕ) : Type 0 where
-  pub size : length shapes ≡ 256
-  pub ten : (j : ℕ) → j < i → get_or shapes j 0 ≡ 10
-
-pub blank_begin : (shapes : List ℕ) → length shapes ≡ 256 → Blank shapes 0
-blank_begin shapes e = record { size = e; ten = λ j l. absurd (omega arith) }
-
-module _ (shapes : List ℕ) (i : ℕ) (inv : Blank shapes i) where
-  pub blank_next : i < 256 → Blank (set shapes i 10) (i + 1)
-  blank_next h = record {
-    size = length-set shapes i 10 ∙ inv.size;
-    ten = λ j l. ⊎_elim
-        (λ q. rw q (get_or-set_same shapes i 10 0 (omega (arith, inv.size))))
-        (λ q. get_or-set_other shapes i j 10 0 (λ z. omega arith) ∙ inv.ten j q)
-        (eq-or-lt_of_le {n = j} {m = i} (omega arith));
-  }
-
-  pub blank_end : 256 ≤ i → shapes ≡ replicate 256 10
-  blank_end h = ext_get_or 0 shapes (replicate 256 10) (inv.size ∙ sym (length-replicate {A = ℕ} 256 10))
-      (λ j l. inv.ten j (omega (arith, inv.size)) ∙ sym (get_or-replicate {A = ℕ} 256 j 10 0 (omega (arith, inv.size))))
 
 -- ---- after the header
 
 pub no_lists : (T : List ℕ) (b : Bool) → b ≡ with_lists T → b ≡ false → with_lists T ≡ false
 no_lists T b e q = sym e ∙ q
 
-module _ (T : List ℕ) (c : ℕ) (ec : fault_at 0 c ≡ header_rules T) (head : c ≡ 0) where
-  header_fine : header_rules T ≡ fine
-  unfolding fault_at
-  header_fine = sym ec ∙ rw head
+module _ (T : List ℕ) (v : Result Unit ℕ) (ev : placed 0 v ≡ finding_of (header_rules T)) (e : Bool) (ee : e ≡ is_err v) (kept : e ≡ false) where
+  head : header_rules T ≡ fine
+  head = go v refl
+    where
+      go : (w : Result Unit ℕ) → v ≡ w → header_rules T ≡ fine
+      go (Ok u) q = header_judged T v ev u q
+      go (Err c) q = absurd (false≢true (sym kept ∙ ee ∙ ap is_err q))
 
   pub few_types : (n : ℕ) → n ≡ types T → n ≡ type_rows T
   unfolding header_tests type_rows
   few_types n e =
-      let l = ltb-false 256 (types T) (either_false (eqb (types T) 0) (ltb 256 (types T)) (header_test T header_fine 3)).1 in
+      let l = ltb-false 256 (types T) (either_false (eqb (types T) 0) (ltb 256 (types T)) (header_test T head 3)).1 in
       e ∙ sym (rw (le-leb (types T) 256 l))
 
-  pub pass_fine : (b : Bool) → (b ≡ true → Fine ≡ finding_of (rows_pass T)) → (b ≡ true → OwnersThere T → Fine ≡ finding_of (owners_pass T (range 0 (types T)))) → b ≡ true → faults T ≡ fine
-  pass_fine b f g q = is_fine (faults T) (sym (check_members T c ec head Fine (f q) refl Fine (g q)))
+  pub all_there : (k : ℕ) → k ≡ members T → member_at T k ≤ length T
+  all_there = all_rows_there T head
+
+  pub pass_fine : (b : Bool) → (b ≡ true → Ok tt ≡ finding_of (rows_pass T)) → (b ≡ true → OwnersThere T → Ok tt ≡ finding_of (owners_pass T (range 0 (types T)))) → b ≡ true → faults T ≡ fine
+  pass_fine b f g q = is_fine (faults T) tt (sym (members_judged T head (Ok tt) (f q) tt refl (Ok tt) (g q)))

@@ -1,92 +1,84 @@
 // One pass over a table of version 1 that judges each row and computes its shape. A yes says that the table breaks no rule and that the array holds its shapes.
 // A no says nothing: `rules` then decides, and `shapes` fills the array. Usual tables get a yes; a table whose tags fall, or that has lists of enumerators, does not.
-// The functions for a row return its shape, or 256 if it may break a rule.
+// The functions for a row return its shape, or None if it may break a rule.
 #![tactic(auto)]
 
-ghost use Rattle.std.specs.Prelude.{◌≡◌, true, false, ◌&&◌, ◌+◌, ◌≤◌, ◌<◌, length, replicate};
-ghost use Rattle.encoding.specs.Result.{pick, first_of};
+ghost use Rattle.std.specs.Prelude.{◌≡◌, true, false, ◌&&◌, ◌+◌, ◌≤◌, ◌<◌, length, replicate, Ok, IfSome};
+ghost use Rattle.encoding.specs.Result.{pick};
 ghost use Rattle.encoding.specs.Table.{with_lists, types, members, types_at, row_at, members_at, member_at, names_at, range, type_rows, fine, faults};
 ghost use Rattle.table.specs.Rows.{IsTypeRow};
-ghost use Rattle.rules.specs.Checks.{finding_of, alike_from, record_rules, row_rules, rows_pass, owner_pass, owners_pass, OwnersThere};
-ghost use Rattle.rules.specs.declared.Finding.TheVariants.{Fine};
+ghost use Rattle.rules.specs.Checks.{finding_of, broken_of, alike_from, row_rules, rows_pass, owner_pass, owners_pass, OwnersThere};
 ghost use Rattle.shapes.specs.Shapes.{narrow, struct_shape, shape_at, shapes_of, Shaped};
-ghost use Rattle.onepass.specs.Passing.{RowPassed, UnnamedPassed, AlonePassed, PlainRows};
+ghost use Rattle.onepass.specs.Passing.{RowPassed, UnnamedPassed, AlonePassed, StructPassed, PlainRows};
 
 use table::TypeRow;
 
-// Both hold.
-fn both(a: bool, b: bool) -> bool
-    ensures { result ≡ a && b }
-{
-    if a { b } else { false }
-}
-
 // Enum row t.
-fn enum_row(table: &[u8], t: usize, row: TypeRow) -> usize
+fn enum_row(table: &[u8], t: usize, row: TypeRow) -> Option<u8>
     requires table_value { with_lists table.now ≡ false }
     requires t_bound { t < type_rows table.now }
     requires type_row { IsTypeRow table.now t row }
     requires kind_value { (row.kind ≡ 8) × (row.spare ≡ 0) }
-    ensures { result < 256 → AlonePassed table.now t row result }
+    ensures { IfSome result (AlonePassed table.now t row) }
 {
-    if rules::is_set_from_c(row) {
-        return 256;
+    if rules::is_set_from(row, 2) {
+        return None;
     }
     if 2147483648 <= table::greatest(row) {
-        return 256;
+        return None;
     }
-    4
+    Some(4)
 }
 
 // Sequence row t. The array has the shapes of the rows below it, here and below.
-fn seq_row(table: &[u8], begin: usize, shapes: &[u8; 256], t: usize, row: TypeRow) -> usize
+fn seq_row(table: &[u8], begin: usize, shapes: &[u8; 256], t: usize, row: TypeRow) -> Option<u8>
     requires begin_value { begin ≡ types_at table.now }
     requires t_in_bounds { row_at table.now t ≤ length table.now }
     requires t_bound { t < type_rows table.now }
     requires shaped { Shaped table.now shapes.now t }
     requires type_row { IsTypeRow table.now t row }
     requires kind_value { (row.kind ≡ 10) × (row.spare ≡ 0) }
-    ensures { result < 256 → AlonePassed table.now t row result }
+    ensures { IfSome result (AlonePassed table.now t row) }
 {
-    if rules::is_set_from_b(row) {
-        return 256;
+    if rules::is_set_from(row, 1) {
+        return None;
     }
     if rules::no_part(table, begin, t, row.a) {
-        return 256;
+        return None;
     }
     if table::kind_in(table, begin, row.a) <= 1 {
-        return 7;
+        return Some(7);
     }
-    wire::wide(shapes::counted(shapes::is_fixed(table, begin, shapes, t, row.a)))
+    Some(shapes::counted(shapes::is_fixed(table, begin, shapes, t, row.a)))
 }
 
 // Dictionary row t.
-fn dict_row(table: &[u8], begin: usize, shapes: &[u8; 256], t: usize, row: TypeRow) -> usize
+fn dict_row(table: &[u8], begin: usize, shapes: &[u8; 256], t: usize, row: TypeRow) -> Option<u8>
     requires begin_value { begin ≡ types_at table.now }
     requires t_in_bounds { row_at table.now t ≤ length table.now }
     requires t_bound { t < type_rows table.now }
     requires shaped { Shaped table.now shapes.now t }
     requires type_row { IsTypeRow table.now t row }
     requires kind_value { (row.kind ≡ 11) × (row.spare ≡ 0) }
-    ensures { result < 256 → AlonePassed table.now t row result }
+    ensures { IfSome result (AlonePassed table.now t row) }
 {
-    if rules::is_set_from_c(row) {
-        return 256;
+    if rules::is_set_from(row, 2) {
+        return None;
     }
     if rules::no_part(table, begin, t, row.a) {
-        return 256;
+        return None;
     }
     if rules::no_part(table, begin, t, row.b) {
-        return 256;
+        return None;
     }
     if !shapes::is_fixed(table, begin, shapes, t, row.a) {
-        return 10;
+        return Some(10);
     }
-    wire::wide(shapes::counted(shapes::is_fixed(table, begin, shapes, t, row.b)))
+    Some(shapes::counted(shapes::is_fixed(table, begin, shapes, t, row.b)))
 }
 
 // Row t, if its kind is below 13 and not 9: it takes no member rows and has no name.
-fn alone_row(table: &[u8], begin: usize, shapes: &[u8; 256], t: usize, row: TypeRow) -> usize
+fn alone_row(table: &[u8], begin: usize, shapes: &[u8; 256], t: usize, row: TypeRow) -> Option<u8>
     requires begin_value { begin ≡ types_at table.now }
     requires table_value { with_lists table.now ≡ false }
     requires t_in_bounds { row_at table.now t ≤ length table.now }
@@ -94,7 +86,7 @@ fn alone_row(table: &[u8], begin: usize, shapes: &[u8; 256], t: usize, row: Type
     requires shaped { Shaped table.now shapes.now t }
     requires type_row { IsTypeRow table.now t row }
     requires spare_value { row.spare ≡ 0 }
-    ensures { result < 256 → AlonePassed table.now t row result }
+    ensures { IfSome result (AlonePassed table.now t row) }
 {
     if row.kind == 10 {
         return seq_row(table, begin, shapes, t, row);
@@ -106,12 +98,12 @@ fn alone_row(table: &[u8], begin: usize, shapes: &[u8; 256], t: usize, row: Type
         return dict_row(table, begin, shapes, t, row);
     }
     if row.kind != 12 {
-        return 256;
+        return None;
     }
-    if rules::is_set_from_a(row) {
-        return 256;
+    if rules::is_set_from(row, 0) {
+        return None;
     }
-    10
+    Some(10)
 }
 
 // The width of a struct, or 0 if it has none; `wide`: each member has a width, and `sum` is their sum.
@@ -128,14 +120,14 @@ fn struct_width(wide: bool, sum: usize) -> usize
 }
 
 // The shape of a struct of width w, 0 if it has none; `fixed`: each member is fixed_size.
-fn struct_shape(w: usize, fixed: bool) -> usize
+fn struct_shape(w: usize, fixed: bool) -> u8
     requires { w ≤ 237 }
     ensures { result ≡ struct_shape w fixed }
 {
     if w != 0 {
-        return 18 + w;
+        return (18 + w) as u8;
     }
-    wire::wide(shapes::counted(fixed))
+    shapes::counted(fixed)
 }
 
 // The members of struct row t, and its shape. The table has `all` member rows, from `first` on, here and below.
@@ -148,7 +140,7 @@ fn struct_members(
     all: usize,
     t: usize,
     row: TypeRow,
-) -> usize
+) -> Option<u8>
     requires begin_value { begin ≡ types_at table.now }
     requires t_in_bounds { row_at table.now t ≤ length table.now }
     requires t_bound { t < type_rows table.now }
@@ -157,28 +149,25 @@ fn struct_members(
     requires all_in_bounds { member_at table.now all ≤ length table.now }
     requires type_row { IsTypeRow table.now t row }
     requires kind_value { (row.kind ≡ 9) × (row.a + row.b ≤ all) }
-    ensures value { result < 256 → Fine ≡ finding_of (owner_pass table.now t) }
-    ensures value_2 { result < 256 → result ≡ shape_at table.now t }
+    ensures { IfSome result (StructPassed table.now t) }
 {
-    let mut m = row.a;
-    let mut left = row.b;
+    let end = row.a + row.b;
+    // Stays: a flag and a sum, no Option: each member changes both in one line, where an Option would be taken apart and made again.
     let mut sum: usize = 0;
     let mut wide = true;
     let mut fixed = true;
-    while left > 0 {
+    for m in row.a..end {
         let p = table::member_at(table, first, m);
         let x = wire::long_in(table, p);
         if rules::no_part(table, begin, t, x) {
-            return 256;
+            return None;
         }
         let w = shapes::width_below(shapes, t, x);
-        wide = both(wide, w != 0);
-        fixed = both(fixed, shapes::is_fixed(table, begin, shapes, t, x));
+        wide &= w != 0;
+        fixed &= shapes::is_fixed(table, begin, shapes, t, x);
         sum += w;
-        m += 1;
-        left -= 1;
     }
-    struct_shape(struct_width(wide, sum), fixed)
+    Some(struct_shape(struct_width(wide, sum), fixed))
 }
 
 // Struct row t; the rows before it take `prior` member rows.
@@ -191,7 +180,7 @@ fn struct_row(
     t: usize,
     row: TypeRow,
     prior: usize,
-) -> usize
+) -> Option<u8>
     requires begin_value { begin ≡ types_at table.now }
     requires t_in_bounds { row_at table.now t ≤ length table.now }
     requires t_bound { t < type_rows table.now }
@@ -200,61 +189,24 @@ fn struct_row(
     requires all_in_bounds { member_at table.now all ≤ length table.now }
     requires type_row { IsTypeRow table.now t row }
     requires kind_value { (row.kind ≡ 9) × (row.spare ≡ 0) }
-    ensures { result < 256 → UnnamedPassed table.now t row prior result }
+    ensures { IfSome result (UnnamedPassed table.now t row prior) }
 {
-    if rules::is_set_from_c(row) {
-        return 256;
+    if rules::is_set_from(row, 2) {
+        return None;
     }
     if row.a != prior {
-        return 256;
+        return None;
     }
     if row.b == 0 {
-        return 256;
+        return None;
     }
     if all < row.a + row.b {
-        return 256;
+        return None;
     }
     struct_members(table, begin, shapes, first, all, t, row)
 }
 
-// The rules of an exception or a class, row t: true if it breaks none. The names begin at `labels`; no row before `from` is a record, here and below.
-fn record_rules(
-    table: &[u8],
-    begin: usize,
-    labels: usize,
-    t: usize,
-    row: TypeRow,
-    prior: usize,
-    from: usize,
-) -> bool
-    requires begin_value { begin ≡ types_at table.now }
-    requires labels_value { (labels ≡ names_at table.now) × (labels < 2097152) }
-    requires t_in_bounds { row_at table.now t ≤ length table.now }
-    requires type_row { IsTypeRow table.now t row }
-    ensures { result ≡ true → 0 ≡ first_of (record_rules table.now t row prior (alike_from table.now from t)) }
-{
-    if rules::no_base(table, begin, t, row.kind, row.c) {
-        return false;
-    }
-    if row.a != prior {
-        return false;
-    }
-    if row.e == 0 {
-        return false;
-    }
-    if 255 < row.e {
-        return false;
-    }
-    if table::names(table) < row.d + row.e {
-        return false;
-    }
-    if rules::alike(table, begin, labels, t, row, from) {
-        return false;
-    }
-    rules::is_name_text(table, labels, t, row)
-}
-
-// The rules of row t: true if its kind is 13 to 15 and it breaks none.
+// The rules of row t: true if its kind is 13 to 15 and it breaks none. The names begin at `labels`; no row before `from` is a record, here and below.
 fn owner_rules(
     table: &[u8],
     begin: usize,
@@ -269,16 +221,16 @@ fn owner_rules(
     requires t_in_bounds { row_at table.now t ≤ length table.now }
     requires type_row { IsTypeRow table.now t row }
     requires spare_value { row.spare ≡ 0 }
-    ensures value { result ≡ true → 0 ≡ first_of (row_rules table.now t row prior (alike_from table.now from t)) }
+    ensures value { result ≡ true → Ok tt ≡ broken_of (row_rules table.now t row prior (alike_from table.now from t)) }
     ensures le_kind { result ≡ true → (13 ≤ row.kind) × (row.kind ≤ 15) }
 {
     if table::is_record(row.kind) {
-        return record_rules(table, begin, labels, t, row, prior, from);
+        return rules::record_row(table, begin, labels, t, row, prior, from).is_ok();
     }
     if row.kind != 15 {
         return false;
     }
-    if rules::is_set_from_c(row) {
+    if rules::is_set_from(row, 2) {
         return false;
     }
     row.a == prior
@@ -292,16 +244,14 @@ fn plain_members(table: &[u8], begin: usize, first: usize, o: usize, from: usize
     requires n_in_bounds { member_at table.now (from + n) ≤ length table.now }
     ensures { (result ≤ n) × PlainRows table.now o from result }
 {
-    let mut k = 0;
-    while k < n {
+    for k in 0..n {
         let p = table::member_at(table, first, from + k);
         let x = wire::long_in(table, p);
         if rules::no_part(table, begin, o, x) {
             return k;
         }
-        k += 1;
     }
-    k
+    n
 }
 
 // The member rows of row o, of kind 13 to 15, are usual, and their types lie below. Those before the first optional one are judged by a loop of their own, which is shorter.
@@ -313,16 +263,15 @@ fn members(table: &[u8], begin: usize, first: usize, all: usize, o: usize, own: 
     requires all_in_bounds { member_at table.now all ≤ length table.now }
     requires type_row { IsTypeRow table.now o own }
     requires le_kind { (13 ≤ own.kind) × (own.kind ≤ 15) }
-    ensures { result ≡ true → Fine ≡ finding_of (owner_pass table.now o) }
+    ensures { result ≡ true → Ok tt ≡ finding_of (owner_pass table.now o) }
 {
-    if all < own.a + own.b {
+    let end = own.a + own.b;
+    if all < end {
         return false;
     }
     let k = plain_members(table, begin, first, o, own.a, own.b);
-    let mut m = own.a + k;
-    let mut left = own.b - k;
-    let mut above = wire::least(k, 1);
-    while left > 0 {
+    let mut above = k.min(1);
+    for m in own.a + k..end {
         let p = table::member_at(table, first, m);
         let x = wire::long_in(table, p);
         if !rules::is_usual(x, true, above) {
@@ -332,8 +281,6 @@ fn members(table: &[u8], begin: usize, first: usize, all: usize, o: usize, own: 
             return false;
         }
         above = rules::raised(above, x / 4294967296);
-        m += 1;
-        left -= 1;
     }
     true
 }
@@ -350,7 +297,7 @@ fn row_shape(
     row: TypeRow,
     prior: usize,
     from: usize,
-) -> usize
+) -> Option<u8>
     requires begin_value { begin ≡ types_at table.now }
     requires table_value { with_lists table.now ≡ false }
     requires labels_value { (labels ≡ names_at table.now) × (labels < 2097152) }
@@ -360,10 +307,10 @@ fn row_shape(
     requires first_value { (first ≡ members_at table.now) × (all ≡ members table.now) }
     requires all_in_bounds { member_at table.now all ≤ length table.now }
     requires type_row { IsTypeRow table.now t row }
-    ensures { result < 256 → RowPassed table.now t row prior (alike_from table.now from t) result }
+    ensures { IfSome result (RowPassed table.now t row prior (alike_from table.now from t)) }
 {
     if row.spare != 0 {
-        return 256;
+        return None;
     }
     if row.kind == 9 {
         return struct_row(table, begin, shapes, first, all, t, row, prior);
@@ -372,12 +319,12 @@ fn row_shape(
         return alone_row(table, begin, shapes, t, row);
     }
     if !owner_rules(table, begin, labels, t, row, prior, from) {
-        return 256;
+        return None;
     }
     if !members(table, begin, first, all, t, row) {
-        return 256;
+        return None;
     }
-    10
+    Some(10)
 }
 
 // The pass over the n type rows and the `all` member rows, in a table without lists.
@@ -388,49 +335,32 @@ fn rows(table: &[u8], begin: usize, n: usize, all: usize, shapes: &mut [u8; 256]
     requires n_value_2 { n ≡ type_rows table.now }
     requires all_in_bounds { member_at table.now all ≤ length table.now }
     requires shapes_value { shapes.old ≡ replicate 256 10 }
-    ensures value { result ≡ true → Fine ≡ finding_of (rows_pass table.now) }
-    ensures value_2 { result ≡ true → OwnersThere table.now → Fine ≡ finding_of (owners_pass table.now (range 0 (types table.now))) }
+    ensures value { result ≡ true → Ok tt ≡ finding_of (rows_pass table.now) }
+    ensures value_2 { result ≡ true → OwnersThere table.now → Ok tt ≡ finding_of (owners_pass table.now (range 0 (types table.now))) }
     ensures shapes_after { result ≡ true → shapes.new ≡ shapes_of table.now }
-    ensures shapes_len { length shapes.new ≡ 256 }
 {
     let labels = table::names_at(table, begin);
     let first = table::row_at(table, begin, n);
     let mut prior = 0;
     let mut from = 0;
-    let mut t = 0;
-    while t < n {
+    for t in 0..n {
         if rules::is_basic(table, begin, t) {
             let y = shapes::plain(table::kind_in(table, begin, t));
             shapes[t] = y;
             from = rules::past(from, t, true);
-            t += 1;
             continue;
         }
         let row = table::type_row_in(table, begin, t);
-        let x = row_shape(
+        let Some(x) = row_shape(
             table, begin, shapes, labels, first, all, t, row, prior, from,
-        );
-        if 255 < x {
+        ) else {
             return false;
-        }
-        shapes[t] = x as u8;
+        };
+        shapes[t] = x;
         prior += rules::share(row);
         from = rules::past(from, t, !table::is_record(row.kind));
-        t += 1;
     }
     prior == all
-}
-
-// Fills the array with 10s again.
-fn clear(shapes: &mut [u8; 256])
-    requires { length shapes.old ≡ 256 }
-    ensures { shapes.new ≡ replicate 256 10 }
-{
-    let mut i = 0;
-    while i < 256 {
-        shapes[i] = 10;
-        i += 1;
-    }
 }
 
 // Whether the table is known to break no rule; then the array holds its shapes, else it is as it was lent.
@@ -445,13 +375,13 @@ pub fn fill(table: &[u8], begin: usize, shapes: &mut [u8; 256]) -> bool
     if table::with_lists(table, begin) {
         return false;
     }
-    if rules::header(table, begin) != 0 {
+    if rules::header(table, begin).is_err() {
         return false;
     }
     let n = table::types(table);
     if rows(table, begin, n, table::members(table), shapes) {
         return true;
     }
-    clear(shapes);
+    *shapes = [10; 256];
     false
 }

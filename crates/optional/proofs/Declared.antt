@@ -22,11 +22,10 @@ use Rattle.encoding.specs.Types.{f1, f2, f4, f8, size, vsize, fsize, class, bits
 use Rattle.encoding.specs.Optional.{run, extent, part}
 use Rattle.encoding.proofs.OptionalLaws.{held_extent}
 use Rattle.encoding.proofs.WeightLaws.{declared_weight}
-use Rattle.wire.specs.declared.Step.{Step}
-use Rattle.wire.specs.declared.Step.TheVariants.{Took, Fault}
-use Rattle.wire.specs.declared.Sized.{Sized}
-use Rattle.wire.specs.declared.Sized.TheVariants.{Is, Isnt}
-use Rattle.wire.specs.Steps.{step_of, sized_of, bytes_of}
+use Rattle.std.specs.Prelude.{Result, Ok, Err}
+use Rattle.wire.specs.declared.Refusal.{Refusal}
+use Rattle.wire.specs.declared.Counted.{Counted}
+use Rattle.wire.specs.Steps.{step_of, sized_of, bytes_of, refused, counted}
 use Rattle.wire.specs.StepLaws.{step_took, step_fault, sized_is, sized_isnt}
 use Rattle.optional.specs.Forms.{form_named, run_width}
 use Rattle.optional.specs.Answers.{whole_of}
@@ -34,48 +33,48 @@ use Rattle.optional.specs.Answers.{whole_of}
 -- ---- so many bytes
 
 module _ (s : List ℕ) (k : ℕ) where
-  pub run_cut : length s < k → Isnt 4 0 ≡ bytes_of (run k s)
+  pub run_cut : length s < k → refused 4 0 ≡ bytes_of (run k s)
   unfolding chunk bytes_of
   run_cut h = rw (lt-leb k (length s) h)
 
-  pub run_whole : k ≤ length s → Is k k ≡ bytes_of (run k s)
+  pub run_whole : k ≤ length s → counted k k ≡ bytes_of (run k s)
   unfolding chunk bytes_of
   run_whole h = rw (le-leb k (length s) h, length-take-le k s h)
 
 -- ---- sizes
 
-module _ (s : List ℕ) (r : Sized) (e : r ≡ sized_of (Number.size s)) where
-  pub size_whole : (n k : ℕ) → r ≡ Is n k → Is k k ≡ bytes_of (extent size s)
+module _ (s : List ℕ) (r : Result Counted Refusal) (e : r ≡ sized_of (Number.size s)) where
+  pub size_whole : (x : Counted) → r ≡ Ok x → counted x.bytes x.bytes ≡ bytes_of (extent size s)
   unfolding extent bytes made bytes_of
-  size_whole n k q =
-      let z = sized_is (Number.size s) n k (sym q ∙ e) in
-      rw (z, length-take-le k s (held_took Number.size held_size s z))
+  size_whole x q =
+      let z = sized_is (Number.size s) x (sym q ∙ e) in
+      rw (z, length-take-le x.bytes s (held_took Number.size held_size s z))
 
-  pub size_bad : (c p : ℕ) → r ≡ Isnt c p → Isnt c p ≡ bytes_of (extent size s)
+  pub size_bad : (x : Refusal) → r ≡ Err x → Err x ≡ bytes_of (extent size s)
   unfolding extent bytes made bytes_of
-  size_bad c p q = rw (sized_isnt (Number.size s) c p (sym q ∙ e))
+  size_bad x q = rw (sized_isnt (Number.size s) x (sym q ∙ e))
 
 -- ---- an int that declares a length
 
-module _ (s : List ℕ) (r : Step) (e : r ≡ step_of (declared 1 0 s)) where
-  pub declared_bad : (c p : ℕ) → r ≡ Fault c p → Isnt c p ≡ bytes_of (extent fsize s)
+module _ (s : List ℕ) (r : Result ℕ Refusal) (e : r ≡ step_of (declared 1 0 s)) where
+  pub declared_bad : (x : Refusal) → r ≡ Err x → Err x ≡ bytes_of (extent fsize s)
   unfolding extent bytes_of
-  declared_bad c p q = rw (step_fault (declared 1 0 s) c p (sym q ∙ e))
+  declared_bad x q = rw (step_fault (declared 1 0 s) x (sym q ∙ e))
 
-  pub declared_int : (n : ℕ) → r ≡ Took n → 4 ≤ n
+  pub declared_int : (n : ℕ) → r ≡ Ok n → 4 ≤ n
   declared_int n q = let D = step_took (declared 1 0 s) n (sym q ∙ e) in omega (arith, declared_weight 1 0 s D.1)
 
-  pub declared_whole : (n : ℕ) → r ≡ Took n → Is (n - 4) n ≡ bytes_of (extent fsize s)
+  pub declared_whole : (n : ℕ) → r ≡ Ok n → counted (n - 4) n ≡ bytes_of (extent fsize s)
   unfolding extent bytes_of
   declared_whole n q = go (step_took (declared 1 0 s) n (sym q ∙ e))
     where
-      go : (d : List ℕ) × (declared 1 0 s ≡ ok d n) → Is (n - 4) n ≡ bytes_of (declared 1 0 s)
-      go t = let z : n - 4 ≡ length t.0 = omega (arith, declared_weight 1 0 s t.1) in ap (λ (i : ℕ). Is i n) z ∙ sym (ap bytes_of t.1)
+      go : (d : List ℕ) × (declared 1 0 s ≡ ok d n) → counted (n - 4) n ≡ bytes_of (declared 1 0 s)
+      go t = let z : n - 4 ≡ length t.0 = omega (arith, declared_weight 1 0 s t.1) in ap (λ (i : ℕ). counted i n) z ∙ sym (ap bytes_of t.1)
 
 -- ---- by the type bits
 
 -- type bits k are those of number j
-pub extent_at : (j : ℕ) (s : List ℕ) (k : ℕ) (r : Sized) → k ≡ j → r ≡ bytes_of (extent (bits_at j) s) → r ≡ bytes_of (extent (bits_at k) s)
+pub extent_at : (j : ℕ) (s : List ℕ) (k : ℕ) (r : Result Counted Refusal) → k ≡ j → r ≡ bytes_of (extent (bits_at j) s) → r ≡ bytes_of (extent (bits_at k) s)
 extent_at j s k r e h = rw e h
 
 seven : (k : ℕ) → (k ≡ 0 → ⊥) → (k ≡ 1 → ⊥) → (k ≡ 2 → ⊥) → (k ≡ 3 → ⊥) → (k ≡ 4 → ⊥) → (k ≡ 5 → ⊥) → (k ≡ 6 → ⊥) → 7 ≤ k
@@ -89,7 +88,7 @@ seven (suc (suc (suc (suc (suc (suc zero)))))) a b c d e f g = absurd (g refl)
 seven (suc (suc (suc (suc (suc (suc (suc k))))))) a b c d e f g = omega arith
 
 pub extent_past : (s : List ℕ) (k : ℕ) → (k ≡ 0 → ⊥) → (k ≡ 1 → ⊥) → (k ≡ 2 → ⊥) → (k ≡ 3 → ⊥) → (k ≡ 4 → ⊥) → (k ≡ 5 → ⊥) → (k ≡ 6 → ⊥)
-    → Isnt 13 0 ≡ bytes_of (extent (bits_at k) s)
+    → refused 13 0 ≡ bytes_of (extent (bits_at k) s)
 unfolding extent fail bytes_of
 extent_past s k a b c d e f g =
     rw (get_or-eq_default (f1 ∷ f2 ∷ f4 ∷ f8 ∷ size ∷ vsize ∷ fsize ∷ []) class {n = k} (seven k a b c d e f g))
@@ -105,13 +104,13 @@ whole_is p P s = go (p s) refl
     go (ok d n) e = rw (length-take-le n s (held_took p P s e))
     go (bad c q) e = refl
 
-pub whole_part : (p : Sized) (n k : ℕ) → p ≡ Is n k → Is k k ≡ whole_of p
+pub whole_part : (p : Result Counted Refusal) (x : Counted) → p ≡ Ok x → counted x.bytes x.bytes ≡ whole_of p
 unfolding whole_of
-whole_part p n k h = rw h
+whole_part p x h = rw h
 
-pub whole_none : (p : Sized) (c q : ℕ) → p ≡ Isnt c q → Isnt c q ≡ whole_of p
+pub whole_none : (p : Result Counted Refusal) (x : Refusal) → p ≡ Err x → Err x ≡ whole_of p
 unfolding whole_of
-whole_none p c q h = rw h
+whole_none p x h = rw h
 
 pub width_at : (n f : ℕ) → f ≡ n → run_width n ≡ run_width f
 width_at n f e = ap run_width (sym e)
@@ -123,7 +122,7 @@ width_past (suc zero) a b c = absurd (b refl)
 width_past (suc (suc zero)) a b c = absurd (c refl)
 width_past (suc (suc (suc f))) a b c = refl
 
-module _ (s : List ℕ) (f : ℕ) (r : Sized) where
+module _ (s : List ℕ) (f : ℕ) (r : Result Counted Refusal) where
   pub part_run : f < 4 → (k : ℕ) → k ≡ run_width f → r ≡ bytes_of (run k s) → r ≡ bytes_of (part (form_named f) s)
   unfolding part form_named extent run_width
   part_run h k e q = go f h e
@@ -139,7 +138,7 @@ module _ (s : List ℕ) (f : ℕ) (r : Sized) where
   unfolding part form_named
   part_size h e = rw h e
 
-  pub part_own : f ≡ 8 → (w : Sized) → w ≡ bytes_of (extent vsize s) → r ≡ whole_of w → r ≡ bytes_of (part (form_named f) s)
+  pub part_own : f ≡ 8 → (w : Result Counted Refusal) → w ≡ bytes_of (extent vsize s) → r ≡ whole_of w → r ≡ bytes_of (part (form_named f) s)
   unfolding part form_named
   part_own h w e q = rw h (q ∙ ap whole_of e ∙ sym (whole_is (extent vsize) (held_extent vsize) s))
 

@@ -23,53 +23,52 @@ use Rattle.encoding.specs.Types.{bits, bits_of, form_of}
 use Rattle.encoding.proofs.TypesLaws.{bits_there}
 use Rattle.encoding.specs.Table.{at, members, Member, lookup}
 use Rattle.encoding.specs.Optional.{Header, first_form, header_tail, wrong_type, header_form, header}
-use Rattle.wire.specs.declared.Sized.{Sized}
-use Rattle.wire.specs.declared.Sized.TheVariants.{Is as Reads, Isnt as Unread}
-use Rattle.wire.specs.Steps.{sized_of}
+use Rattle.std.specs.Prelude.{Result, Ok, Err, Option, Some, None}
+use Rattle.wire.specs.declared.Refusal.{Refusal}
+use Rattle.wire.specs.declared.Counted.{Counted}
+use Rattle.wire.specs.Steps.{sized_of, refused, counted, behind}
 use Rattle.wire.specs.Put.{form_bits}
-use Rattle.table.specs.declared.FoundMember.{FoundMember}
-use Rattle.table.specs.declared.FoundMember.TheVariants.{At, Nothing}
+use Rattle.table.specs.declared.TaggedMember.{TaggedMember}
 use Rattle.table.specs.Found.{member_found}
 use Rattle.shapes.specs.Shapes.{shapes_of, form_in}
 use Rattle.table.specs.Tags.{optional_from}
 use Rattle.wire.specs.StepLaws.{rest_is, sized_is, sized_isnt}
 use Rattle.optional.specs.declared.Front.{Front}
-use Rattle.optional.specs.declared.Front.TheVariants.{Is, Isnt}
-use Rattle.optional.specs.declared.Head.TheVariants.{Known, Unknown, Wrong}
-use Rattle.optional.specs.Answers.{front, front_of, early, type_of, type_row, head_for, head_of}
+use Rattle.optional.specs.declared.Head.TheVariants.{Known, Unknown}
+use Rattle.optional.specs.Answers.{front, fronts, front_of, early, type_of, type_row, head_for, head_of}
 use Rattle.optional.proofs.Lookups.{typed, Met, met, unmet, met_bits}
 
 -- ---- the first byte and the tag
 
-pub front_none : (s : List ℕ) → length s < 1 → Isnt 4 0 ≡ front_of (front s)
+pub front_none : (s : List ℕ) → length s < 1 → refused 4 0 ≡ front_of (front s)
 unfolding front ◌>>=◌ after must judged byte number chunk front_of
 front_none s h = rw (lt-leb 1 (length s) h)
 
 module _ (s : List ℕ) (h : 1 ≤ length s) (b : ℕ) (e : b ≡ at s 1 0) (t : ℕ) (et : t ≡ b / 8) where
-  pub front_unused : 31 ≤ t → Isnt 12 0 ≡ front_of (front s)
+  pub front_unused : 31 ≤ t → refused 12 0 ≡ front_of (front s)
   unfolding front ◌>>=◌ after must judged byte number chunk first_form front_of at
   front_unused l = let g : 31 ≤ b / 8 = omega arith in rw (le-leb 1 (length s) h, ← e, le-ltb (b / 8) 31 g)
 
   module _ (l : t < 31) (k : ℕ) (ek : k ≡ b % 8) where
-    pub front_short : (t ≡ 30 → ⊥) → Is false t k 1 ≡ front_of (front s)
+    pub front_short : (t ≡ 30 → ⊥) → fronts false t k 1 ≡ front_of (front s)
     unfolding front ◌>>=◌ after must judged byte number chunk first_form header_tail pure shift front_of at
     front_short n =
         let g : b / 8 < 31 = omega arith in
         rw (et, ek, le-leb 1 (length s) h, ← e, lt-ltb (b / 8) 31 g, ne_eqb (b / 8) 30 (λ q. n (et ∙ q)), bits_there (b % 8) (omega arith))
 
-    module _ (z : t ≡ 30) (r : Sized) (er : r ≡ sized_of (size (take (length s - 1) (drop 1 s)))) where
+    module _ (z : t ≡ 30) (r : Result Counted Refusal) (er : r ≡ sized_of (size (take (length s - 1) (drop 1 s)))) where
       rest_size : r ≡ sized_of (size (drop 1 s))
       rest_size = rw (rest_is s 1) at er
 
-      pub long_fits : (n w : ℕ) → r ≡ Reads n w → Fits w64 (length s) → Fits w64 (1 + w)
-      long_fits n w q f = omega (arith, held_took size held_size (drop 1 s) (sized_is (size (drop 1 s)) n w (sym q ∙ rest_size)), length-drop 1 s)
+      pub long_fits : (x : Counted) → r ≡ Ok x → Fits w64 (length s) → Fits w64 (1 + x.bytes)
+      long_fits x q f = omega (arith, held_took size held_size (drop 1 s) (sized_is (size (drop 1 s)) x (sym q ∙ rest_size)), length-drop 1 s)
 
-      pub long_place : (c p : ℕ) → r ≡ Unread c p → Fits w64 (length s) → Fits w64 (1 + p)
-      long_place c p q f = omega (arith, held_refused size held_size (drop 1 s) (sized_isnt (size (drop 1 s)) c p (sym q ∙ rest_size)), length-drop 1 s)
+      pub long_place : (x : Refusal) → r ≡ Err x → Fits w64 (length s) → Fits w64 (1 + x.place)
+      long_place x q f = omega (arith, held_refused size held_size (drop 1 s) (sized_isnt (size (drop 1 s)) x (sym q ∙ rest_size)), length-drop 1 s)
 
-      pub front_long : (n w : ℕ) → r ≡ Reads n w → Is true n k (1 + w) ≡ front_of (front s)
+      pub front_long : (x : Counted) → r ≡ Ok x → fronts true x.number k (1 + x.bytes) ≡ front_of (front s)
       unfolding front ◌>>=◌ after must judged byte number chunk first_form header_tail mapc made shift front_of at
-      front_long n w q =
+      front_long x q =
           let g : b / 8 < 31 = omega arith in
           rw (
             ek,
@@ -77,15 +76,15 @@ module _ (s : List ℕ) (h : 1 ≤ length s) (b : ℕ) (e : b ≡ at s 1 0) (t :
             ← e,
             lt-ltb (b / 8) 31 g,
             eq-eqb (b / 8) 30 (sym et ∙ z),
-            sized_is (size (drop 1 s)) n w (sym q ∙ rest_size),
+            sized_is (size (drop 1 s)) x (sym q ∙ rest_size),
             bits_there (b % 8) (omega arith),
           )
 
-      pub front_bad : (c p : ℕ) → r ≡ Unread c p → Isnt c (1 + p) ≡ front_of (front s)
+      pub front_bad : (x : Refusal) → r ≡ Err x → Err (behind 1 x) ≡ front_of (front s)
       unfolding front ◌>>=◌ after must judged byte number chunk first_form header_tail mapc made shift front_of at
-      front_bad c p q =
+      front_bad x q =
           let g : b / 8 < 31 = omega arith in
-          rw (le-leb 1 (length s) h, ← e, lt-ltb (b / 8) 31 g, eq-eqb (b / 8) 30 (sym et ∙ z), sized_isnt (size (drop 1 s)) c p (sym q ∙ rest_size))
+          rw (le-leb 1 (length s) h, ← e, lt-ltb (b / 8) 31 g, eq-eqb (b / 8) 30 (sym et ∙ z), sized_isnt (size (drop 1 s)) x (sym q ∙ rest_size))
 
 -- ---- judgements
 
@@ -115,22 +114,24 @@ module _ (least : ℕ) (long : Bool) (tag k : ℕ) (u : Bool) (e : u ≡ long &&
 -- ---- the header
 
 -- what an answer says of the reader's result
-record Fronted (r : Res Header) (long : Bool) (tag k n : ℕ) : Type 0 where
+record Fronted (r : Res Header) (x : Front) : Type 0 where
   head : Header
-  is : r ≡ ok head n
-  long_is : head.long ≡ long
-  tag_is : head.tag ≡ tag
-  bits_is : bits head.type ≡ k
+  is : r ≡ ok head x.head
+  long_is : head.long ≡ x.long
+  tag_is : head.tag ≡ x.tag
+  bits_is : bits head.type ≡ x.bits
 
-fronted : (r : Res Header) (long : Bool) (tag k n : ℕ) → Is long tag k n ≡ front_of r → Fronted r long tag k n
+fronted : (r : Res Header) (x : Front) → Ok x ≡ front_of r → Fronted r x
 unfolding front_of
-fronted (ok h m) long tag k n e = let q : m ≡ n = cc in record { head = h; is = ap (ok h) q; long_is = cc; tag_is = cc; bits_is = cc }
-fronted (bad c p) long tag k n e = let z : ◌≡◌ {A = ℕ} 0 1 = cc in absurd (omega arith)
+fronted (ok h m) x e =
+    let q : x ≡ record { long = h.long; tag = h.tag; bits = bits h.type; head = m } = cc in
+    record { head = h; is = rw q refl; long_is = rw q refl; tag_is = rw q refl; bits_is = rw q refl }
+fronted (bad c p) x e = let z : ◌≡◌ {A = ℕ} 0 1 = cc in absurd (omega arith)
 
-frontless : (r : Res Header) (c p : ℕ) → Isnt c p ≡ front_of r → r ≡ bad c p
+frontless : (r : Res Header) (x : Refusal) → Err x ≡ front_of r → r ≡ bad x.number x.place
 unfolding front_of
-frontless (ok h m) c p e = let z : ◌≡◌ {A = ℕ} 0 1 = cc in absurd (omega arith)
-frontless (bad d q) c p e = cc
+frontless (ok h m) x e = let z : ◌≡◌ {A = ℕ} 0 1 = cc in absurd (omega arith)
+frontless (bad d q) x e = let z : x ≡ record { number = d; place = q } = cc in rw z refl
 
 module _ (ms : List Member) (least : ℕ) (h : Header) where
   split : header_form ms least h ≡ pick (eqb (early least h.long h.tag (bits h.type)) 0) (pick (wrong_type h.type (lookup h.tag ms)) 12 0) (early least h.long h.tag (bits h.type))
@@ -150,11 +151,11 @@ module _ (ms : List Member) (least : ℕ) (h : Header) where
     form_late : c ≡ 0 → header_form ms least h ≡ pick (wrong_type h.type (lookup h.tag ms)) 12 0
     form_late z = split ∙ rw (← e, z)
 
-module _ (ms : List Member) (least : ℕ) (s : List ℕ) (long : Bool) (tag k n : ℕ) (F : Fronted (front s) long tag k n) where
-  early_same : (c : ℕ) → c ≡ early least long tag k → c ≡ early least F.head.long F.head.tag (bits F.head.type)
+module _ (ms : List Member) (least : ℕ) (s : List ℕ) (x : Front) (F : Fronted (front s) x) where
+  early_same : (c : ℕ) → c ≡ early least x.long x.tag x.bits → c ≡ early least F.head.long F.head.tag (bits F.head.type)
   early_same c e = rw (F.long_is, F.tag_is, F.bits_is) e
 
-  header_fine : header_form ms least F.head ≡ 0 → header ms least s ≡ ok F.head n
+  header_fine : header_form ms least F.head ≡ 0 → header ms least s ≡ ok F.head x.head
   unfolding header must judged front
   header_fine z = rw (F.is, z)
 
@@ -162,60 +163,60 @@ module _ (ms : List Member) (least : ℕ) (s : List ℕ) (long : Bool) (tag k n 
   unfolding header must judged front
   header_wrong c z e = rw (F.is, e, ne_eqb c 0 z)
 
-module _ (T : List ℕ) (end from least : ℕ) (s : List ℕ) (f : Front) (e : f ≡ front_of (front s)) where
-  pub head_none : (c p : ℕ) → f ≡ Isnt c p → Wrong c p ≡ head_of T (optional_from T end from) (header (optional_from T end from) least s)
+module _ (T : List ℕ) (end from least : ℕ) (s : List ℕ) (f : Result Front Refusal) (e : f ≡ front_of (front s)) where
+  pub head_none : (y : Refusal) → f ≡ Err y → Err y ≡ head_of T (optional_from T end from) (header (optional_from T end from) least s)
   unfolding header must judged front head_of
-  head_none c p q = rw (frontless (front s) c p (sym q ∙ e))
+  head_none y q = rw (frontless (front s) y (sym q ∙ e))
 
-  module _ (long : Bool) (tag k n : ℕ) (q : f ≡ Is long tag k n) (c : ℕ) (ec : c ≡ early least long tag k) where
-    pub head_early : (c ≡ 0 → ⊥) → Wrong c 0 ≡ head_of T (optional_from T end from) (header (optional_from T end from) least s)
+  module _ (x : Front) (q : f ≡ Ok x) (c : ℕ) (ec : c ≡ early least x.long x.tag x.bits) where
+    pub head_early : (c ≡ 0 → ⊥) → refused c 0 ≡ head_of T (optional_from T end from) (header (optional_from T end from) least s)
     unfolding head_of
-    head_early z = go (fronted (front s) long tag k n (sym q ∙ e))
+    head_early z = go (fronted (front s) x (sym q ∙ e))
       where
-        go : Fronted (front s) long tag k n → Wrong c 0 ≡ head_of T (optional_from T end from) (header (optional_from T end from) least s)
+        go : Fronted (front s) x → refused c 0 ≡ head_of T (optional_from T end from) (header (optional_from T end from) least s)
         go F =
-            let g = early_same (optional_from T end from) least s long tag k n F c ec in
-            sym (ap (head_of T (optional_from T end from)) (header_wrong (optional_from T end from) least s long tag k n F c z (form_early (optional_from T end from) least F.head c g z)))
+            let g = early_same (optional_from T end from) least s x F c ec in
+            sym (ap (head_of T (optional_from T end from)) (header_wrong (optional_from T end from) least s x F c z (form_early (optional_from T end from) least F.head c g z)))
 
-    module _ (z : c ≡ 0) (found : FoundMember) (ef : found ≡ member_found T (lookup tag (optional_from T end from))) where
-      pub head_unknown : found ≡ Nothing → Unknown tag k n ≡ head_of T (optional_from T end from) (header (optional_from T end from) least s)
+    module _ (z : c ≡ 0) (found : Option TaggedMember) (ef : found ≡ member_found T (lookup x.tag (optional_from T end from))) where
+      pub head_unknown : found ≡ None → Ok (Unknown x.tag x.bits x.head) ≡ head_of T (optional_from T end from) (header (optional_from T end from) least s)
       unfolding head_of head_for wrong_type
-      head_unknown qf = go (fronted (front s) long tag k n (sym q ∙ e))
+      head_unknown qf = go (fronted (front s) x (sym q ∙ e))
         where
-          go : Fronted (front s) long tag k n → Unknown tag k n ≡ head_of T (optional_from T end from) (header (optional_from T end from) least s)
+          go : Fronted (front s) x → Ok (Unknown x.tag x.bits x.head) ≡ head_of T (optional_from T end from) (header (optional_from T end from) least s)
           go F =
-              let g = early_same (optional_from T end from) least s long tag k n F c ec in
-              let lost : lookup F.head.tag (optional_from T end from) ≡ none = ap (λ (x : ℕ). lookup x (optional_from T end from)) F.tag_is ∙ unmet T end from tag (sym qf ∙ ef) in
+              let g = early_same (optional_from T end from) least s x F c ec in
+              let lost : lookup F.head.tag (optional_from T end from) ≡ none = ap (λ (i : ℕ). lookup i (optional_from T end from)) F.tag_is ∙ unmet T end from x.tag (sym qf ∙ ef) in
               let fine : header_form (optional_from T end from) least F.head ≡ 0 = form_late (optional_from T end from) least F.head c g z ∙ rw lost in
-              sym (ap (head_of T (optional_from T end from)) (header_fine (optional_from T end from) least s long tag k n F fine) ∙ rw (lost, F.tag_is, F.bits_is))
+              sym (ap (head_of T (optional_from T end from)) (header_fine (optional_from T end from) least s x F fine) ∙ rw (lost, F.tag_is, F.bits_is))
 
-      module _ (row of : ℕ) (qf : found ≡ At row of) (all : ℕ) (en : all ≡ members T) (ty : ℕ) (et : ty ≡ type_of all row of) (shapes : List ℕ) (ea : shapes ≡ shapes_of T)
+      module _ (m : TaggedMember) (qf : found ≡ Some m) (all : ℕ) (en : all ≡ members T) (ty : ℕ) (et : ty ≡ type_of all m.member m.of) (shapes : List ℕ) (ea : shapes ≡ shapes_of T)
           (g : ℕ) (eg : g ≡ form_in shapes ty) (b : ℕ) (eb : b ≡ form_bits g) where
-        row_is : Met T end from tag row of → ty ≡ type_row T row
-        row_is M = typed T row all of ty en M.of_is et
+        row_is : Met T end from x.tag m.member m.of → ty ≡ type_row T m.member
+        row_is M = typed T m.member all m.of ty en M.of_is et
 
         -- the judgement of the type
-        type_form : (F : Fronted (front s) long tag k n) (M : Met T end from tag row of)
-            → header_form (optional_from T end from) least F.head ≡ pick (not (eqb k b)) 12 0
+        type_form : (F : Fronted (front s) x) (M : Met T end from x.tag m.member m.of)
+            → header_form (optional_from T end from) least F.head ≡ pick (not (eqb x.bits b)) 12 0
         unfolding wrong_type
         type_form F M =
-            let there : lookup F.head.tag (optional_from T end from) ≡ some M.member = ap (λ (x : ℕ). lookup x (optional_from T end from)) F.tag_is ∙ M.there in
-            let same : b ≡ bits (bits_of (form_of M.member.ty)) = eb ∙ met_bits T shapes end from tag row of ty g M ea (row_is M) eg in
-            form_late (optional_from T end from) least F.head c (early_same (optional_from T end from) least s long tag k n F c ec) z ∙ rw (there, F.bits_is, ← same)
+            let there : lookup F.head.tag (optional_from T end from) ≡ some M.member = ap (λ (i : ℕ). lookup i (optional_from T end from)) F.tag_is ∙ M.there in
+            let same : b ≡ bits (bits_of (form_of M.member.ty)) = eb ∙ met_bits T shapes end from x.tag m.member m.of ty g M ea (row_is M) eg in
+            form_late (optional_from T end from) least F.head c (early_same (optional_from T end from) least s x F c ec) z ∙ rw (there, F.bits_is, ← same)
 
-        pub head_known : k ≡ b → Known row ty tag n g ≡ head_of T (optional_from T end from) (header (optional_from T end from) least s)
+        pub head_known : x.bits ≡ b → Ok (Known m.member ty x.tag x.head g) ≡ head_of T (optional_from T end from) (header (optional_from T end from) least s)
         unfolding head_of head_for
-        head_known y = go (fronted (front s) long tag k n (sym q ∙ e)) (met T end from tag row of (sym qf ∙ ef))
+        head_known y = go (fronted (front s) x (sym q ∙ e)) (met T end from x.tag m.member m.of (sym qf ∙ ef))
           where
-            go : Fronted (front s) long tag k n → Met T end from tag row of → Known row ty tag n g ≡ head_of T (optional_from T end from) (header (optional_from T end from) least s)
+            go : Fronted (front s) x → Met T end from x.tag m.member m.of → Ok (Known m.member ty x.tag x.head g) ≡ head_of T (optional_from T end from) (header (optional_from T end from) least s)
             go F M =
-                let there : lookup F.head.tag (optional_from T end from) ≡ some M.member = ap (λ (x : ℕ). lookup x (optional_from T end from)) F.tag_is ∙ M.there in
-                let fine : header_form (optional_from T end from) least F.head ≡ 0 = type_form F M ∙ rw (eq-eqb k b y) in
-                sym (ap (head_of T (optional_from T end from)) (header_fine (optional_from T end from) least s long tag k n F fine) ∙ rw (there, F.tag_is, M.is, ← row_is M, ← ea, ← eg))
+                let there : lookup F.head.tag (optional_from T end from) ≡ some M.member = ap (λ (i : ℕ). lookup i (optional_from T end from)) F.tag_is ∙ M.there in
+                let fine : header_form (optional_from T end from) least F.head ≡ 0 = type_form F M ∙ rw (eq-eqb x.bits b y) in
+                sym (ap (head_of T (optional_from T end from)) (header_fine (optional_from T end from) least s x F fine) ∙ rw (there, F.tag_is, M.is, ← row_is M, ← ea, ← eg))
 
-        pub head_other : (k ≡ b → ⊥) → Wrong 12 0 ≡ head_of T (optional_from T end from) (header (optional_from T end from) least s)
+        pub head_other : (x.bits ≡ b → ⊥) → refused 12 0 ≡ head_of T (optional_from T end from) (header (optional_from T end from) least s)
         unfolding head_of
-        head_other y = go (fronted (front s) long tag k n (sym q ∙ e)) (met T end from tag row of (sym qf ∙ ef))
+        head_other y = go (fronted (front s) x (sym q ∙ e)) (met T end from x.tag m.member m.of (sym qf ∙ ef))
           where
-            go : Fronted (front s) long tag k n → Met T end from tag row of → Wrong 12 0 ≡ head_of T (optional_from T end from) (header (optional_from T end from) least s)
-            go F M = sym (ap (head_of T (optional_from T end from)) (header_wrong (optional_from T end from) least s long tag k n F 12 (λ i. omega arith) (type_form F M ∙ rw (ne_eqb k b y))))
+            go : Fronted (front s) x → Met T end from x.tag m.member m.of → refused 12 0 ≡ head_of T (optional_from T end from) (header (optional_from T end from) least s)
+            go F M = sym (ap (head_of T (optional_from T end from)) (header_wrong (optional_from T end from) least s x F 12 (λ i. omega arith) (type_form F M ∙ rw (ne_eqb x.bits b y))))

@@ -19,7 +19,8 @@ use Rattle.encoding.specs.Result.{pick}
 use Rattle.encoding.specs.Types.{bits, Ty, bits_of, form_of}
 use Rattle.encoding.specs.Table.{members, member_type, member_ty, trees, ty_of, Member, lookup}
 use Rattle.wire.specs.Put.{form_bits}
-use Rattle.table.specs.declared.FoundMember.TheVariants.{At, Nothing}
+use Rattle.std.specs.Prelude.{Some, None}
+use Rattle.table.specs.declared.TaggedMember.{TaggedMember}
 use Rattle.table.specs.Found.{member_found}
 use Rattle.shapes.specs.Shapes.{shapes_of, form_in}
 use Rattle.shapes.specs.ShapesLaws.{form_row}
@@ -65,21 +66,22 @@ pub record Met (T : List ℕ) (end from k row of : ℕ) : Type 0 where
   pub of_is : of ≡ member_type T row
   pub type : member.ty ≡ member_ty T (trees T) row
 
-pub met : (T : List ℕ) (end from k row of : ℕ) → At row of ≡ member_found T (lookup k (optional_from T end from)) → Met T end from k row of
+pub met : (T : List ℕ) (end from k row of : ℕ) → Some (record { member = row; of = of }) ≡ member_found T (lookup k (optional_from T end from)) → Met T end from k row of
 unfolding member_found
 met T end from k row of h = go (lookup k (optional_from T end from)) refl h
   where
-    go : (o : Option Member) → lookup k (optional_from T end from) ≡ o → At row of ≡ member_found T o → Met T end from k row of
+    go : (o : Option Member) → lookup k (optional_from T end from) ≡ o → Some (record { member = row; of = of }) ≡ member_found T o → Met T end from k row of
     go none e h = let z : ◌≡◌ {A = ℕ} 0 1 = cc in absurd (omega arith)
     go (some m) e h =
-        let q : m.row ≡ row = cc in
-        record { member = m; there = e; is = q; of_is = cc; type = optional_of T end from k m e ∙ ap (member_ty T (trees T)) q }
+        let z : ◌≡◌ {A = TaggedMember} (record { member = row; of = of }) (record { member = m.row; of = member_type T m.row }) = cc in
+        let q : m.row ≡ row = sym (ap (λ (x : TaggedMember). x.member) z) in
+        record { member = m; there = e; is = q; of_is = ap (λ (x : TaggedMember). x.of) z ∙ ap (member_type T) q; type = optional_of T end from k m e ∙ ap (member_ty T (trees T)) q }
 
-pub unmet : (T : List ℕ) (end from k : ℕ) → Nothing ≡ member_found T (lookup k (optional_from T end from)) → lookup k (optional_from T end from) ≡ none
+pub unmet : (T : List ℕ) (end from k : ℕ) → None ≡ member_found T (lookup k (optional_from T end from)) → lookup k (optional_from T end from) ≡ none
 unfolding member_found
 unmet T end from k h = go (lookup k (optional_from T end from)) refl h
   where
-    go : (o : Option Member) → lookup k (optional_from T end from) ≡ o → Nothing ≡ member_found T o → lookup k (optional_from T end from) ≡ none
+    go : (o : Option Member) → lookup k (optional_from T end from) ≡ o → None ≡ member_found T o → lookup k (optional_from T end from) ≡ none
     go none e h = e
     go (some m) e h = let z : ◌≡◌ {A = ℕ} 0 1 = cc in absurd (omega arith)
 

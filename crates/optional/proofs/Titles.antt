@@ -13,8 +13,7 @@ use borrow.Author.Tests.{le-ltb}
 use Rattle.encoding.specs.Table.{at}
 use Rattle.wire.specs.At.{at_rest}
 use Rattle.wire.proofs.Laws.{size_short, size_long}
-use Rattle.optional.specs.declared.Front.TheVariants.{Is}
-use Rattle.optional.specs.Answers.{LongTag, Titled}
+use Rattle.optional.specs.Answers.{fronts, LongTag, Titled}
 use Rattle.optional.proofs.Heads.{front_short, front_long}
 
 module _ (s : List ℕ) (b : ℕ) (e : b ≡ at s 1 1) where
@@ -47,6 +46,6 @@ module _ (s : List ℕ) (b : ℕ) (e : b ≡ at s 1 0) (t : ℕ) (et : t ≡ b /
     fine = le-ltb tag 30 (L z).1.least;
     front_is = λ m.
         let w : 1 + (n - 1) ≡ n = omega arith in
-        ap (λ (x : ℕ). Is true tag k x) (sym w)
-        ∙ front_long s (omega arith) b e t et (omega arith) k ((L z).0 ∙ eb) (omega arith) _ ((L z).1.size_is m) tag (n - 1) refl;
+        ap (λ (x : ℕ). fronts true tag k x) (sym w)
+        ∙ front_long s (omega arith) b e t et (omega arith) k ((L z).0 ∙ eb) (omega arith) _ ((L z).1.size_is m) _ refl;
   }

@@ -6,42 +6,48 @@ ghost use Rattle.wire.specs.Steps.{bytes_of};
 ghost use Rattle.optional.specs.Forms.{form_named, run_width};
 ghost use Rattle.optional.specs.Answers.{whole_of};
 
-use wire::{Sized, Step};
+use wire::{Counted, Refusal};
 
 // F1, F2, F4, F8: k bytes.
-fn bare(s: &[u8], k: usize) -> Sized
+fn bare(s: &[u8], k: usize) -> Result<Counted, Refusal>
     ensures { result ≡ bytes_of (run k s.now) }
 {
     if s.len() < k {
-        return Sized::Isnt(4, 0);
+        return Err(Refusal {
+            number: 4,
+            place: 0,
+        });
     }
-    Sized::Is(k, k)
+    Ok(Counted {
+        number: k,
+        bytes: k,
+    })
 }
 
 // Size: the bytes of the size itself.
-fn sized(s: &[u8]) -> Sized
+fn sized(s: &[u8]) -> Result<Counted, Refusal>
     ensures { result ≡ bytes_of (extent size s.now) }
 {
-    let z = wire::read_size(s);
-    match z {
-        Sized::Is(n, k) => Sized::Is(k, k),
-        Sized::Isnt(c, p) => Sized::Isnt(c, p),
-    }
+    let size = wire::read_size(s)?;
+    Ok(Counted {
+        number: size.bytes,
+        bytes: size.bytes,
+    })
 }
 
 // FSize: an int, not counting itself, and that many bytes, at least one.
-fn declared(s: &[u8]) -> Sized
+fn declared(s: &[u8]) -> Result<Counted, Refusal>
     ensures { result ≡ bytes_of (extent fsize s.now) }
 {
-    let step = wire::read_declared(s, 1, 0);
-    match step {
-        Step::Took(n) => Sized::Is(n - 4, n),
-        Step::Fault(c, p) => Sized::Isnt(c, p),
-    }
+    let taken = wire::read_declared(s, 1, 0)?;
+    Ok(Counted {
+        number: taken - 4,
+        bytes: taken,
+    })
 }
 
 // The bytes that type bits k declare.
-pub fn extent(s: &[u8], k: usize) -> Sized
+pub fn extent(s: &[u8], k: usize) -> Result<Counted, Refusal>
     ensures { result ≡ bytes_of (extent (bits_at k) s.now) }
 {
     match k {
@@ -52,18 +58,22 @@ pub fn extent(s: &[u8], k: usize) -> Sized
         4 => sized(s),
         5 => wire::read_counted(s),
         6 => declared(s),
-        _ => Sized::Isnt(13, 0),
+        _ => Err(Refusal {
+            number: 13,
+            place: 0,
+        }),
     }
 }
 
 // All bytes taken are delivered.
-pub fn whole(p: Sized) -> Sized
-    ensures { result ≡ whole_of p }
+pub fn whole(part: Result<Counted, Refusal>) -> Result<Counted, Refusal>
+    ensures { result ≡ whole_of part }
 {
-    match p {
-        Sized::Is(n, k) => Sized::Is(k, k),
-        Sized::Isnt(c, q) => Sized::Isnt(c, q),
-    }
+    let counted = part?;
+    Ok(Counted {
+        number: counted.bytes,
+        bytes: counted.bytes,
+    })
 }
 
 // How many bytes a value has whose form number f is F1, F2, F4 or F8.
@@ -79,7 +89,7 @@ fn run_width(f: usize) -> usize
 }
 
 // The declared bytes of a value whose form has number f.
-pub fn part(s: &[u8], f: usize) -> Sized
+pub fn part(s: &[u8], f: usize) -> Result<Counted, Refusal>
     ensures { result ≡ bytes_of (part (form_named f) s.now) }
 {
     if f < 4 {

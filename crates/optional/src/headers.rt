@@ -7,29 +7,43 @@ ghost use Rattle.table.specs.Tags.{optional_from};
 ghost use Rattle.optional.specs.Answers.{front, front_of, early, head_of, LongTag, Titled};
 
 use crate::{Front, Head, Title};
-use table::FoundMember;
-use wire::Sized;
+use wire::Refusal;
 
 // The first byte; if its five tag bits are 30, the tag follows as a size.
-fn front(s: &[u8]) -> Front
+fn front(s: &[u8]) -> Result<Front, Refusal>
     ensures { result ≡ front_of (front s.now) }
 {
     if s.len() < 1 {
-        return Front::Isnt(4, 0);
+        return Err(Refusal {
+            number: 4,
+            place: 0,
+        });
     }
-    let h = wire::byte_at(s, 0);
-    let tag = wire::tag_bits(h);
-    let k = wire::type_bits(h);
+    let first = wire::byte_at(s, 0);
+    let tag = wire::tag_bits(first);
+    let bits = wire::type_bits(first);
     if 31 <= tag {
-        return Front::Isnt(12, 0);
+        return Err(Refusal {
+            number: 12,
+            place: 0,
+        });
     }
     if tag != 30 {
-        return Front::Is(false, tag, k, 1);
+        return Ok(Front {
+            long: false,
+            tag,
+            bits,
+            head: 1,
+        });
     }
-    let z = wire::read_size(&s[1..]);
-    match z {
-        Sized::Is(n, w) => Front::Is(true, n, k, 1 + w),
-        Sized::Isnt(c, p) => Front::Isnt(c, 1 + p),
+    match wire::read_size(&s[1..]) {
+        Ok(size) => Ok(Front {
+            long: true,
+            tag: size.number,
+            bits,
+            head: 1 + size.bytes,
+        }),
+        Err(refusal) => Err(refusal.behind(1)),
     }
 }
 
@@ -138,33 +152,33 @@ pub fn header(
     from: usize,
     least: usize,
     s: &[u8],
-) -> Head
+) -> Result<Head, Refusal>
     requires first_value { (first ≡ members_at table.now) × (first < 1048576) }
     requires shapes_value { shapes.now ≡ shapes_of table.now }
     requires end_bound { end ≤ 131072 }
     ensures { result ≡ head_of table.now (optional_from table.now end from) (header (optional_from table.now end from) least s.now) }
 {
-    let f = front(s);
-    match f {
-        Front::Is(long, tag, k, n) => {
-            let c = early(least, long, tag, k);
-            if c != 0 {
-                return Head::Wrong(c, 0);
+    let front = front(s)?;
+    let wrong = early(least, front.long, front.tag, front.bits);
+    if wrong != 0 {
+        return Err(Refusal {
+            number: wrong,
+            place: 0,
+        });
+    }
+    let found = table::chain::tag_member(table, first, end, from, front.tag);
+    match found {
+        Some(m) => {
+            let ty = crate::type_of(table::members(table), m.member, m.of);
+            let form = shapes::form(shapes, ty);
+            if front.bits != wire::form_bits(form) {
+                return Err(Refusal {
+                    number: 12,
+                    place: 0,
+                });
             }
-            let found = table::chain::tag_member(table, first, end, from, tag);
-            match found {
-                FoundMember::At(m, of) => {
-                    let ty = crate::type_of(table::members(table), m, of);
-                    let form = shapes::form(shapes, ty);
-                    if k == wire::form_bits(form) {
-                        Head::Known(m, ty, tag, n, form)
-                    } else {
-                        Head::Wrong(12, 0)
-                    }
-                }
-                FoundMember::Nothing => Head::Unknown(tag, k, n),
-            }
+            Ok(Head::Known(m.member, ty, front.tag, front.head, form))
         }
-        Front::Isnt(c, p) => Head::Wrong(c, p),
+        None => Ok(Head::Unknown(front.tag, front.bits, front.head)),
     }
 }

@@ -7,19 +7,20 @@ pub mod headers;
 ghost use Rattle.std.specs.Prelude.{◌≡◌};
 ghost use Rattle.optional.specs.Answers.{type_of};
 
-// A header before it is judged: whether its tag is long, its tag, its type bits, the bytes taken; or a refusal's number and place.
+// A header before it is judged: whether its tag is long, its tag, its type bits, and its bytes.
 #[derive(Clone, Copy)]
-pub enum Front {
-    Is(bool, usize, usize, usize),
-    Isnt(usize, usize),
+pub struct Front {
+    pub long: bool,
+    pub tag: usize,
+    pub bits: usize,
+    pub head: usize,
 }
 
-// A header. Of a known tag: the member row, the row of its type, the tag, the bytes taken, the number of its form. Of an unknown one: the tag, the type bits, the bytes taken. Or a refusal's number and place.
+// A header. Of a known tag: the member row, the row of its type, the tag, the header's bytes, the number of its form. Of an unknown one: the tag, the type bits, the header's bytes.
 #[derive(Clone, Copy)]
 pub enum Head {
     Known(usize, usize, usize, usize, usize),
     Unknown(usize, usize, usize),
-    Wrong(usize, usize),
 }
 
 // A header's tag, its type bits, and its bytes; 0 bytes if nothing is said of it.

@@ -2,4 +2,6 @@
 #![tactic(auto)]
 
 pub mod names;
+mod places;
+pub mod rows;
 pub mod tags;

@@ -29,58 +29,54 @@ use Rattle.encoding.specs.Optional.{Piece, requireds}
 use Rattle.encoding.specs.Slice.{Slice, known, passed, row, wrong, id_of}
 use Rattle.encoding.specs.Old.{members_as, descends, PairStage, any_pair, pair_of, first_meaning, pair_meaning, id_pair, pair_front}
 use Rattle.encoding.specs.Message.{piece_rows}
-use Rattle.wire.specs.declared.Step.{Step}
-use Rattle.wire.specs.declared.Step.TheVariants.{Took, Fault}
-use Rattle.wire.specs.declared.Sized.{Sized}
-use Rattle.wire.specs.declared.Sized.TheVariants.{Is, Isnt}
-use Rattle.wire.specs.Steps.{step_of, bytes_of}
-use Rattle.wire.specs.StepLaws.{rest_is, step_took, step_fault, bytes_is, bytes_isnt}
-use Rattle.table.specs.declared.Found.{Found}
-use Rattle.table.specs.declared.Found.TheVariants.{At, Nothing}
+use Rattle.std.specs.Prelude.{Result, Ok, Err, Some, None}
+use Rattle.std.specs.Prelude.{Option as Answer}
+use Rattle.wire.specs.declared.Refusal.{Refusal}
+use Rattle.wire.specs.declared.Counted.{Counted}
+use Rattle.wire.specs.Steps.{step_of, bytes_of, refused, behind, later, LaterFits}
+use Rattle.wire.specs.StepLaws.{bytes_is, bytes_isnt}
 use Rattle.table.specs.Found.{found_of}
 use Rattle.table.specs.Tags.{optional_start}
 use Rattle.level.specs.Fill.{fill}
 use Rattle.level.specs.Answers.{members_of}
 use Rattle.level.specs.AnswersLaws.{members_read, members_refused, members_within, refused_within}
 use Rattle.level.specs.declared.Members.{Members}
-use Rattle.level.specs.declared.Members.TheVariants.{Read, Refused}
 use Rattle.slices.specs.Openings.{ended}
-use Rattle.pairs.specs.declared.Meant.{Meant}
-use Rattle.pairs.specs.declared.Meant.TheVariants.{Unknown, Row, Never}
+use Rattle.slices.proofs.Steps.{declared_ended, declared_unended}
 use Rattle.pairs.specs.declared.Opening.{Opening}
-use Rattle.pairs.specs.declared.Opening.TheVariants.{Skip, Data, Bad}
-use Rattle.pairs.specs.declared.Turn.TheVariants.{Passed, Known, Wrong}
-use Rattle.pairs.specs.Pairs.{due_of, meant_of, enter_as, open_by, opening, row_of, slice_turn, turn_of, turn_rows, first_by}
+use Rattle.pairs.specs.declared.Opening.TheVariants.{Skip, Data}
+use Rattle.pairs.specs.declared.Turn.TheVariants.{Passed, Known}
+use Rattle.pairs.specs.Pairs.{due_of, meant_of, data_in, data_as, enter_as, open_by, opening, row_of, slice_turn, turn_of, turn_rows, first_by}
 use Rattle.pairs.specs.PairLaws.{front_weight, row_is, Opened, opened_bad, opened_skip, opened_data}
 
 -- ---- what a type ID means
 
-found_at : (o : Option ℕ) (t : ℕ) → At t ≡ found_of o → o ≡ some t
+found_at : (o : Option ℕ) (t : ℕ) → Some t ≡ found_of o → o ≡ some t
 unfolding found_of
 found_at none t h = let z : ◌≡◌ {A = ℕ} 0 1 = cc in absurd (omega arith)
 found_at (some i) t h = cc
 
-found_none : (o : Option ℕ) → Nothing ≡ found_of o → o ≡ none
+found_none : (o : Option ℕ) → None ≡ found_of o → o ≡ none
 unfolding found_of
 found_none none h = refl
 found_none (some i) h = let z : ◌≡◌ {A = ℕ} 0 1 = cc in absurd (omega arith)
 
-module _ (T : List ℕ) (top : ℕ) (id : List ℕ) (found : Found) (ef : found ≡ found_of (named T id)) where
-  module _ (t : ℕ) (q : found ≡ At t) (b : Bool) (eb : b ≡ descends T top t) where
-    pub first_row : b ≡ true → Row t ≡ meant_of (pair_meaning T top (due_of 0) id)
+module _ (T : List ℕ) (top : ℕ) (id : List ℕ) (found : Answer ℕ) (ef : found ≡ found_of (named T id)) where
+  module _ (t : ℕ) (q : found ≡ Some t) (b : Bool) (eb : b ≡ descends T top t) where
+    pub first_row : b ≡ true → Ok (Some t) ≡ meant_of (pair_meaning T top (due_of 0) id)
     unfolding due_of pair_meaning first_meaning meant_of
     first_row h = rw (found_at (named T id) t (sym q ∙ ef), ← eb, h)
 
-    pub first_outside : b ≡ false → Never 17 ≡ meant_of (pair_meaning T top (due_of 0) id)
+    pub first_outside : b ≡ false → refused 17 0 ≡ meant_of (pair_meaning T top (due_of 0) id)
     unfolding due_of pair_meaning first_meaning meant_of
     first_outside h = rw (found_at (named T id) t (sym q ∙ ef), ← eb, h)
 
-  pub first_unknown : found ≡ Nothing → Unknown ≡ meant_of (pair_meaning T top (due_of 0) id)
+  pub first_unknown : found ≡ None → Ok None ≡ meant_of (pair_meaning T top (due_of 0) id)
   unfolding due_of pair_meaning first_meaning meant_of
   first_unknown q = rw (found_none (named T id) (sym q ∙ ef))
 
 module _ (T : List ℕ) (top due : ℕ) (id : List ℕ) where
-  pub meant_first : due ≡ 0 → (r : Meant) → r ≡ meant_of (pair_meaning T top (due_of 0) id) → r ≡ meant_of (pair_meaning T top (due_of due) id)
+  pub meant_first : due ≡ 0 → (r : Result (Answer ℕ) Refusal) → r ≡ meant_of (pair_meaning T top (due_of 0) id) → r ≡ meant_of (pair_meaning T top (due_of due) id)
   meant_first z r e = rw z e
 
   module _ (n : due ≡ 0 → ⊥) (b : Bool) (e : b ≡ same_bytes id (name_of T (due - 1))) where
@@ -94,11 +90,11 @@ module _ (T : List ℕ) (top due : ℕ) (id : List ℕ) where
             let z : suc u - 1 ≡ u = omega arith in
             rw z (ap (λ (x : Bool). meant_of (pick x (row u) (wrong 17))) (sym (e ∙ ap (λ (i : ℕ). same_bytes id (name_of T i)) z)))
 
-    pub meant_base : b ≡ true → Row (due - 1) ≡ meant_of (pair_meaning T top (due_of due) id)
+    pub meant_base : b ≡ true → Ok (Some (due - 1)) ≡ meant_of (pair_meaning T top (due_of due) id)
     unfolding meant_of
     meant_base h = sym (by_name ∙ rw h)
 
-    pub meant_other : b ≡ false → Never 17 ≡ meant_of (pair_meaning T top (due_of due) id)
+    pub meant_other : b ≡ false → refused 17 0 ≡ meant_of (pair_meaning T top (due_of due) id)
     unfolding meant_of
     meant_other h = sym (by_name ∙ rw h)
 
@@ -108,92 +104,74 @@ ends_string : Ends string
 unfolding string
 ends_string xs d n h = ends_item _ (ends_bind _ _ (λ n. ends_chunk n)) xs d n (must_ok _ xs Content h).0
 
-module _ (s : List ℕ) (r : Sized) (e : r ≡ bytes_of (string s)) where
-  module _ (l n : ℕ) (q : r ≡ Is l n) where
-    id_read_lem : (b : List ℕ) × (string s ≡ ok b n) × (l ≡ length b)
-    id_read_lem = bytes_is (string s) l n (sym q ∙ e)
+module _ (s : List ℕ) (r : Result Counted Refusal) (e : r ≡ bytes_of (string s)) where
+  module _ (x : Counted) (q : r ≡ Ok x) where
+    id_read_lem : (b : List ℕ) × (string s ≡ ok b x.bytes) × (x.number ≡ length b)
+    id_read_lem = bytes_is (string s) x (sym q ∙ e)
 
-    pub id_length : l ≤ n
+    pub id_length : x.number ≤ x.bytes
     id_length = go id_read_lem
       where
-        go : (b : List ℕ) × (string s ≡ ok b n) × (l ≡ length b) → l ≤ n
-        go I = omega (arith, I.2, (ends_string s I.0 n I.1).within)
+        go : (b : List ℕ) × (string s ≡ ok b x.bytes) × (x.number ≡ length b) → x.number ≤ x.bytes
+        go I = omega (arith, I.2, (ends_string s I.0 x.bytes I.1).within)
 
-    pub id_order : n - l ≤ n
+    pub id_order : x.bytes - x.number ≤ x.bytes
     id_order = omega arith
 
-    pub id_within : n ≤ length s
+    pub id_within : x.bytes ≤ length s
     id_within = held_took string held_string s id_read_lem.1
 
     -- the bytes that were read are the ID's
-    pub opening_named : (T : List ℕ) (top : ℕ) (d : PairStage) (mt : Meant) → mt ≡ meant_of (pair_meaning T top d (take (n - (n - l)) (drop (n - l) s)))
-        → (o : Opening) → o ≡ enter_as n mt (declared 4 4 (drop n s)) → o ≡ opening T top d s
-    unfolding opening open_by
-    opening_named T top d mt em o eo = go id_read_lem
-      where
-        go : (b : List ℕ) × (string s ≡ ok b n) × (l ≡ length b) → o ≡ opening T top d s
-        go I =
-            let E = ends_string s I.0 n I.1 in
-            let i : n - (n - l) ≡ length I.0 = omega (arith, I.2, E.within) in
-            let w : take (n - (n - l)) (drop (n - l) s) ≡ I.0 = ap₂ (λ (x y : ℕ). take x (drop (n - y) s)) i I.2 ∙ E.there in
-            eo
-            ∙ ap (λ (x : Meant). enter_as n x (declared 4 4 (drop n s))) (em ∙ ap (λ (b : List ℕ). meant_of (pair_meaning T top d b)) w)
-            ∙ sym (rw I.1)
+    module _ (T : List ℕ) (top : ℕ) (d : PairStage) (mt : Result (Answer ℕ) Refusal)
+        (em : mt ≡ meant_of (pair_meaning T top d (take (x.bytes - (x.bytes - x.number)) (drop (x.bytes - x.number) s)))) where
+      named_as : opening T top d s ≡ enter_as x.bytes mt (declared 4 4 (drop x.bytes s))
+      unfolding opening open_by
+      named_as = go id_read_lem
+        where
+          go : (b : List ℕ) × (string s ≡ ok b x.bytes) × (x.number ≡ length b) → opening T top d s ≡ enter_as x.bytes mt (declared 4 4 (drop x.bytes s))
+          go I =
+              let n = x.bytes in
+              let l = x.number in
+              let E = ends_string s I.0 n I.1 in
+              let i : n - (n - l) ≡ length I.0 = omega (arith, I.2, E.within) in
+              let w : take (n - (n - l)) (drop (n - l) s) ≡ I.0 = ap₂ (λ (u v : ℕ). take u (drop (n - v) s)) i I.2 ∙ E.there in
+              rw I.1 (ap (λ (v : Result (Answer ℕ) Refusal). enter_as n v (declared 4 4 (drop n s))) (sym (em ∙ ap (λ (b : List ℕ). meant_of (pair_meaning T top d b)) w)))
 
-  pub opening_unnamed : (c p : ℕ) → r ≡ Isnt c p → (T : List ℕ) (top : ℕ) (d : PairStage) → Bad c p ≡ opening T top d s
+      pub opening_named : (m : Answer ℕ) → mt ≡ Ok m → (o : Result Opening Refusal) → o ≡ data_as x.bytes m (declared 4 4 (drop x.bytes s)) → o ≡ opening T top d s
+      unfolding enter_as
+      opening_named m h o eo = eo ∙ sym (named_as ∙ rw h)
+
+      pub opening_meant : (y : Refusal) → mt ≡ Err y → Err y ≡ opening T top d s
+      unfolding enter_as
+      opening_meant y h = sym (named_as ∙ rw h)
+
+  pub opening_unnamed : (x : Refusal) → r ≡ Err x → (T : List ℕ) (top : ℕ) (d : PairStage) → Err x ≡ opening T top d s
   unfolding opening open_by
-  opening_unnamed c p q T top d = rw (bytes_isnt (string s) c p (sym q ∙ e))
+  opening_unnamed x q T top d = rw (bytes_isnt (string s) x (sym q ∙ e))
 
--- the declared length after n bytes
-module _ (s : List ℕ) (n : ℕ) (h : n ≤ length s) (step : Step) (f : step ≡ step_of (declared 4 4 (take (length s - n) (drop n s)))) where
-  declares : step ≡ step_of (declared 4 4 (drop n s))
-  declares = f ∙ ap (λ (z : List ℕ). step_of (declared 4 4 z)) (rest_is s n)
+-- the end of the declared bytes after n bytes
+module _ (s : List ℕ) (n : ℕ) (h : n ≤ length s) (step : Result ℕ Refusal) (f : step ≡ step_of (declared 4 4 (take (length s - n) (drop n s)))) (r : Result ℕ Refusal) (g : r ≡ later n step) where
+  module _ (i : ℕ) (w : r ≡ Ok i) where
+    pub enter_skip : (m : Answer ℕ) → m ≡ None → Ok (Skip i) ≡ data_as n m (declared 4 4 (drop n s))
+    unfolding data_as data_in
+    enter_skip m z = let E = declared_ended s n h step f r g i w in simp (z, E.2, E.3)
 
-  module _ (k : ℕ) (w : step ≡ Took k) where
-    took : (d : List ℕ) × (declared 4 4 (drop n s) ≡ ok d k)
-    took = step_took (declared 4 4 (drop n s)) k (sym w ∙ declares)
+    pub enter_data : (m : Answer ℕ) (t : ℕ) → m ≡ Some t → Ok (Data t (n + 4) i) ≡ data_as n m (declared 4 4 (drop n s))
+    unfolding data_as data_in
+    enter_data m t z = let E = declared_ended s n h step f r g i w in simp (z, E.2, E.3)
 
-    pub took_fits : Fits w64 (length s) → Fits w64 (n + k)
-    took_fits b = omega (arith, held_took (declared 4 4) (held_declared 4 4) (drop n s) took.1, length-drop n s)
-
-    pub size_fits : Fits w64 (length s) → Fits w64 (n + 4)
-    size_fits b = omega (arith, held_took (declared 4 4) (held_declared 4 4) (drop n s) took.1, length-drop n s, declared_weight 4 4 (drop n s) took.1)
-
-    pub enter_skip : (mt : Meant) → mt ≡ Unknown → Skip (n + k) ≡ enter_as n mt (declared 4 4 (drop n s))
-    unfolding enter_as
-    enter_skip mt z = rw (z, took.1)
-
-    pub enter_data : (mt : Meant) (t : ℕ) → mt ≡ Row t → Data t (n + 4) (n + k) ≡ enter_as n mt (declared 4 4 (drop n s))
-    unfolding enter_as
-    enter_data mt t z = rw (z, took.1)
-
-  module _ (c p : ℕ) (w : step ≡ Fault c p) where
-    fault : declared 4 4 (drop n s) ≡ bad c p
-    fault = step_fault (declared 4 4 (drop n s)) c p (sym w ∙ declares)
-
-    pub fault_fits : Fits w64 (length s) → Fits w64 (n + p)
-    fault_fits b = omega (arith, held_refused (declared 4 4) (held_declared 4 4) (drop n s) fault, length-drop n s)
-
-    pub enter_unskipped : (mt : Meant) → mt ≡ Unknown → Bad c (n + p) ≡ enter_as n mt (declared 4 4 (drop n s))
-    unfolding enter_as
-    enter_unskipped mt z = rw (z, fault)
-
-    pub enter_unsized : (mt : Meant) (t : ℕ) → mt ≡ Row t → Bad c (n + p) ≡ enter_as n mt (declared 4 4 (drop n s))
-    unfolding enter_as
-    enter_unsized mt t z = rw (z, fault)
-
-pub enter_never : (s : List ℕ) (n : ℕ) (mt : Meant) (c : ℕ) → mt ≡ Never c → Bad c 0 ≡ enter_as n mt (declared 4 4 (drop n s))
-unfolding enter_as
-enter_never s n mt c z = rw z
+  pub enter_unread : (x : Refusal) → r ≡ Err x → (m : Answer ℕ) → Err x ≡ data_as n m (declared 4 4 (drop n s))
+  unfolding data_as
+  enter_unread x w m = let E = declared_unended s n h step f r g x w in simp (E.2, E.3)
 
 -- ---- one pair
 
-module _ (T : List ℕ) (top : ℕ) (d : PairStage) (s : List ℕ) (k at : ℕ) (r : Opening) (er : r ≡ opening T top d s) where
-  module _ (n : ℕ) (q : r ≡ Skip n) where
+module _ (T : List ℕ) (top : ℕ) (d : PairStage) (s : List ℕ) (k at : ℕ) (r : Result Opening Refusal) (er : r ≡ opening T top d s) where
+  module _ (o : Opening) (g : r ≡ Ok o) (n : ℕ) (q : o ≡ Skip n) where
     skipped : (nm : List ℕ) × (x : List ℕ) × (id_pair T top d s ≡ ok (passed false nm x, any_pair) n)
-    skipped = opened_skip T top d s r er n q
+    skipped = opened_skip T top d s r er n (g ∙ ap Ok q)
 
-    pub turn_skip : Passed n ≡ turn_of T d k (id_pair T top d s)
+    pub turn_skip : Ok (Passed n) ≡ turn_of T d k (id_pair T top d s)
     unfolding turn_of slice_turn
     turn_skip = sym (ap (turn_of T d k) skipped.2)
 
@@ -204,17 +182,17 @@ module _ (T : List ℕ) (top : ℕ) (d : PairStage) (s : List ℕ) (k at : ℕ) 
         let p : ◌≡◌ {A = Slice × PairStage} (sl, st) (passed false skipped.0 skipped.1, any_pair) = cc in
         sym (ap (λ (x : Slice × PairStage). fill k (turn_rows T d at x.0) out) p)
 
-  module _ (c p : ℕ) (q : r ≡ Bad c p) where
-    pub turn_bad : Wrong c p ≡ turn_of T d k (id_pair T top d s)
+  module _ (x : Refusal) (q : r ≡ Err x) where
+    pub turn_bad : Err x ≡ turn_of T d k (id_pair T top d s)
     unfolding turn_of
-    turn_bad = sym (ap (turn_of T d k) (opened_bad T top d s r er c p q))
+    turn_bad = sym (ap (turn_of T d k) (opened_bad T top d s r er x q))
 
     pub turn_bad_gives : (out l : List ℕ) (sl : Slice) (st : PairStage) (i : ℕ) → id_pair T top d s ≡ ok (sl, st) i → out ≡ fill k (turn_rows T d at sl) l
-    turn_bad_gives out l sl st i e = absurd (ok≢bad e (opened_bad T top d s r er c p q))
+    turn_bad_gives out l sl st i e = absurd (ok≢bad e (opened_bad T top d s r er x q))
 
-  module _ (t a e : ℕ) (q : r ≡ Data t a e) where
+  module _ (o : Opening) (g : r ≡ Ok o) (t a e : ℕ) (q : o ≡ Data t a e) where
     opened : Opened T top d s t a e
-    opened = opened_data T top d s r er t a e q
+    opened = opened_data T top d s r er t a e (g ∙ ap Ok q)
 
     pub data_order : a ≤ e
     data_order = opened.order
@@ -267,42 +245,45 @@ module _ (T : List ℕ) (top : ℕ) (d : PairStage) (s : List ℕ) (k at : ℕ) 
         go (ok ps n) f g = by ps n f (eqb (a + n) e) g
         go (bad c p) f g = absurd (ok≢bad g refl)
 
-    module _ (ms : Members) (em : ms ≡ members_of k (optional_start T t) (requireds (members_as true (Table.required_members T t)) (take (e - a) (drop a s)))) where
-      pub turn_refused : (c p : ℕ) → ms ≡ Refused c p → Wrong c (a + p) ≡ turn_of T d k (id_pair T top d s)
-      unfolding turn_of made ended
-      turn_refused c p w =
-          sym (ap (turn_of T d k) (opened.read ∙ ap (λ (y : Res (List Piece)). made_of (ended true a e y))
-          (members_refused (members_as true (Table.required_members T t)) k (optional_start T t) (take (e - a) (drop a s)) ms em c p w)))
+    module _ (ms : Result Members Refusal) (em : ms ≡ members_of k (optional_start T t) (requireds (members_as true (Table.required_members T t)) (take (e - a) (drop a s)))) where
+      module _ (x : Refusal) (w : ms ≡ Err x) where
+        pub turn_refused : (y : Refusal) → y ≡ behind a x → Err y ≡ turn_of T d k (id_pair T top d s)
+        unfolding turn_of made ended
+        turn_refused y h =
+            ap Err h ∙ sym (ap (turn_of T d k) (opened.read ∙ ap (λ (y : Res (List Piece)). made_of (ended true a e y))
+            (members_refused (members_as true (Table.required_members T t)) k (optional_start T t) (take (e - a) (drop a s)) ms em x w)))
 
-      pub refused_fits : (c p : ℕ) → ms ≡ Refused c p → Fits w64 (length s) → Fits w64 (a + p)
-      refused_fits c p w b =
-          omega (arith, refused_within (members_as true (Table.required_members T t)) k (optional_start T t) (take (e - a) (drop a s)) ms em c p w, long, opened.within, opened.order)
+        pub refused_fits : length s < 2 ^ 64 → a + x.place < 2 ^ 64
+        refused_fits b =
+            omega (arith, refused_within (members_as true (Table.required_members T t)) k (optional_start T t) (take (e - a) (drop a s)) ms em x w, long, opened.within, opened.order)
 
-      module _ (n j i : ℕ) (w : ms ≡ Read n j i) where
-        pub read_fits : Fits w64 (length s) → Fits w64 (a + n)
+      module _ (x : Members) (w : ms ≡ Ok x) where
+        pub read_fits : Fits w64 (length s) → Fits w64 (a + x.bytes)
         read_fits b =
-            omega (arith, members_within (members_as true (Table.required_members T t)) k (optional_start T t) (take (e - a) (drop a s)) ms em n j i w, long, opened.within, opened.order)
+            omega (arith, members_within (members_as true (Table.required_members T t)) k (optional_start T t) (take (e - a) (drop a s)) ms em x w, long, opened.within, opened.order)
 
-        read_is : (ps : List Piece) × (requireds (members_as true (Table.required_members T t)) (take (e - a) (drop a s)) ≡ ok ps n) × (j ≡ k + length ps)
-        read_is = members_read (members_as true (Table.required_members T t)) k (optional_start T t) (take (e - a) (drop a s)) ms em n j i w
+        read_is : (ps : List Piece) × (requireds (members_as true (Table.required_members T t)) (take (e - a) (drop a s)) ≡ ok ps x.bytes) × (x.count ≡ k + length ps)
+        read_is = members_read (members_as true (Table.required_members T t)) k (optional_start T t) (take (e - a) (drop a s)) ms em x w
 
-        pub turn_known : a + n ≡ e → Known t j e ≡ turn_of T d k (id_pair T top d s)
+        pub turn_known : a + x.bytes ≡ e → Ok (Known t x.count e) ≡ turn_of T d k (id_pair T top d s)
         unfolding turn_of slice_turn made ended
         turn_known h = go read_is
           where
-            go : (ps : List Piece) × (requireds (members_as true (Table.required_members T t)) (take (e - a) (drop a s)) ≡ ok ps n) × (j ≡ k + length ps) → Known t j e ≡ turn_of T d k (id_pair T top d s)
+            go : (ps : List Piece) × (requireds (members_as true (Table.required_members T t)) (take (e - a) (drop a s)) ≡ ok ps x.bytes) × (x.count ≡ k + length ps)
+                → Ok (Known t x.count e) ≡ turn_of T d k (id_pair T top d s)
             go R = sym (
                 ap (turn_of T d k) (opened.read ∙ ap (λ (y : Res (List Piece)). made_of (ended true a e y)) R.1)
-                ∙ rw (eq-eqb (a + n) e h) (ap₂ (λ (x : ℕ) (y : ℕ × ℕ). Known x y.0 y.1) row_here (ap₂ (λ (x y : ℕ). (x, y)) (sym R.2) h)))
+                ∙ rw (eq-eqb (a + x.bytes) e h) (ap₂ (λ (u : ℕ) (v : ℕ × ℕ). Ok (Known u v.0 v.1)) row_here (ap₂ (λ (u v : ℕ). (u, v)) (sym R.2) h)))
 
-        pub turn_over : (a + n ≡ e → ⊥) → Wrong 11 (a - 4) ≡ turn_of T d k (id_pair T top d s)
+        pub turn_over : (a + x.bytes ≡ e → ⊥) → refused 11 (a - 4) ≡ turn_of T d k (id_pair T top d s)
         unfolding turn_of made ended
         turn_over h = go read_is
           where
-            go : (ps : List Piece) × (requireds (members_as true (Table.required_members T t)) (take (e - a) (drop a s)) ≡ ok ps n) × (j ≡ k + length ps) → Wrong 11 (a - 4) ≡ turn_of T d k (id_pair T top d s)
+            go : (ps : List Piece) × (requireds (members_as true (Table.required_members T t)) (take (e - a) (drop a s)) ≡ ok ps x.bytes) × (x.count ≡ k + length ps)
+                → refused 11 (a - 4) ≡ turn_of T d k (id_pair T top d s)
             go R = sym (
                 ap (turn_of T d k) (opened.read ∙ ap (λ (y : Res (List Piece)). made_of (ended true a e y)) R.1)
-                ∙ rw (ne_eqb (a + n) e h))
+                ∙ rw (ne_eqb (a + x.bytes) e h))
 
 -- ---- the first known type
 

@@ -25,6 +25,8 @@ use Rattle.encoding.proofs.OldLaws.{eats_id_pair, held_id_pair}
 use Rattle.encoding.specs.Message.{skipped_in, passed_in, slice_rows}
 use Rattle.wire.specs.StepLaws.{rest_is}
 use Rattle.level.specs.Fill.{fill}
+use Rattle.std.specs.Prelude.{Result, Ok, Err}
+use Rattle.wire.specs.declared.Refusal.{Refusal}
 use Rattle.slices.specs.declared.Walk.{Walk}
 use Rattle.slices.specs.declared.Walk.TheVariants.{Done, Stop}
 use Rattle.slices.specs.Walks.{pair_rows, pair_walk}
@@ -32,7 +34,7 @@ use Rattle.slices.specs.Left.{WalkEnd, Ends}
 use Rattle.slices.specs.MemberLaws.{required_few}
 use Rattle.slices.proofs.Endings.{ends_refused, ends_listed, ends_answer, ends_list, Small, types_below, field_below}
 use Rattle.pairs.specs.declared.Turn.{Turn}
-use Rattle.pairs.specs.declared.Turn.TheVariants.{Passed, Known, Wrong}
+use Rattle.pairs.specs.declared.Turn.TheVariants.{Passed, Known}
 use Rattle.pairs.specs.Pairs.{due_of, row_of, slice_turn, turn_of, turn_rows, first_by, onward, first_from, rows_from, left}
 use Rattle.pairs.specs.PairLaws.{row_is, row_below, row_base, Knew, pair_knew}
 use Rattle.pairs.specs.LeftLaws.{left_whole, left_listed, left_refused, left_passed, left_known, left_done}
@@ -81,7 +83,7 @@ record KnownTurn (T : List ℕ) (d : PairStage) (k : ℕ) (r : Res (Slice × Pai
   owner : t ≡ row_of T d o
   rows : j ≡ k + length ps
 
-turn_known : (T : List ℕ) (d : PairStage) (k : ℕ) (r : Res (Slice × PairStage)) (t j n : ℕ) → Known t j n ≡ turn_of T d k r → KnownTurn T d k r t j n
+turn_known : (T : List ℕ) (d : PairStage) (k : ℕ) (r : Res (Slice × PairStage)) (t j n : ℕ) → Ok (Known t j n) ≡ turn_of T d k r → KnownTurn T d k r t j n
 unfolding turn_of slice_turn
 turn_known T d k (ok (known o ps, st) m) t j n h =
     let e : m ≡ n = cc in
@@ -96,17 +98,16 @@ record PassedTurn (r : Res (Slice × PairStage)) (n : ℕ) : Type 0 where
   st : PairStage
   read : r ≡ ok (passed b nm x, st) n
 
-turn_passed : (T : List ℕ) (d : PairStage) (k : ℕ) (r : Res (Slice × PairStage)) (n : ℕ) → Passed n ≡ turn_of T d k r → PassedTurn r n
+turn_passed : (T : List ℕ) (d : PairStage) (k : ℕ) (r : Res (Slice × PairStage)) (n : ℕ) → Ok (Passed n) ≡ turn_of T d k r → PassedTurn r n
 unfolding turn_of slice_turn
 turn_passed T d k (ok (known o ps, st) m) n h = let z : ◌≡◌ {A = ℕ} 0 1 = cc in absurd (omega arith)
 turn_passed T d k (ok (passed b nm x, st) m) n h = let e : m ≡ n = cc in record { b = b; nm = nm; x = x; st = st; read = ap (ok (passed b nm x, st)) e }
 turn_passed T d k (bad c p) n h = let z : ◌≡◌ {A = ℕ} 0 1 = cc in absurd (omega arith)
 
-turn_wrong : (T : List ℕ) (d : PairStage) (k : ℕ) (r : Res (Slice × PairStage)) (c p : ℕ) → Wrong c p ≡ turn_of T d k r → r ≡ bad c p
+turn_wrong : (T : List ℕ) (d : PairStage) (k : ℕ) (r : Res (Slice × PairStage)) (x : Refusal) → Err x ≡ turn_of T d k r → r ≡ bad x.number x.place
 unfolding turn_of slice_turn
-turn_wrong T d k (ok (known o ps, st) m) c p h = let z : ◌≡◌ {A = ℕ} 0 1 = cc in absurd (omega arith)
-turn_wrong T d k (ok (passed b nm x, st) m) c p h = let z : ◌≡◌ {A = ℕ} 0 1 = cc in absurd (omega arith)
-turn_wrong T d k (bad c' p') c p h = cc
+turn_wrong T d k (ok r m) x h = let z : ◌≡◌ {A = ℕ} 0 1 = cc in absurd (omega arith)
+turn_wrong T d k (bad c p) x h = let f : x ≡ record { number = c; place = p } = cc in rw f refl
 
 module _ {T : List ℕ} {top : ℕ} {m : List ℕ} {whole : WalkEnd} {due pos k s fst : ℕ} {out : List ℕ} (inv : Ahead T top m whole due pos k s fst out) where
   -- what the call asks
@@ -116,20 +117,21 @@ module _ {T : List ℕ} {top : ℕ} {m : List ℕ} {whole : WalkEnd} {due pos k 
   pub asks_count : k < 2 ^ 63
   asks_count = omega (arith, inv.few)
 
-  module _ {r : Turn} (e : r ≡ turn_of T (due_of due) k (id_pair T top (due_of due) (take (length m - pos) (drop pos m)))) where
+  module _ {r : Result Turn Refusal} (e : r ≡ turn_of T (due_of due) k (id_pair T top (due_of due) (take (length m - pos) (drop pos m)))) where
     turns : r ≡ turn_of T (due_of due) k (id_pair T top (due_of due) (drop pos m))
     turns = e ∙ ap (λ (l : List ℕ). turn_of T (due_of due) k (id_pair T top (due_of due) l)) (rest_is m pos)
 
     -- a refusal
-    module _ {c p : ℕ} (q : r ≡ Wrong c p) where
-      wrong : id_pair T top (due_of due) (drop pos m) ≡ bad c p
-      wrong = turn_wrong T (due_of due) k (id_pair T top (due_of due) (drop pos m)) c p (sym q ∙ turns)
+    module _ {x : Refusal} (q : r ≡ Err x) where
+      wrong : id_pair T top (due_of due) (drop pos m) ≡ bad x.number x.place
+      wrong = turn_wrong T (due_of due) k (id_pair T top (due_of due) (drop pos m)) x (sym q ∙ turns)
 
-      pub stop_fits : Fits w64 (pos + p)
+      pub stop_fits : Fits w64 (pos + x.place)
       stop_fits = omega (arith, inv.room, inv.inside, held_refused (id_pair T top (due_of due)) (held_id_pair T top (due_of due)) (drop pos m) wrong, length-drop pos m)
 
-      pub stop_ends : (out' : List ℕ) → Ends whole (Stop c (pos + p)) out'
-      stop_ends out' = ends_refused whole c (pos + p) (Stop c (pos + p)) out' (inv.rest ∙ left_refused T top (due_of due) (drop pos m) pos k s fst out (due_on due) c p wrong) refl
+      stop_ends : (out' : List ℕ) → Ends whole (Stop x.number (pos + x.place)) out'
+      stop_ends out' =
+          ends_refused whole x.number (pos + x.place) (Stop x.number (pos + x.place)) out' (inv.rest ∙ left_refused T top (due_of due) (drop pos m) pos k s fst out (due_on due) x.number x.place wrong) refl
 
     -- the bytes of a pair that was read
     taken : {sl : Slice} {st : PairStage} {n : ℕ} → id_pair T top (due_of due) (drop pos m) ≡ ok (sl, st) n → (1 ≤ n) × (pos + n ≤ length m)
@@ -137,9 +139,9 @@ module _ {T : List ℕ} {top : ℕ} {m : List ℕ} {whole : WalkEnd} {due pos k 
         (eats_id_pair T top (due_of due) (drop pos m) (sl, st) n h, omega (arith, inv.inside, held_took (id_pair T top (due_of due)) (held_id_pair T top (due_of due)) (drop pos m) h, length-drop pos m))
 
     -- a skipped pair
-    module _ {n : ℕ} (q : r ≡ Passed n) where
+    module _ {turn : Turn} (g : r ≡ Ok turn) {n : ℕ} (q : turn ≡ Passed n) where
       skips : PassedTurn (id_pair T top (due_of due) (drop pos m)) n
-      skips = turn_passed T (due_of due) k (id_pair T top (due_of due) (drop pos m)) n (sym q ∙ turns)
+      skips = turn_passed T (due_of due) k (id_pair T top (due_of due) (drop pos m)) n (sym (g ∙ ap Ok q) ∙ turns)
 
       pub skip_less : length m - (pos + n) < length m - pos
       skip_less = let U = taken skips.read in omega arith
@@ -168,9 +170,9 @@ module _ {T : List ℕ} {top : ℕ} {m : List ℕ} {whole : WalkEnd} {due pos k 
           }
 
     -- a known pair
-    module _ {t j n : ℕ} (q : r ≡ Known t j n) where
+    module _ {turn : Turn} (g : r ≡ Ok turn) {t j n : ℕ} (q : turn ≡ Known t j n) where
       knows : KnownTurn T (due_of due) k (id_pair T top (due_of due) (drop pos m)) t j n
-      knows = turn_known T (due_of due) k (id_pair T top (due_of due) (drop pos m)) t j n (sym q ∙ turns)
+      knows = turn_known T (due_of due) k (id_pair T top (due_of due) (drop pos m)) t j n (sym (g ∙ ap Ok q) ∙ turns)
 
       knew : Knew T top (due_of due) knows.o knows.ps knows.st n
       knew = pair_knew T top (due_of due) (drop pos m) knows.o knows.ps knows.st n knows.read
@@ -244,19 +246,19 @@ module _ {T : List ℕ} {top : ℕ} {m : List ℕ} {whole : WalkEnd} {due pos k 
 
 module _ (T : List ℕ) (top : ℕ) (m : List ℕ) (start : ℕ) (out₀ : List ℕ) (due pos k s fst : ℕ) (out : List ℕ)
     (inv : Ahead T top m (left T any_pair start 0 0 0 out₀ (id_pairs T top (drop start m))) due pos k s fst out)
-    (r : Turn) (e : r ≡ turn_of T (due_of due) k (id_pair T top (due_of due) (take (length m - pos) (drop pos m)))) where
-  module _ (c p : ℕ) (q : r ≡ Wrong c p) where
-    pub stop_says : Stop c (pos + p) ≡ pair_walk T start (id_pairs T top (drop start m))
-    stop_says = walk_says T start out₀ (id_pairs T top (drop start m)) (Stop c (pos + p)) out (stop_ends inv e q out)
+    (r : Result Turn Refusal) (e : r ≡ turn_of T (due_of due) k (id_pair T top (due_of due) (take (length m - pos) (drop pos m)))) where
+  module _ (x : Refusal) (q : r ≡ Err x) where
+    pub stop_says : Stop x.number (pos + x.place) ≡ pair_walk T start (id_pairs T top (drop start m))
+    stop_says = walk_says T start out₀ (id_pairs T top (drop start m)) (Stop x.number (pos + x.place)) out (stop_ends inv e q out)
 
     pub stop_gives : (out' : List ℕ) (ss : List Slice) (n : ℕ) → id_pairs T top (drop start m) ≡ ok ss n → out' ≡ fill 0 (pair_rows T start ss) out₀
-    stop_gives out' = walk_gives T start out₀ (id_pairs T top (drop start m)) (Stop c (pos + p)) out' (stop_ends inv e q out')
+    stop_gives out' = walk_gives T start out₀ (id_pairs T top (drop start m)) (Stop x.number (pos + x.place)) out' (stop_ends inv e q out')
 
-  module _ (t j n : ℕ) (q : r ≡ Known t j n) (out' : List ℕ)
+  module _ (turn : Turn) (g : r ≡ Ok turn) (t j n : ℕ) (q : turn ≡ Known t j n) (out' : List ℕ)
       (fills : (sl : Slice) (d : PairStage) (n : ℕ) → id_pair T top (due_of due) (take (length m - pos) (drop pos m)) ≡ ok (sl, d) n → out' ≡ fill k (turn_rows T (due_of due) pos sl) out)
       (f : ℕ) (ef : f ≡ first_by (due_of due) fst t) (b : ℕ) (eb : b ≡ base T t) (z : b ≡ 0) where
     pub done_says : Done f 2 j 0 s (pos + n) ≡ pair_walk T start (id_pairs T top (drop start m))
-    done_says = walk_says T start out₀ (id_pairs T top (drop start m)) (Done f 2 j 0 s (pos + n)) out' (done_ends inv e q fills ef eb z)
+    done_says = walk_says T start out₀ (id_pairs T top (drop start m)) (Done f 2 j 0 s (pos + n)) out' (done_ends inv e g q fills ef eb z)
 
     pub done_gives : (ss : List Slice) (i : ℕ) → id_pairs T top (drop start m) ≡ ok ss i → out' ≡ fill 0 (pair_rows T start ss) out₀
-    done_gives = walk_gives T start out₀ (id_pairs T top (drop start m)) (Done f 2 j 0 s (pos + n)) out' (done_ends inv e q fills ef eb z)
+    done_gives = walk_gives T start out₀ (id_pairs T top (drop start m)) (Done f 2 j 0 s (pos + n)) out' (done_ends inv e g q fills ef eb z)

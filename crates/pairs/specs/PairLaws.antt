@@ -7,7 +7,7 @@
 --   opened_bad, _place, _skip, _data       what the opening of a pair says of it
 use Rattle.std.proofs.Math.Path.{◌≡◌, refl, ap}
 use Rattle.std.proofs.Common.{sym, ap₂, ◌∙◌, length-append, drop-drop}
-use Rattle.std.specs.Prelude.{Bool, take, drop}
+use Rattle.std.specs.Prelude.{Bool, take, drop, Result, Ok, Err}
 use Rattle.std.proofs.Math.Bool.{true, false}
 use Rattle.std.proofs.Math.Option.{Option, none, some}
 use mathlib.Core.List.{List, [], ◌∷◌}
@@ -27,12 +27,14 @@ use Rattle.encoding.specs.Slice.{Slice, known, passed, Meaning, skip, row, wrong
 use Rattle.encoding.specs.Old.{members_as, descends, PairStage, any_pair, pair_of, first_meaning, pair_meaning, enter_pair, id_pair, pair_front}
 use Rattle.encoding.proofs.OldLaws.{Seventeen, pair_wrong, meant, Paired, pair_ok}
 use Rattle.encoding.specs.Message.{or_zero, first_in}
+use Rattle.wire.specs.declared.Refusal.{Refusal}
+use Rattle.wire.specs.Steps.{refused}
 use Rattle.slices.specs.Openings.{ended}
 use Rattle.slices.specs.OpeningLaws.{ended_sliced}
 use Rattle.slices.specs.MemberLaws.{Plain, required_plain}
 use Rattle.pairs.specs.declared.Opening.{Opening}
-use Rattle.pairs.specs.declared.Opening.TheVariants.{Skip, Data, Bad}
-use Rattle.pairs.specs.Pairs.{meant_of, enter_as, open_by, opening, row_of, first_by, owners, first_from}
+use Rattle.pairs.specs.declared.Opening.TheVariants.{Skip, Data}
+use Rattle.pairs.specs.Pairs.{meant_of, data_in, data_as, enter_as, open_by, opening, row_of, first_by, owners, first_from}
 
 -- ---- what an ID means
 
@@ -211,10 +213,10 @@ module _ (T : List ℕ) (top : ℕ) (d : PairStage) (xs : List ℕ) where
   never nm n f g = bind_bad (must (meant T top d) string) _ xs (rw (f, g))
 
   -- what the opening says
-  data Opens : Opening → Type 0 where
-    bads : (c p : ℕ) → id_pair T top d xs ≡ bad c p → p ≤ length xs → Opens (Bad c p)
-    skips : (nm x : List ℕ) (n : ℕ) → id_pair T top d xs ≡ ok (passed false nm x, any_pair) n → Opens (Skip n)
-    datas : (t a e : ℕ) → Opened T top d xs t a e → Opens (Data t a e)
+  data Opens : Result Opening Refusal → Type 0 where
+    bads : (c p : ℕ) → id_pair T top d xs ≡ bad c p → p ≤ length xs → Opens (refused c p)
+    skips : (nm x : List ℕ) (n : ℕ) → id_pair T top d xs ≡ ok (passed false nm x, any_pair) n → Opens (Ok (Skip n))
+    datas : (t a e : ℕ) → Opened T top d xs t a e → Opens (Ok (Data t a e))
 
   part_end : (n : ℕ) (x : List ℕ) (k : ℕ) → n ≤ length xs → declared 4 4 (drop n xs) ≡ ok x k → n + k ≤ length xs
   part_end n x k h e = omega (arith, held_took (declared 4 4) (held_declared 4 4) (drop n xs) e, length-drop n xs)
@@ -228,7 +230,7 @@ module _ (T : List ℕ) (top : ℕ) (d : PairStage) (xs : List ℕ) where
       rw l (ap (take (length x)) (sym (drop-drop 4 n xs)) ∙ ap (λ (i : ℕ). take (length x) (drop i (drop n xs))) (sym j) ∙ E.there)
 
   opens : Opens (opening T top d xs)
-  unfolding opening open_by enter_as meant_of enter_pair mapc made shift inside enter meaning_form
+  unfolding opening open_by enter_as data_as data_in meant_of enter_pair mapc made shift inside enter meaning_form
   opens = go (string xs) refl
     where
       skipped : (nm : List ℕ) (n : ℕ) → string xs ≡ ok nm n → pair_meaning T top d nm ≡ skip → (r : Res (List ℕ)) → declared 4 4 (drop n xs) ≡ r → Opens (enter_as n (meant_of skip) r)
@@ -264,33 +266,33 @@ module _ (T : List ℕ) (top : ℕ) (d : PairStage) (xs : List ℕ) where
       go (ok nm n) f = meaning nm n f (pair_meaning T top d nm) refl (pair_wrong T top d nm)
       go (bad c p) f = bads c p (unnamed c p f) (held_refused string held_string xs f)
 
-  module _ (r : Opening) (q : r ≡ opening T top d xs) where
-    opened_refused : (c p : ℕ) → r ≡ Bad c p → (id_pair T top d xs ≡ bad c p) × (p ≤ length xs)
-    opened_refused c p w = go (opening T top d xs) opens (sym w ∙ q)
+  module _ (r : Result Opening Refusal) (q : r ≡ opening T top d xs) where
+    opened_refused : (x : Refusal) → r ≡ Err x → (id_pair T top d xs ≡ bad x.number x.place) × (x.place ≤ length xs)
+    opened_refused x w = go (opening T top d xs) opens (sym w ∙ q)
       where
-        go : (x : Opening) → Opens x → Bad c p ≡ x → (id_pair T top d xs ≡ bad c p) × (p ≤ length xs)
-        go x (bads c' p' e l) z = let ec : c' ≡ c = cc in let ep : p' ≡ p = cc in (e ∙ ap₂ bad ec ep, omega arith)
-        go x (skips nm y n e) z = let v : ◌≡◌ {A = ℕ} 0 1 = cc in absurd (omega arith)
-        go x (datas t a e o) z = let v : ◌≡◌ {A = ℕ} 0 1 = cc in absurd (omega arith)
+        go : (y : Result Opening Refusal) → Opens y → Err x ≡ y → (id_pair T top d xs ≡ bad x.number x.place) × (x.place ≤ length xs)
+        go y (bads c p e l) z = let f : x ≡ record { number = c; place = p } = cc in rw f (e, l)
+        go y (skips nm v n e) z = let v : ◌≡◌ {A = ℕ} 0 1 = cc in absurd (omega arith)
+        go y (datas t a e o) z = let v : ◌≡◌ {A = ℕ} 0 1 = cc in absurd (omega arith)
 
-    pub opened_bad : (c p : ℕ) → r ≡ Bad c p → id_pair T top d xs ≡ bad c p
-    opened_bad c p w = (opened_refused c p w).0
+    pub opened_bad : (x : Refusal) → r ≡ Err x → id_pair T top d xs ≡ bad x.number x.place
+    opened_bad x w = (opened_refused x w).0
 
-    pub opened_place : (c p : ℕ) → r ≡ Bad c p → p ≤ length xs
-    opened_place c p w = (opened_refused c p w).1
+    pub opened_place : (x : Refusal) → r ≡ Err x → x.place ≤ length xs
+    opened_place x w = (opened_refused x w).1
 
-    pub opened_skip : (n : ℕ) → r ≡ Skip n → (nm : List ℕ) × (x : List ℕ) × (id_pair T top d xs ≡ ok (passed false nm x, any_pair) n)
+    pub opened_skip : (n : ℕ) → r ≡ Ok (Skip n) → (nm : List ℕ) × (x : List ℕ) × (id_pair T top d xs ≡ ok (passed false nm x, any_pair) n)
     opened_skip n w = go (opening T top d xs) opens (sym w ∙ q)
       where
-        go : (x : Opening) → Opens x → Skip n ≡ x → (nm : List ℕ) × (x : List ℕ) × (id_pair T top d xs ≡ ok (passed false nm x, any_pair) n)
+        go : (x : Result Opening Refusal) → Opens x → Ok (Skip n) ≡ x → (nm : List ℕ) × (x : List ℕ) × (id_pair T top d xs ≡ ok (passed false nm x, any_pair) n)
         go x (bads c p e l) z = let v : ◌≡◌ {A = ℕ} 0 1 = cc in absurd (omega arith)
         go x (skips nm y m e) z = let em : m ≡ n = cc in (nm, y, e ∙ ap (ok (passed false nm y, any_pair)) em)
         go x (datas t a e o) z = let v : ◌≡◌ {A = ℕ} 0 1 = cc in absurd (omega arith)
 
-    pub opened_data : (t a e : ℕ) → r ≡ Data t a e → Opened T top d xs t a e
+    pub opened_data : (t a e : ℕ) → r ≡ Ok (Data t a e) → Opened T top d xs t a e
     opened_data t a e w = go (opening T top d xs) opens (sym w ∙ q)
       where
-        go : (x : Opening) → Opens x → Data t a e ≡ x → Opened T top d xs t a e
+        go : (x : Result Opening Refusal) → Opens x → Ok (Data t a e) ≡ x → Opened T top d xs t a e
         go x (bads c p f l) z = let v : ◌≡◌ {A = ℕ} 0 1 = cc in absurd (omega arith)
         go x (skips nm y n f) z = let v : ◌≡◌ {A = ℕ} 0 1 = cc in absurd (omega arith)
         go x (datas t' a' e' o) z =

@@ -4,26 +4,24 @@
 
 pub mod walks;
 
-// What a type ID means: it is unknown, so its pair is skipped; the pair of a known row; or a refusal.
-#[derive(Clone, Copy)]
-pub enum Meant {
-    Unknown,
-    Row(usize),
-    Never(usize),
-}
-
-// A pair up to its data: skipped whole, with the bytes taken; of a known row, with the start and end of its data; or a refusal's number and place.
+// A pair up to its data: skipped whole, after so many bytes taken; or of a known row, with the start and end of its data.
 #[derive(Clone, Copy)]
 pub enum Opening {
     Skip(usize),
-    Data(usize, usize, usize),
-    Bad(usize, usize),
+    Data {
+        row: usize,
+        start: usize,
+        end: usize,
+    },
 }
 
-// A pair: skipped, with the bytes taken; of a known row, with the rows there are then and the bytes taken; or a refusal's number and place.
+// A pair: skipped, with the bytes taken; or of a known row, with the rows there are then and the bytes taken.
 #[derive(Clone, Copy)]
 pub enum Turn {
     Passed(usize),
-    Known(usize, usize, usize),
-    Wrong(usize, usize),
+    Known {
+        row: usize,
+        count: usize,
+        bytes: usize,
+    },
 }

@@ -8,32 +8,38 @@ ghost use Rattle.encoding.specs.Old.{PairStage, pair_meaning, id_pair, id_pairs}
 ghost use Rattle.shapes.specs.Shapes.{shapes_of};
 ghost use Rattle.level.specs.Fill.{fill};
 ghost use Rattle.slices.specs.Walks.{pair_rows, pair_walk};
-ghost use Rattle.pairs.specs.Pairs.{due_of, meant_of, enter_as, opening, turn_of, turn_rows, first_by};
+ghost use Rattle.pairs.specs.Pairs.{due_of, meant_of, data_as, opening, turn_of, turn_rows, first_by};
 
-use crate::{Meant, Opening, Turn};
-use level::Members;
+use crate::{Opening, Turn};
 use slices::Walk;
-use table::Found;
-use wire::{Sized, Step};
+use wire::Refusal;
 
-// What a type ID means before the first known pair: it is unknown, or the top or below it, or 17.
-fn first_meaning(table: &[u8], top: usize, id: &[u8]) -> Meant
+// The row that a type ID means before the first known pair: none if it is unknown, or the top or one below it, or 17.
+fn first_meaning(table: &[u8], top: usize, id: &[u8]) -> Result<Option<usize>, Refusal>
     ensures { result ≡ meant_of (pair_meaning table.now top (due_of 0) id.now) }
 {
-    let found = table::naming::named(table, id);
-    match found {
-        Found::At(t) => {
+    match table::naming::named(table, id) {
+        Some(t) => {
             if table::chain::in_chain(table, t, top) {
-                return Meant::Row(t);
+                return Ok(Some(t));
             }
-            Meant::Never(17)
+            Err(Refusal {
+                number: 17,
+                place: 0,
+            })
         }
-        Found::Nothing => Meant::Unknown,
+        None => Ok(None),
     }
 }
 
-// What a type ID means; after a known pair it is the base's, or 17.
-fn meaning(table: &[u8], begin: usize, top: usize, due: usize, id: &[u8]) -> Meant
+// The row that a type ID means, none if it is unknown; after a known pair it is the base's, or 17.
+fn meaning(
+    table: &[u8],
+    begin: usize,
+    top: usize,
+    due: usize,
+    id: &[u8],
+) -> Result<Option<usize>, Refusal>
     requires { begin ≡ types_at table.now }
     ensures { result ≡ meant_of (pair_meaning table.now top (due_of due) id.now) }
 {
@@ -41,48 +47,39 @@ fn meaning(table: &[u8], begin: usize, top: usize, due: usize, id: &[u8]) -> Mea
         return first_meaning(table, top, id);
     }
     if table::naming::is_named(table, begin, due - 1, id) {
-        return Meant::Row(due - 1);
+        return Ok(Some(due - 1));
     }
-    Meant::Never(17)
+    Err(Refusal {
+        number: 17,
+        place: 0,
+    })
 }
 
 // What follows an ID of n bytes, by what it means: a size that counts itself, and the data.
-fn entered(meant: Meant, n: usize, s: &[u8]) -> Opening
+fn entered(meant: Option<usize>, n: usize, s: &[u8]) -> Result<Opening, Refusal>
     requires { n ≤ length s.now }
-    ensures { result ≡ enter_as n meant (declared 4 4 (drop n s.now)) }
+    ensures { result ≡ data_as n meant (declared 4 4 (drop n s.now)) }
 {
+    let end = wire::later(n, wire::read_declared(&s[n..], 4, 4))?;
     match meant {
-        Meant::Unknown => {
-            let step = wire::read_declared(&s[n..], 4, 4);
-            match step {
-                Step::Took(k) => Opening::Skip(n + k),
-                Step::Fault(c, p) => Opening::Bad(c, n + p),
-            }
-        }
-        Meant::Row(t) => {
-            let step = wire::read_declared(&s[n..], 4, 4);
-            match step {
-                Step::Took(k) => Opening::Data(t, n + 4, n + k),
-                Step::Fault(c, p) => Opening::Bad(c, n + p),
-            }
-        }
-        Meant::Never(c) => Opening::Bad(c, 0),
+        None => Ok(Opening::Skip(end)),
+        Some(row) => Ok(Opening::Data {
+            row,
+            start: n + 4,
+            end,
+        }),
     }
 }
 
 // The next pair up to its data: the ID, then what it means.
-fn opening(table: &[u8], begin: usize, top: usize, due: usize, s: &[u8]) -> Opening
+fn opening(table: &[u8], begin: usize, top: usize, due: usize, s: &[u8]) -> Result<Opening, Refusal>
     requires { begin ≡ types_at table.now }
     ensures { result ≡ opening table.now top (due_of due) s.now }
 {
-    let id = text::read_string(s);
-    match id {
-        Sized::Is(l, n) => {
-            let a = n - l;
-            entered(meaning(table, begin, top, due, &s[a..n]), n, s)
-        }
-        Sized::Isnt(c, p) => Opening::Bad(c, p),
-    }
+    let id = text::read_string(s)?;
+    let start = id.bytes - id.number;
+    let meant = meaning(table, begin, top, due, &s[start..id.bytes])?;
+    entered(meant, id.bytes, s)
 }
 
 // One pair, with a row for each member of a known one; `at` is its place, `count` the rows before it. Its members use up its data, or 11.
@@ -96,7 +93,7 @@ fn pair(
     at: usize,
     count: usize,
     out: &mut [u8],
-) -> Turn
+) -> Result<Turn, Refusal>
     requires begin_value { begin ≡ types_at table.now }
     requires shapes_value { shapes.now ≡ shapes_of table.now }
     requires s_bound { (at + length s.now < 2 ^ 63) × (count < 2 ^ 63) }
@@ -104,32 +101,36 @@ fn pair(
     ensures out_len_unchanged { length out.new ≡ length out.old }
     ensures out_after { (sl : Slice) (d : PairStage) (n : ℕ) → id_pair table.now top (due_of due) s.now ≡ ok (sl, d) n → out.new ≡ fill count (turn_rows table.now (due_of due) at sl) out.old }
 {
-    let o = opening(table, begin, top, due, s);
+    let o = opening(table, begin, top, due, s)?;
     match o {
-        Opening::Skip(n) => Turn::Passed(n),
-        Opening::Data(t, a, e) => {
-            let members = level::required(
+        Opening::Skip(n) => Ok(Turn::Passed(n)),
+        Opening::Data { row, start, end } => {
+            let members = match level::required(
                 table,
                 begin,
                 shapes,
-                t,
-                &s[a..e],
-                at + a,
+                row,
+                &s[start..end],
+                at + start,
                 count,
                 out,
                 true,
-            );
-            match members {
-                Members::Read(n, k, next) => {
-                    if a + n == e {
-                        return Turn::Known(t, k, e);
-                    }
-                    Turn::Wrong(11, a - 4)
-                }
-                Members::Refused(c, p) => Turn::Wrong(c, a + p),
+            ) {
+                Ok(members) => members,
+                Err(refusal) => return Err(refusal.behind(start)),
+            };
+            if start + members.bytes == end {
+                return Ok(Turn::Known {
+                    row,
+                    count: members.count,
+                    bytes: end,
+                });
             }
+            Err(Refusal {
+                number: 11,
+                place: start - 4,
+            })
         }
-        Opening::Bad(c, p) => Turn::Wrong(c, p),
     }
 }
 
@@ -164,23 +165,29 @@ pub fn pairs(
     let mut skipped = 0;
     let mut first = 0;
     loop {
-        let turn = pair(table, begin, shapes, top, due, &m[pos..], pos, count, out);
+        let turn = match pair(table, begin, shapes, top, due, &m[pos..], pos, count, out) {
+            Ok(turn) => turn,
+            Err(refusal) => {
+                return Walk::Stop(refusal.number, pos + refusal.place);
+            }
+        };
         match turn {
             Turn::Passed(n) => {
                 pos += n;
                 skipped += 1;
             }
-            Turn::Known(t, k, n) => {
-                pos += n;
+            Turn::Known {
+                row,
+                count: k,
+                bytes,
+            } => {
+                pos += bytes;
                 count = k;
-                first = first_of(due, first, t);
-                due = table::chain::base(table, begin, t);
+                first = first_of(due, first, row);
+                due = table::chain::base(table, begin, row);
                 if due == 0 {
                     return Walk::Done(first, 2, count, 0, skipped, pos);
                 }
-            }
-            Turn::Wrong(c, p) => {
-                return Walk::Stop(c, pos + p);
             }
         }
     }

@@ -37,10 +37,8 @@ use Rattle.shapes.specs.ShapesLaws.{form_row}
 use Rattle.wire.specs.Put.{put, header_bits}
 use Rattle.wire.specs.PutLaws.{header_bits_lem}
 use Rattle.table.proofs.Places.{member_row}
-use Rattle.pieces.specs.declared.Due.{Due}
-use Rattle.pieces.specs.declared.Due.TheVariants.{Row as DueRow}
-use Rattle.pieces.specs.declared.Optional.{Optional}
-use Rattle.pieces.specs.declared.Optional.TheVariants.{Of, Nothing}
+use Rattle.std.specs.Prelude.{Result, Ok, Err, Option, Some, None}
+use Rattle.pieces.specs.declared.Wanted.{Wanted}
 use Rattle.pieces.specs.Cursors.{required_in, Cursor, due_at, may_at, state_of, may_member, due_reached, may_reached, IsDue, Gone, IsMay, OptionalIn}
 use Rattle.pieces.specs.Judged.{part_form, judged_row}
 use Rattle.pieces.specs.Puts.{Puts}
@@ -149,10 +147,10 @@ unfolding piece_at taken_of here_of state_of
 piece_is T rows buffer i r er from z e o = rw (← er, e, eq-eqb from.owner z.state.owner (sym o))
 
 -- the tag of an optional member
-pub may_tag : (T : List ℕ) (o least m : ℕ) (f : Optional) → OptionalIn T o least m f → (t key : ℕ) → f ≡ Of t key → key < 4294967296
-may_tag T o least m f y t key q = go (rw q at y)
+pub may_tag : (T : List ℕ) (o least m : ℕ) (f : Option Wanted) → OptionalIn T o least m f → (x : Wanted) → f ≡ Some x → x.tag < 4294967296
+may_tag T o least m f y x q = go (rw q at y)
   where
-    go : OptionalIn T o least m (Of t key) → key < 4294967296
+    go : OptionalIn T o least m (Some x) → x.tag < 4294967296
     go z = z.small
 
 -- the length of a part that is right
@@ -212,21 +210,21 @@ module _ (T : List ℕ) (old : Bool) (rows buffer : List ℕ) (i : ℕ) (r : Row
 
       -- its part is seen to be right without a call
       pub due_quick : (t : ℕ) → m < members T → t ≡ member_type T m → (x : Bool) → (x ≡ true → 0 ≡ part_form buffer r (type_as old (ty_of T t))) → x ≡ true → length buffer ≤ 65536
-          → (at end : ℕ) → ◌≡◌ {A = Due} (DueRow (at + r.len)) (DueRow end) → RowLaid T old rows buffer false (due_at o k) i at [] [] (due_at o (k + 1)) end false
+          → (at end : ℕ) → ◌≡◌ {A = Result ℕ ℕ} (Ok (at + r.len)) (Ok end) → RowLaid T old rows buffer false (due_at o k) i at [] [] (due_at o (k + 1)) end false
       due_quick t h et x p q s at end e =
           let z : at + r.len ≡ end = cc in
           subst (λ (y : ℕ). RowLaid T old rows buffer false (due_at o k) i at [] [] (due_at o (k + 1)) y false) z (due_right t 0 (member_row T m (members T) t refl h et) (p q) refl s at)
 
-  module _ (o least : ℕ) (f : Optional) (y : OptionalIn T o least r.member f) where
-    pub may_gone : f ≡ Nothing → Gone T (may_at T o least) (row_at rows i).member
+  module _ (o least : ℕ) (f : Option Wanted) (y : OptionalIn T o least r.member f) where
+    pub may_gone : f ≡ None → Gone T (may_at T o least) (row_at rows i).member
     may_gone q = rw (← er) (rw q at y)
 
-  module _ (o least t key : ℕ) (f : Optional) (w : OptionalIn T o least r.member f) (q : f ≡ Of t key) where
-    y : IsMay T o least r.member t key
+  module _ (o least : ℕ) (f : Option Wanted) (w : OptionalIn T o least r.member f) (x : Wanted) (q : f ≡ Some x) where
+    y : IsMay T o least r.member x.of x.tag
     y = rw q at w
 
     may_is : (judged : Bool) (form : ℕ) → form ≡ pick judged 0 (part_form buffer r (type_as old (member_ty T (trees T) r.member))) → form ≡ 0
-        → RowIs T old rows buffer judged (may_at T o least) i (may_at T o (key + 1)) (optional (tag T r.member) (form_of (member_ty T (trees T) r.member)) (part_of buffer r))
+        → RowIs T old rows buffer judged (may_at T o least) i (may_at T o (x.tag + 1)) (optional (tag T r.member) (form_of (member_ty T (trees T) r.member)) (part_of buffer r))
     unfolding may_reached may_member given state_of
     may_is judged form ef z = record {
       is = piece_is T rows buffer i r er (may_at T o least) _ y.reached refl;
@@ -235,15 +233,15 @@ module _ (T : List ℕ) (old : Bool) (rows buffer : List ℕ) (i : ℕ) (r : Row
     }
 
     -- the bytes of its piece
-    may_bytes : (shapes : List ℕ) → shapes ≡ shapes_of T → (g : ℕ) → g ≡ form_in shapes t
-        → optional_field key g (part_of buffer r) ≡ piece_bytes (optional (tag T r.member) (form_of (member_ty T (trees T) r.member)) (part_of buffer r))
+    may_bytes : (shapes : List ℕ) → shapes ≡ shapes_of T → (g : ℕ) → g ≡ form_in shapes x.of
+        → optional_field x.tag g (part_of buffer r) ≡ piece_bytes (optional (tag T r.member) (form_of (member_ty T (trees T) r.member)) (part_of buffer r))
     may_bytes shapes eo g eg =
-        let b : g ≡ form_number (form_of (member_ty T (trees T) r.member)) = eg ∙ form_row T t shapes eo ∙ ap (λ (x : Ty). form_number (form_of x)) y.typed in
+        let b : g ≡ form_number (form_of (member_ty T (trees T) r.member)) = eg ∙ form_row T x.of shapes eo ∙ ap (λ (w : Ty). form_number (form_of w)) y.typed in
         rw (y.tagged, b) (sym (optional_bytes _ _ _))
 
     -- its part was judged before
-    pub may_put : (shapes : List ℕ) → shapes ≡ shapes_of T → (g : ℕ) → g ≡ form_in shapes t → (at : ℕ) (out last : List ℕ) (end : ℕ) → end ≤ at + 66000
-        → Puts at (optional_field key g (part_of buffer r)) out last end → RowLaid T old rows buffer true (may_at T o least) i at out last (may_at T o (key + 1)) end true
+    pub may_put : (shapes : List ℕ) → shapes ≡ shapes_of T → (g : ℕ) → g ≡ form_in shapes x.of → (at : ℕ) (out last : List ℕ) (end : ℕ) → end ≤ at + 66000
+        → Puts at (optional_field x.tag g (part_of buffer r)) out last end → RowLaid T old rows buffer true (may_at T o least) i at out last (may_at T o (x.tag + 1)) end true
     unfolding is_optional
     may_put shapes eo g eg at out last end few p = record {
       piece = optional (tag T r.member) (form_of (member_ty T (trees T) r.member)) (part_of buffer r);
@@ -253,29 +251,29 @@ module _ (T : List ℕ) (old : Bool) (rows buffer : List ℕ) (i : ℕ) (r : Row
       few = few;
     }
 
-    module _ (form : ℕ) (ef : form ≡ part_form buffer r (type_as old (ty_of T t))) where
+    module _ (form : ℕ) (ef : form ≡ part_form buffer r (type_as old (ty_of T x.of))) where
       may_form : form ≡ part_form buffer r (type_as old (member_ty T (trees T) r.member))
-      may_form = ef ∙ ap (λ (x : Ty). part_form buffer r (type_as old x)) y.typed
+      may_form = ef ∙ ap (λ (w : Ty). part_form buffer r (type_as old w)) y.typed
 
       pub may_wrong : (form ≡ 0 → ⊥) → judged_row T old rows buffer (state_of T (may_at T o least)) i ≡ stop form i
       unfolding may_reached may_member
       may_wrong n = row_refused T old rows buffer i r er (state_of T (may_at T o least)) _ y.reached false form may_form n
 
-      pub may_right : form ≡ 0 → length buffer ≤ 65536 → (shapes : List ℕ) → shapes ≡ shapes_of T → (g : ℕ) → g ≡ form_in shapes t
-          → (at h k : ℕ) → h ≡ length (header_field key 0) → h ≤ 6 → k ≡ length (length_field g r.len) → k ≤ 5
-          → RowLaid T old rows buffer false (may_at T o least) i at [] [] (may_at T o (key + 1)) (at + h + k + r.len) true
+      pub may_right : form ≡ 0 → length buffer ≤ 65536 → (shapes : List ℕ) → shapes ≡ shapes_of T → (g : ℕ) → g ≡ form_in shapes x.of
+          → (at h k : ℕ) → h ≡ length (header_field x.tag 0) → h ≤ 6 → k ≡ length (length_field g r.len) → k ≤ 5
+          → RowLaid T old rows buffer false (may_at T o least) i at [] [] (may_at T o (x.tag + 1)) (at + h + k + r.len) true
       unfolding is_optional optional_field
       may_right z s shapes eo g eg at h k eh hh ek hk =
           let l = part_length buffer r _ form ef z in
           let e : length_field g r.len ≡ length_field g (length (part_of buffer r)) = ap (length_field g) l.0 in
-          let a = length-append (header_field key (form_bits g)) (length_field g (length (part_of buffer r))) in
-          let b = length-append (header_field key (form_bits g) ++ length_field g (length (part_of buffer r))) (part_of buffer r) in
+          let a = length-append (header_field x.tag (form_bits g)) (length_field g (length (part_of buffer r))) in
+          let b = length-append (header_field x.tag (form_bits g) ++ length_field g (length (part_of buffer r))) (part_of buffer r) in
           record {
             piece = optional (tag T r.member) (form_of (member_ty T (trees T) r.member)) (part_of buffer r);
             gives = may_is false form may_form z;
             puts = puts_is at _ _ [] [] (at + h + k + r.len) (may_bytes shapes eo g eg)
-                (puts_measured at (optional_field key g (part_of buffer r)) (at + h + k + r.len)
-                (omega (arith, eh, ek, header_length key (form_bits g), ap length e, l.0, a, b)));
+                (puts_measured at (optional_field x.tag g (part_of buffer r)) (at + h + k + r.len)
+                (omega (arith, eh, ek, header_length x.tag (form_bits g), ap length e, l.0, a, b)));
             flag = refl;
             few = omega (arith, l.1);
           }

@@ -19,7 +19,7 @@ use Rattle.encoding.specs.Value.{value, exact}
 use Rattle.encoding.specs.Old.{type_as}
 use Rattle.encoding.specs.Message.{Row}
 use Rattle.encoding.specs.Write.{out, stop, Reached, State, reach, part_of, judge, row_at}
-use Rattle.wire.specs.declared.Step.TheVariants.{Took}
+use Rattle.std.specs.Prelude.{Ok}
 use Rattle.wire.specs.Steps.{step_of}
 use Rattle.value.proofs.CycleLaws.{exact_took}
 use Rattle.pieces.specs.Judged.{part_form, state_from, judged_row, Accepted, Gives}
@@ -48,12 +48,12 @@ module _ (buffer : List ℕ) (r : Row) (w : Ty) (f : Bool) (ef : f ≡ leb (r.pl
     part_wrong g = rw (← ef, q, exact_is, g)
 
   -- a value that was read, of n bytes
-  module _ (q : f ≡ true) (n : ℕ) (p : 0 < n → Took n ≡ step_of (value w (take (r.place + r.len - r.place) (drop r.place buffer)))) (h : 0 < n) where
+  module _ (q : f ≡ true) (n : ℕ) (p : 0 < n → Ok n ≡ step_of (value w (take (r.place + r.len - r.place) (drop r.place buffer)))) (h : 0 < n) where
     long : length (take (r.place + r.len - r.place) (drop r.place buffer)) ≡ r.len
     long = omega (arith, length-take (r.place + r.len - r.place) (drop r.place buffer), length-drop r.place buffer, part_inside (length buffer) r.place r.len f ef q)
 
     tested : eqb n r.len ≡ exact w (take (r.place + r.len - r.place) (drop r.place buffer))
-    tested = ap (eqb n) (sym long) ∙ exact_took w _ (Took n) (p h) n refl
+    tested = ap (eqb n) (sym long) ∙ exact_took w _ (Ok n) (p h) n refl
 
     pub quick_right : eqb n r.len ≡ true → 0 ≡ part_form buffer r w
     quick_right e = part_right q (eqb n r.len) tested e

@@ -19,8 +19,8 @@ use Rattle.std.proofs.Math.Option.{none, some}
 use Rattle.encoding.specs.Result.{pick}
 use Rattle.encoding.specs.Table.{field, mark, tag, range, Member, trees, ty_of, member_ty, requireds_in, optional_members, base, upward, chain}
 use Rattle.encoding.specs.Write.{State, Reached, optional_row, reach}
-use Rattle.pieces.specs.declared.Optional.{Optional}
-use Rattle.pieces.specs.declared.Optional.TheVariants.{Of, Nothing}
+use Rattle.std.specs.Prelude.{Option, Some, None}
+use Rattle.pieces.specs.declared.Wanted.{Wanted}
 
 -- among the k member rows from a on
 unfoldable pub required_in : List ℕ → ℕ → ℕ → ℕ
@@ -83,6 +83,6 @@ pub record IsMay (T : List ℕ) (o least m t key : ℕ) : Type 0 where
   pub tagged : key ≡ tag T m
   pub small : key < 4294967296
 
-abbrev pub OptionalIn : List ℕ → ℕ → ℕ → ℕ → Optional → Type 0
-OptionalIn T o least m (Of t key) = IsMay T o least m t key
-OptionalIn T o least m Nothing = Gone T (may_at T o least) m
+abbrev pub OptionalIn : List ℕ → ℕ → ℕ → ℕ → Option Wanted → Type 0
+OptionalIn T o least m (Some x) = IsMay T o least m x.of x.tag
+OptionalIn T o least m None = Gone T (may_at T o least) m

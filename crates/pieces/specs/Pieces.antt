@@ -11,15 +11,14 @@
 --   DuePut, MayPut what the code answers of a row as the required member that is due, and as an optional one
 use Rattle.std.specs.Prelude.{◌≡◌, Bool, true, false, List, [], ◌∷◌, ◌++◌, ℕ, zero, suc, ◌+◌, ◌*◌, ◌≤◌, ◌<◌, length, eqb, ltb}
 use Rattle.std.proofs.Math.Option.{Option, none, some}
+use Rattle.std.specs.Prelude.{Result, Ok, Err, Some, None}
+use Rattle.std.specs.Prelude as answer
 use Rattle.encoding.specs.Result.{pick}
 use Rattle.encoding.specs.Number.{le_bytes, size_bytes}
 use Rattle.encoding.specs.Optional.{Piece, piece_bytes, is_optional}
 use Rattle.encoding.specs.Write.{out, stop, State, Reached, reach, given, part_of, row_at}
 use Rattle.wire.specs.Put.{form_bits}
-use Rattle.pieces.specs.declared.Due.{Due}
-use Rattle.pieces.specs.declared.Due.TheVariants.{Row as DueRow, Wrong as DueWrong}
-use Rattle.pieces.specs.declared.May.{May}
-use Rattle.pieces.specs.declared.May.TheVariants.{Row as MayRow, Stop, Wrong as MayWrong}
+use Rattle.pieces.specs.declared.Placed.{Placed}
 use Rattle.pieces.specs.Cursors.{Cursor, due_at, may_at, state_of, Gone}
 use Rattle.pieces.specs.Judged.{judged_row, Gives}
 use Rattle.pieces.specs.Puts.{Puts}
@@ -69,11 +68,11 @@ pub record RowLaid (T : List ℕ) (old : Bool) (rows buffer : List ℕ) (judged 
   pub flag : optional ≡ is_optional piece
   pub few : end ≤ at + 66000
 
-abbrev pub DuePut : List ℕ → Bool → List ℕ → List ℕ → Bool → ℕ → ℕ → ℕ → ℕ → List ℕ → List ℕ → Due → Type 0
-DuePut T old rows buffer judged o k i at lent last (DueRow end) = RowLaid T old rows buffer judged (due_at o k) i at lent last (due_at o (k + 1)) end false
-DuePut T old rows buffer judged o k i at lent last (DueWrong n) = (judged_row T old rows buffer (state_of T (due_at o k)) i ≡ stop n i) × (0 < n)
+abbrev pub DuePut : List ℕ → Bool → List ℕ → List ℕ → Bool → ℕ → ℕ → ℕ → ℕ → List ℕ → List ℕ → Result ℕ ℕ → Type 0
+DuePut T old rows buffer judged o k i at lent last (Ok end) = RowLaid T old rows buffer judged (due_at o k) i at lent last (due_at o (k + 1)) end false
+DuePut T old rows buffer judged o k i at lent last (Err n) = (judged_row T old rows buffer (state_of T (due_at o k)) i ≡ stop n i) × (0 < n)
 
-abbrev pub MayPut : List ℕ → Bool → List ℕ → List ℕ → Bool → ℕ → ℕ → ℕ → ℕ → List ℕ → List ℕ → May → Type 0
-MayPut T old rows buffer judged o least i at lent last (MayRow end key) = RowLaid T old rows buffer judged (may_at T o least) i at lent last (may_at T o (key + 1)) end true × (key < 4294967296)
-MayPut T old rows buffer judged o least i at lent last Stop = Gone T (may_at T o least) (row_at rows i).member × (last ≡ lent)
-MayPut T old rows buffer judged o least i at lent last (MayWrong n) = (judged_row T old rows buffer (state_of T (may_at T o least)) i ≡ stop n i) × (0 < n)
+abbrev pub MayPut : List ℕ → Bool → List ℕ → List ℕ → Bool → ℕ → ℕ → ℕ → ℕ → List ℕ → List ℕ → Result (answer.Option Placed) ℕ → Type 0
+MayPut T old rows buffer judged o least i at lent last (Ok (Some x)) = RowLaid T old rows buffer judged (may_at T o least) i at lent last (may_at T o (x.tag + 1)) x.end true × (x.tag < 4294967296)
+MayPut T old rows buffer judged o least i at lent last (Ok None) = Gone T (may_at T o least) (row_at rows i).member × (last ≡ lent)
+MayPut T old rows buffer judged o least i at lent last (Err n) = (judged_row T old rows buffer (state_of T (may_at T o least)) i ≡ stop n i) × (0 < n)

@@ -1,16 +1,15 @@
 // Finds the member of a row, checks the row's bytes and measures its piece. `old` says that the encoding is 1.0, which has other enums and proxies.
 // `begin` is where the table's type rows begin, `first` where its member rows begin, `all` how many there are.
-ghost use Rattle.std.specs.Prelude.{◌≡◌, true, false, [], ℕ, ◌+◌, ◌*◌, ◌≤◌, ◌<◌, length};
+ghost use Rattle.std.specs.Prelude.{◌≡◌, Ok, true, false, [], ℕ, ◌+◌, ◌*◌, ◌≤◌, ◌<◌, length};
 ghost use Rattle.encoding.specs.Table.{types_at, members_at, members, member_type, member_ty, field, trees, ty_of};
 ghost use Rattle.encoding.specs.Old.{type_as};
 ghost use Rattle.shapes.specs.Shapes.{shapes_of};
 ghost use Rattle.wire.specs.Row.{as_row};
-ghost use Rattle.pieces.specs.declared.Due.TheVariants.{Row};
 ghost use Rattle.pieces.specs.Cursors.{due_at, IsDue, OptionalIn};
 ghost use Rattle.pieces.specs.Judged.{part_form};
 ghost use Rattle.pieces.specs.Pieces.{header_field, length_field, RowLaid, DuePut, MayPut};
 
-use crate::{Due, May, Optional};
+use crate::{Placed, Wanted};
 use wire::rows::RowNumbers;
 
 // The row of a member's type, `of` if there is such a member; else 256, a row without a type tree.
@@ -31,25 +30,28 @@ pub fn optional_at(
     b: usize,
     least: usize,
     m: usize,
-) -> Optional
+) -> Option<Wanted>
     requires first_value { (first ≡ members_at table.now) × (first < 1048576) × (all ≡ members table.now) }
     requires a_value { (a ≡ field table.now o 0) × (b ≡ field table.now o 1) × (a < 65536) × (b < 65536) }
     ensures { OptionalIn table.now o least m result }
 {
     if m < a {
-        return Optional::Nothing;
+        return None;
     }
     if a + b <= m {
-        return Optional::Nothing;
+        return None;
     }
     let member = table::member_row_flat(table, first, m);
     if member.mark == 0 {
-        return Optional::Nothing;
+        return None;
     }
     if member.tag < least {
-        return Optional::Nothing;
+        return None;
     }
-    Optional::Of(type_of(table, all, m, member.of), member.tag)
+    Some(Wanted {
+        of: type_of(table, all, m, member.of),
+        tag: member.tag,
+    })
 }
 
 // 20 if a row's part lies outside the buffer, 21 if it is not exactly a value of type row t, else 0.
@@ -129,7 +131,7 @@ fn length_len(form: usize, n: usize) -> usize
     4
 }
 
-// Checks row i, 20 then 21, as the required member m that is due of owner o, and measures it. `of` is the row of the member's type.
+// Checks row i, 20 then 21, as the required member m that is due of owner o, and measures it: the end of its bytes, or the number of its refusal. `of` is the row of the member's type.
 pub fn due(
     table: &[u8],
     begin: usize,
@@ -144,7 +146,7 @@ pub fn due(
     rows: &[u8],
     i: usize,
     buffer: &[u8],
-) -> Due
+) -> Result<usize, usize>
     requires begin_value { begin ≡ types_at table.now }
     requires shapes_value { shapes.now ≡ shapes_of table.now }
     requires all_value { (all ≡ members table.now) × (of ≡ member_type table.now m) × IsDue table.now o k m }
@@ -153,14 +155,14 @@ pub fn due(
 {
     let row = wire::rows::row_in(rows, i);
     if row.member != m {
-        return Due::Wrong(20);
+        return Err(20);
     }
     let t = type_of(table, all, m, of);
     let fault = part_form(table, begin, shapes, t, old, row, buffer);
     if fault != 0 {
-        return Due::Wrong(fault);
+        return Err(fault);
     }
-    Due::Row(at + row.len)
+    Ok(at + row.len)
 }
 
 // Measures row i as the required member m that is due of owner o, if no call is needed to see that it is right; any other row is told to be wrong.
@@ -177,24 +179,24 @@ pub fn quick_due(
     rows: &[u8],
     i: usize,
     buffer: &[u8],
-) -> Due
+) -> Result<usize, usize>
     requires begin_value { begin ≡ types_at table.now }
     requires shapes_value { shapes.now ≡ shapes_of table.now }
     requires m_bound { (m < members table.now) × (of ≡ member_type table.now m) × IsDue table.now o k m }
     requires at_bound { (at ≤ 1152921504606846976) × (12 * i + 12 ≤ length rows.now) × (length buffer.now ≤ 65536) }
-    ensures { (end : ℕ) → result ≡ Row end → RowLaid table.now old rows.now buffer.now false (due_at o k) i at [] [] (due_at o (k + 1)) end false }
+    ensures { (end : ℕ) → result ≡ Ok end → RowLaid table.now old rows.now buffer.now false (due_at o k) i at [] [] (due_at o (k + 1)) end false }
 {
     let row = wire::rows::row_in(rows, i);
     if row.member != m {
-        return Due::Wrong(20);
+        return Err(20);
     }
     if is_right(table, begin, shapes, of, old, row, buffer) {
-        return Due::Row(at + row.len);
+        return Ok(at + row.len);
     }
-    Due::Wrong(21)
+    Err(21)
 }
 
-// Checks row i, 20 then 21, as an optional member of owner o, and measures it.
+// Checks row i, 20 then 21, as an optional member of owner o, and measures it; none where it is no row of this owner. Or the number of its refusal.
 pub fn may(
     table: &[u8],
     begin: usize,
@@ -210,7 +212,7 @@ pub fn may(
     rows: &[u8],
     i: usize,
     buffer: &[u8],
-) -> May
+) -> Result<Option<Placed>, usize>
     requires begin_value { begin ≡ types_at table.now }
     requires shapes_value { shapes.now ≡ shapes_of table.now }
     requires first_value { (first ≡ members_at table.now) × (first < 1048576) × (all ≡ members table.now) }
@@ -221,15 +223,18 @@ pub fn may(
     let row = wire::rows::row_in(rows, i);
     let f = optional_at(table, first, all, o, a, b, least, row.member);
     match f {
-        Optional::Of(t, tag) => {
-            let fault = part_form(table, begin, shapes, t, old, row, buffer);
+        Some(wanted) => {
+            let fault = part_form(table, begin, shapes, wanted.of, old, row, buffer);
             if fault != 0 {
-                return May::Wrong(fault);
+                return Err(fault);
             }
-            let h = header_len(tag);
-            let l = length_len(shapes::form(shapes, t), row.len);
-            May::Row(at + h + l + row.len, tag)
+            let h = header_len(wanted.tag);
+            let l = length_len(shapes::form(shapes, wanted.of), row.len);
+            Ok(Some(Placed {
+                end: at + h + l + row.len,
+                tag: wanted.tag,
+            }))
         }
-        Optional::Nothing => May::Stop,
+        None => Ok(None),
     }
 }

@@ -6,24 +6,16 @@ pub mod judge;
 pub mod piece;
 pub mod rows;
 
-// A row as the required member that is due: the end of its bytes; or the number of its refusal.
+// An optional member of an owner: the row of its type, and its tag.
 #[derive(Clone, Copy)]
-pub enum Due {
-    Row(usize),
-    Wrong(usize),
+pub struct Wanted {
+    pub of: usize,
+    pub tag: usize,
 }
 
-// A row as an optional member of an owner: the end of its bytes and its tag; or it is no row of this owner; or the number of its refusal.
+// A row as an optional member of an owner: the end of its bytes, and its tag.
 #[derive(Clone, Copy)]
-pub enum May {
-    Row(usize, usize),
-    Stop,
-    Wrong(usize),
-}
-
-// An optional member of an owner: the row of its type and its tag; or there is none.
-#[derive(Clone, Copy)]
-pub enum Optional {
-    Of(usize, usize),
-    Nothing,
+pub struct Placed {
+    pub end: usize,
+    pub tag: usize,
 }

@@ -8,7 +8,7 @@ ghost use Rattle.wire.specs.Row.{as_row};
 ghost use Rattle.pieces.specs.Puts.{Puts};
 ghost use Rattle.pieces.specs.Pieces.{header_field, length_field, optional_field, MayPut};
 
-use crate::{May, Optional, judge, rows};
+use crate::{Placed, judge, rows};
 use wire::rows::RowNumbers;
 
 // Puts a long part of the buffer and returns its end: the bytes up to a place that is a multiple of 64 by themselves, then the others.
@@ -172,7 +172,7 @@ pub fn put_optional(
     put_content(out, b, row.place, row.len, buffer)
 }
 
-// Puts row i as an optional member of owner o, if it is one.
+// Puts row i as an optional member of owner o; none where it is no row of this owner. The number of a refusal is never given.
 pub fn put_may(
     table: &[u8],
     shapes: &[u8; 256],
@@ -188,7 +188,7 @@ pub fn put_may(
     rows: &[u8],
     i: usize,
     buffer: &[u8],
-) -> May
+) -> Result<Option<Placed>, usize>
     requires shapes_value { shapes.now ≡ shapes_of table.now }
     requires first_value { (first ≡ members_at table.now) × (first < 1048576) × (all ≡ members table.now) }
     requires a_value { (a ≡ field table.now o 0) × (b ≡ field table.now o 1) × (a < 65536) × (b < 65536) }
@@ -198,13 +198,16 @@ pub fn put_may(
     let row = wire::rows::row_in(rows, i);
     let f = judge::optional_at(table, first, all, o, a, b, least, row.member);
     match f {
-        Optional::Of(t, tag) => {
-            let form = shapes::form(shapes, t);
-            let c = put_header(out, at, tag, wire::form_bits(form));
+        Some(wanted) => {
+            let form = shapes::form(shapes, wanted.of);
+            let c = put_header(out, at, wanted.tag, wire::form_bits(form));
             let d = put_length(out, c, form, rows::part_len(row.place, row.len, buffer));
-            let e = put_value(out, d, row.place, row.len, buffer);
-            May::Row(e, tag)
+            let end = put_value(out, d, row.place, row.len, buffer);
+            Ok(Some(Placed {
+                end,
+                tag: wanted.tag,
+            }))
         }
-        Optional::Nothing => May::Stop,
+        None => Ok(None),
     }
 }

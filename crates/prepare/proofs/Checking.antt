@@ -1,17 +1,17 @@
 -- What each check finds, in the shape in which the code has it. Assumes nothing.
 --
---   bytes_known, bytes_none                           a list whose elements are below 256 is one of bytes
+--   bytes_known                                       a list whose elements are below 256 is one of bytes
 --   top_beyond, top_kind                              2
 --   format_one, format_other, format_two              23
 --   old_other, old_two                                26
---   early_top, early_format, early_old, early_long, early_none   2, 23, 26 and 3 in turn
---   broken_checks, early_checks, ready_checks         what `checks` gives; fine_table the table breaks no rule
+--   early_top, early_format, early_old, early_long, early_none   2, 23, 26 and 3 in turn, where the table breaks no rule
+--   broken_checks                                     what the table's rules refuse; fine_table the table breaks no rule
 use mathlib.Core.Path.{◌≡◌, refl, sym, ap, ◌∙◌}
 use mathlib.Core.Bool.{Bool, true, false, ◌&&◌, not}
 use mathlib.Core.List.{List, [], ◌∷◌}
-use Prim.Native.Nat.{ℕ, zero, suc, ◌≤◌, ◌<◌}
+use Prim.Native.Nat.{ℕ, suc, ◌≤◌, ◌<◌}
 use native.Mathlib.Omega.{arith}
-use lib.ListN.{length, get_or}
+use lib.ListN.{get_or}
 use lib.Dec.{eqb, ltb}
 use borrow.Author.Tests.{le-leb, lt-leb, le-ltb, lt-ltb, eq-eqb, ne_eqb}
 use Rattle.encoding.specs.Result.{first_of}
@@ -21,8 +21,8 @@ use Rattle.encoding.specs.Old.{no_old}
 use Rattle.encoding.specs.Message.{no_top, limit}
 use Rattle.encoding.specs.Write.{no_format}
 use Rattle.rules.specs.Checks.{finding_of}
-use Rattle.rules.specs.declared.Finding.{Finding}
-use Rattle.rules.specs.declared.Finding.TheVariants.{Fine, Broken}
+use Rattle.std.specs.Prelude.{Result, Ok, Err}
+use Rattle.wire.specs.declared.Refusal.{Refusal}
 use Rattle.rules.proofs.Judging.{is_fine}
 use Rattle.prepare.specs.declared.Prepared.TheVariants.{Ready, Refused}
 use Rattle.prepare.specs.Preparing.{before, checked, checks}
@@ -30,10 +30,6 @@ use Rattle.prepare.specs.Preparing.{before, checked, checks}
 pub bytes_known : (s : List ℕ) → ((i : ℕ) → get_or s i 0 < 256) → Bytes s
 bytes_known [] h = tt
 bytes_known (x ∷ s) h = (h 0, bytes_known s (λ i. h (suc i)))
-
-pub bytes_none : (s : List ℕ) → length s ≤ 0 → Bytes s
-bytes_none [] h = tt
-bytes_none (x ∷ s) h = absurd (omega arith)
 
 -- ---- 2, 23, 26, 3
 
@@ -70,61 +66,48 @@ module _ (T : List ℕ) (top format : ℕ) where
   pub old_two : format ≡ 2 → (b : Bool) → b ≡ no_old T top → b ≡ eqb format 2 && no_old T top
   old_two e b q = rw (eq-eqb format 2 e) q
 
-module _ (T : List ℕ) (top format len : ℕ) (a : Bool) (ea : a ≡ no_top T top) where
-  pub early_top : a ≡ true → 2 ≡ before T top format len
-  unfolding before first_of
-  early_top q = rw (sym ea ∙ q)
+module _ (T : List ℕ) (top format len : ℕ) (table : faults T ≡ fine) (a : Bool) (ea : a ≡ no_top T top) where
+  passed : checks T top format len ≡ checked fine (before T top format len)
+  unfolding checks
+  passed = rw table
+
+  pub early_top : a ≡ true → Refused 2 0 ≡ checks T top format len
+  unfolding checked before first_of
+  early_top q = sym (passed ∙ rw (sym ea ∙ q))
 
   module _ (qa : a ≡ false) (k : ℕ) (ek : k ≡ kind T top) (b : Bool) (eb : b ≡ no_format k format) where
     -- what 23 judges
     format_is : no_format (kind T top) format ≡ b
     format_is = sym (eb ∙ ap (λ (x : ℕ). no_format x format) ek)
 
-    pub early_format : b ≡ true → 23 ≡ before T top format len
-    unfolding before first_of
-    early_format q = rw (sym ea ∙ qa, format_is ∙ q)
+    pub early_format : b ≡ true → Refused 23 0 ≡ checks T top format len
+    unfolding checked before first_of
+    early_format q = sym (passed ∙ rw (sym ea ∙ qa, format_is ∙ q))
 
     module _ (qb : b ≡ false) (c : Bool) (ec : c ≡ eqb format 2 && no_old T top) where
-      pub early_old : c ≡ true → 26 ≡ before T top format len
-      unfolding before first_of
-      early_old q = rw (sym ea ∙ qa, format_is ∙ qb, sym ec ∙ q)
+      pub early_old : c ≡ true → Refused 26 0 ≡ checks T top format len
+      unfolding checked before first_of
+      early_old q = sym (passed ∙ rw (sym ea ∙ qa, format_is ∙ qb, sym ec ∙ q))
 
       module _ (qc : c ≡ false) where
-        pub early_long : limit < len → 3 ≡ before T top format len
-        unfolding before first_of
-        early_long h = rw (sym ea ∙ qa, format_is ∙ qb, sym ec ∙ qc, lt-ltb limit len h)
+        pub early_long : limit < len → Refused 3 0 ≡ checks T top format len
+        unfolding checked before first_of
+        early_long h = sym (passed ∙ rw (sym ea ∙ qa, format_is ∙ qb, sym ec ∙ qc, lt-ltb limit len h))
 
-        pub early_none : len ≤ limit → 0 ≡ before T top format len
-        unfolding before first_of
-        early_none h = rw (sym ea ∙ qa, format_is ∙ qb, sym ec ∙ qc, le-ltb limit len h)
+        pub early_none : len ≤ limit → Ready ≡ checks T top format len
+        unfolding checked before first_of
+        early_none h = sym (passed ∙ rw (sym ea ∙ qa, format_is ∙ qb, sym ec ∙ qc, le-ltb limit len h))
 
--- ---- all checks
+-- ---- the table's rules
 
-module _ (T : List ℕ) (top format len : ℕ) (v : Finding) (ev : v ≡ finding_of (faults T)) where
-  pub broken_checks : (c p : ℕ) → v ≡ Broken c p → Refused c p ≡ checks T top format len
+module _ (T : List ℕ) (top format len : ℕ) (v : Result Unit Refusal) (ev : v ≡ finding_of (faults T)) where
+  pub broken_checks : (x : Refusal) → v ≡ Err x → Refused x.number x.place ≡ checks T top format len
   unfolding finding_of checks checked rule_number
-  broken_checks c p q = go (faults T) (sym q ∙ ev)
+  broken_checks x q = go (faults T) (sym q ∙ ev)
     where
-      go : (f : Fault) → Broken c p ≡ finding_of f → Refused c p ≡ checked f (before T top format len)
+      go : (f : Fault) → Err x ≡ finding_of f → Refused x.number x.place ≡ checked f (before T top format len)
       go fine h = let z : ◌≡◌ {A = ℕ} 0 1 = cc in absurd (omega arith)
-      go (fault d x) h = let ed : c ≡ d = cc in let ex : p ≡ x = cc in rw (ed, ex)
+      go (fault d p) h = let z : x ≡ record { number = d; place = p } = cc in rw z refl
 
-  pub fine_table : v ≡ Fine → faults T ≡ fine
-  fine_table q = is_fine (faults T) (sym ev ∙ q)
-
-module _ (T : List ℕ) (top format len : ℕ) (f : faults T ≡ fine) (n : ℕ) (en : n ≡ before T top format len) where
-  passed : checks T top format len ≡ checked fine n
-  unfolding checks
-  passed = rw (f, ← en)
-
-  pub early_checks : (n ≡ 0 → ⊥) → Refused n 0 ≡ checks T top format len
-  unfolding checked
-  early_checks h = go n h ∙ sym passed
-    where
-      go : (k : ℕ) → (k ≡ 0 → ⊥) → Refused k 0 ≡ checked fine k
-      go zero h = absurd (h refl)
-      go (suc k) h = refl
-
-  pub ready_checks : n ≡ 0 → Ready ≡ checks T top format len
-  unfolding checked
-  ready_checks e = sym (passed ∙ ap (checked fine) e)
+  pub fine_table : (u : Unit {0}) → v ≡ Ok u → faults T ≡ fine
+  fine_table u q = is_fine (faults T) u (sym ev ∙ q)

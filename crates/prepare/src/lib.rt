@@ -7,9 +7,7 @@ ghost use Rattle.encoding.specs.Table.{types_at, kind, fine, faults};
 ghost use Rattle.encoding.specs.Old.{no_old};
 ghost use Rattle.encoding.specs.Message.{no_top};
 ghost use Rattle.encoding.specs.Write.{no_format};
-ghost use Rattle.prepare.specs.Preparing.{before, checks};
-
-use rules::Finding;
+ghost use Rattle.prepare.specs.Preparing.{checks};
 
 // Nothing is refused before the message; or a refusal's number and place.
 #[derive(Clone, Copy)]
@@ -22,9 +20,6 @@ pub enum Prepared {
 pub fn byte_count(s: &[u8]) -> usize
     ensures { (result ≡ length s.now) × Bytes s.now }
 {
-    if 0 < s.len() {
-        wire::wide(s[0]);
-    }
     s.len()
 }
 
@@ -63,36 +58,24 @@ fn no_old(table: &[u8], begin: usize, top: usize, format: usize) -> bool
     old::no_old(table, begin, top)
 }
 
-// The first of 2, 23, 26 and 3 that applies to a message or buffer of `len` bytes; 0 if none does.
-fn early(table: &[u8], begin: usize, top: usize, format: usize, len: usize) -> usize
-    requires { begin ≡ types_at table.now }
-    ensures { result ≡ before table.now top format len }
-{
-    let k = table::kind(table, begin, top);
-    if no_top(table, top, k) {
-        return 2;
-    }
-    if no_format(k, format) {
-        return 23;
-    }
-    if no_old(table, begin, top, format) {
-        return 26;
-    }
-    if 65536 < len {
-        return 3;
-    }
-    0
-}
-
-// What is checked after the rules of a table that breaks none.
+// What is checked after the rules of a table that breaks none: the first of 2, 23, 26 and 3 that applies to a message or buffer of `len` bytes.
 pub fn after_rules(table: &[u8], begin: usize, top: usize, format: usize, len: usize) -> Prepared
     requires begin_value { begin ≡ types_at table.now }
     requires table_value { faults table.now ≡ fine }
     ensures { result ≡ checks table.now top format len }
 {
-    let n = early(table, begin, top, format, len);
-    if n != 0 {
-        return Prepared::Refused(n, 0);
+    let k = table::kind(table, begin, top);
+    if no_top(table, top, k) {
+        return Prepared::Refused(2, 0);
+    }
+    if no_format(k, format) {
+        return Prepared::Refused(23, 0);
+    }
+    if no_old(table, begin, top, format) {
+        return Prepared::Refused(26, 0);
+    }
+    if 65536 < len {
+        return Prepared::Refused(3, 0);
     }
     Prepared::Ready
 }
@@ -102,9 +85,8 @@ pub fn after_rules(table: &[u8], begin: usize, top: usize, format: usize, len: u
 pub fn prepare(table: &[u8], top: usize, format: usize, len: usize) -> Prepared
     ensures { result ≡ checks table.now top format len }
 {
-    let v = rules::check(table);
-    match v {
-        Finding::Broken(c, p) => Prepared::Refused(c, p),
-        Finding::Fine => after_rules(table, table::types_at(table), top, format, len),
+    match rules::check(table) {
+        Ok(()) => after_rules(table, table::types_at(table), top, format, len),
+        Err(refusal) => Prepared::Refused(refusal.number, refusal.place),
     }
 }

@@ -27,12 +27,11 @@ use Rattle.encoding.proofs.NumberLaws.{held_byte, held_bool, held_size, held_str
 use Rattle.encoding.specs.Table.{at}
 use Rattle.encoding.proofs.ValueLaws.{held_text, held_identity, held_endpoint}
 use Rattle.encoding.specs.Proxy.{identity_form, identity, facet_form, text, facets, mode_form, endpoint, endpoints, versions, reference, proxy}
-use Rattle.wire.specs.declared.Step.{Step}
-use Rattle.wire.specs.declared.Step.TheVariants.{Took, Fault}
-use Rattle.wire.specs.declared.Sized.{Sized}
-use Rattle.wire.specs.declared.Sized.TheVariants.{Is, Isnt}
-use Rattle.wire.specs.Steps.{step_of, sized_of, bytes_of}
-use Rattle.wire.specs.StepLaws.{rest_is, sized_is, sized_isnt, bytes_is, bytes_isnt, sized_held, rest_took, rest_bad, then_none, then_took, then_bad, with_none, with_took, with_bad, with_ends}
+use Rattle.std.specs.Prelude.{Result, Ok, Err}
+use Rattle.wire.specs.declared.Counted.{Counted}
+use Rattle.wire.specs.declared.Refusal.{Refusal}
+use Rattle.wire.specs.Steps.{step_of, sized_of, bytes_of, refused, counted, behind, later}
+use Rattle.wire.specs.StepLaws.{rest_is, sized_is, sized_isnt, bytes_is, bytes_isnt, sized_held, rest_later, then_none, then_later, with_none, with_later, with_ends}
 use Rattle.proxy.specs.Parts.{named, addresses, addressed, secured, mode}
 
 -- ---- an identity
@@ -68,51 +67,51 @@ module _ (n c k : ℕ) where
   unfolding made judged identity_form
   form_nil h l = let z : n ≡ 0 = omega arith in rw (z, le-ltb 0 c l)
 
-module _ (s : List ℕ) (r : Sized) (e : r ≡ bytes_of (string s)) where
-  pub name_end : (n k : ℕ) → r ≡ Is n k → k ≤ length s
-  name_end n k q = held_took string held_string s (bytes_is (string s) n k (sym q ∙ e)).1
+module _ (s : List ℕ) (r : Result Counted Refusal) (e : r ≡ bytes_of (string s)) where
+  pub name_end : (x : Counted) → r ≡ Ok x → x.bytes ≤ length s
+  name_end x q = held_took string held_string s (bytes_is (string s) x (sym q ∙ e)).1
 
-  pub identity_none : (f p : ℕ) → r ≡ Isnt f p → Isnt f p ≡ sized_of (named s)
+  pub identity_none : (x : Refusal) → r ≡ Err x → Err x ≡ sized_of (named s)
   unfolding sized_of
-  identity_none f p q = ap sized_of (sym (one_bad s f p (bytes_isnt (string s) f p (sym q ∙ e))))
+  identity_none x q = ap sized_of (sym (one_bad s x.number x.place (bytes_isnt (string s) x (sym q ∙ e))))
 
-  module _ (n k : ℕ) (q : r ≡ Is n k) (y : Sized) (d : y ≡ bytes_of (string (take (length s - k) (drop k s)))) where
-    rest : y ≡ bytes_of (string (drop k s))
+  module _ (x : Counted) (q : r ≡ Ok x) (y : Result Counted Refusal) (d : y ≡ bytes_of (string (take (length s - x.bytes) (drop x.bytes s)))) where
+    rest : y ≡ bytes_of (string (drop x.bytes s))
     rest = rw rest_is at d
 
-    pub category_took : (c j : ℕ) → y ≡ Is c j → length s < 2 ^ 64 → Fits w64 (k + j)
-    category_took c j g b = record { fits = omega (arith, name_end n k q, held_took string held_string (drop k s) (bytes_is (string (drop k s)) c j (sym g ∙ rest)).1, length-drop k s) }
+    pub category_took : (z : Counted) → y ≡ Ok z → length s < 2 ^ 64 → Fits w64 (x.bytes + z.bytes)
+    category_took z g b = record { fits = omega (arith, name_end x q, held_took string held_string (drop x.bytes s) (bytes_is (string (drop x.bytes s)) z (sym g ∙ rest)).1, length-drop x.bytes s) }
 
-    pub category_bad : (f p : ℕ) → y ≡ Isnt f p → length s < 2 ^ 64 → Fits w64 (k + p)
-    category_bad f p g b =
-        record { fits = omega (arith, name_end n k q, held_refused string held_string (drop k s) (bytes_isnt (string (drop k s)) f p (sym g ∙ rest)), length-drop k s) }
+    pub category_bad : (z : Refusal) → y ≡ Err z → length s < 2 ^ 64 → x.bytes + z.place < 2 ^ 64
+    category_bad z g b =
+        omega (arith, name_end x q, held_refused string held_string (drop x.bytes s) (bytes_isnt (string (drop x.bytes s)) z (sym g ∙ rest)), length-drop x.bytes s)
 
-    pub identity_bad : (f p : ℕ) → y ≡ Isnt f p → Isnt f (k + p) ≡ sized_of (named s)
+    pub identity_bad : (z : Refusal) → y ≡ Err z → Err (behind x.bytes z) ≡ sized_of (named s)
     unfolding sized_of
-    identity_bad f p g = go (bytes_is (string s) n k (sym q ∙ e))
+    identity_bad z g = go (bytes_is (string s) x (sym q ∙ e))
       where
-        go : (b : List ℕ) × (string s ≡ ok b k) × (n ≡ length b) → Isnt f (k + p) ≡ sized_of (named s)
-        go x = ap sized_of (sym (two_bad s x.0 [] k 0 x.1 f p (bytes_isnt (string (drop k s)) f p (sym g ∙ rest))))
+        go : (b : List ℕ) × (string s ≡ ok b x.bytes) × (x.number ≡ length b) → Err (behind x.bytes z) ≡ sized_of (named s)
+        go w = ap sized_of (sym (two_bad s w.0 [] x.bytes 0 w.1 z.number z.place (bytes_isnt (string (drop x.bytes s)) z (sym g ∙ rest))))
 
-    module _ (c j : ℕ) (g : y ≡ Is c j) where
-      both_is : named s ≡ made (λ (l : ℕ × ℕ) _. l.0) (judged identity_form (ok (n, c) (k + j)))
-      both_is = go (bytes_is (string s) n k (sym q ∙ e)) (bytes_is (string (drop k s)) c j (sym g ∙ rest))
+    module _ (z : Counted) (g : y ≡ Ok z) where
+      both_is : named s ≡ made (λ (l : ℕ × ℕ) _. l.0) (judged identity_form (ok (x.number, z.number) (x.bytes + z.bytes)))
+      both_is = go (bytes_is (string s) x (sym q ∙ e)) (bytes_is (string (drop x.bytes s)) z (sym g ∙ rest))
         where
-          go : (a : List ℕ) × (string s ≡ ok a k) × (n ≡ length a) → (b : List ℕ) × (string (drop k s) ≡ ok b j) × (c ≡ length b)
-              → named s ≡ made (λ (l : ℕ × ℕ) _. l.0) (judged identity_form (ok (n, c) (k + j)))
-          go x z = rw (x.2, z.2) (two_is s x.0 z.0 k j x.1 z.1)
+          go : (a : List ℕ) × (string s ≡ ok a x.bytes) × (x.number ≡ length a) → (b : List ℕ) × (string (drop x.bytes s) ≡ ok b z.bytes) × (z.number ≡ length b)
+              → named s ≡ made (λ (l : ℕ × ℕ) _. l.0) (judged identity_form (ok (x.number, z.number) (x.bytes + z.bytes)))
+          go v w = rw (v.2, w.2) (two_is s v.0 w.0 x.bytes z.bytes v.1 w.1)
 
-      pub identity_is : 0 < n → Is n (k + j) ≡ sized_of (named s)
+      pub identity_is : (x.number ≡ 0 → ⊥) → counted x.number (x.bytes + z.bytes) ≡ sized_of (named s)
       unfolding sized_of
-      identity_is h = ap sized_of (sym (both_is ∙ form_named n c (k + j) h))
+      identity_is h = ap sized_of (sym (both_is ∙ form_named x.number z.number (x.bytes + z.bytes) (omega (arith, h))))
 
-      pub identity_less : n ≤ 0 → 0 < c → Isnt 10 0 ≡ sized_of (named s)
+      pub identity_less : x.number ≡ 0 → 0 < z.number → refused 10 0 ≡ sized_of (named s)
       unfolding sized_of
-      identity_less h l = ap sized_of (sym (both_is ∙ form_less n c (k + j) h l))
+      identity_less h l = ap sized_of (sym (both_is ∙ form_less x.number z.number (x.bytes + z.bytes) (omega arith) l))
 
-      pub identity_nil : n ≤ 0 → c ≤ 0 → Is n (k + j) ≡ sized_of (named s)
+      pub identity_nil : x.number ≡ 0 → z.number ≤ 0 → counted x.number (x.bytes + z.bytes) ≡ sized_of (named s)
       unfolding sized_of
-      identity_nil h l = ap sized_of (sym (both_is ∙ form_nil n c (k + j) h l))
+      identity_nil h l = ap sized_of (sym (both_is ∙ form_nil x.number z.number (x.bytes + z.bytes) (omega arith) l))
 
 -- ---- facets
 
@@ -128,38 +127,35 @@ pub held_facets : Held facets
 unfolding facets
 held_facets = held_bind _ _ (held_must _ held_size facet_form) (λ n. held_times n text held_text)
 
-module _ (s : List ℕ) (r : Sized) (e : r ≡ sized_of (size s)) where
-  pub facets_none : (f p : ℕ) → r ≡ Isnt f p → Fault f p ≡ step_of (facets s)
+module _ (s : List ℕ) (r : Result Counted Refusal) (e : r ≡ sized_of (size s)) where
+  pub facets_none : (x : Refusal) → r ≡ Err x → Err x ≡ step_of (facets s)
   unfolding facets must judged ◌>>=◌ after step_of
-  facets_none f p q = rw (sized_isnt (size s) f p (sym q ∙ e))
+  facets_none x q = rw (sized_isnt (size s) x (sym q ∙ e))
 
-  module _ (n k : ℕ) (q : r ≡ Is n k) where
-    pub facets_many : 2 ≤ n → Fault 10 0 ≡ step_of (facets s)
+  module _ (x : Counted) (q : r ≡ Ok x) where
+    pub facets_many : 2 ≤ x.number → refused 10 0 ≡ step_of (facets s)
     unfolding facets must judged facet_form ◌>>=◌ after step_of
-    facets_many h = rw (sized_is (size s) n k (sym q ∙ e), le-ltb n 2 h)
+    facets_many h = rw (sized_is (size s) x (sym q ∙ e), le-ltb x.number 2 h)
 
     -- as many as there may be
-    few : n < 2 → facets s ≡ shift k (times n text (drop k s))
+    few : x.number < 2 → facets s ≡ shift x.bytes (times x.number text (drop x.bytes s))
     unfolding facets must judged facet_form ◌>>=◌ after
-    few h = rw (sized_is (size s) n k (sym q ∙ e), lt-ltb n 2 h)
+    few h = rw (sized_is (size s) x (sym q ∙ e), lt-ltb x.number 2 h)
 
-    pub facets_end : n ≡ 0 → Took k ≡ step_of (facets s)
+    pub facets_end : x.number ≡ 0 → Ok x.bytes ≡ step_of (facets s)
     unfolding times pure shift step_of
-    facets_end z = let h : n < 2 = omega arith in rw (few h, z, add-zero)
+    facets_end z = let h : x.number < 2 = omega arith in rw (few h, z, add-zero)
 
-    one : n < 2 → (n ≡ 0 → ⊥) → facets s ≡ shift k (text (drop k s))
-    one h z = let l : n ≡ 1 = omega (arith, z) in few h ∙ ap (shift k) (rw l (once text (drop k s)))
+    one : x.number < 2 → (x.number ≡ 0 → ⊥) → facets s ≡ shift x.bytes (text (drop x.bytes s))
+    one h z = let l : x.number ≡ 1 = omega (arith, z) in few h ∙ ap (shift x.bytes) (rw l (once text (drop x.bytes s)))
 
-    module _ (t : Step) (d : t ≡ step_of (text (take (length s - k) (drop k s)))) (h : n < 2) (z : n ≡ 0 → ⊥) where
-      pub facets_took : (m : ℕ) → t ≡ Took m → Took (k + m) ≡ step_of (facets s)
-      facets_took m g = rw (one h z) (rest_took text s k t d m g)
-
-      pub facets_bad : (f p : ℕ) → t ≡ Fault f p → Fault f (k + p) ≡ step_of (facets s)
-      facets_bad f p g = rw (one h z) (rest_bad text s k t d f p g)
+    pub facets_one : (t : Result ℕ Refusal) → t ≡ step_of (text (take (length s - x.bytes) (drop x.bytes s))) → x.number < 2 → (x.number ≡ 0 → ⊥)
+        → later x.bytes t ≡ step_of (facets s)
+    facets_one t d h z = rw (one h z) (rest_later text s x.bytes t d)
 
 -- ---- endpoints
 
-pub endpoint_cut : (s : List ℕ) → length s < 2 → Fault 4 0 ≡ step_of (endpoint s)
+pub endpoint_cut : (s : List ℕ) → length s < 2 → refused 4 0 ≡ step_of (endpoint s)
 unfolding endpoint skip chunk ◌>>=◌ after step_of
 endpoint_cut s h = rw (lt-leb 2 (length s) h)
 
@@ -172,12 +168,9 @@ endpoint_is : (s : List ℕ) → 2 ≤ length s → step_of (endpoint s) ≡ ste
 unfolding endpoint skip chunk ◌>>=◌ after mapc
 endpoint_is s h = rw (le-leb 2 (length s) h) (moved_made 2 (λ _ _. tt) (declared 6 4 (drop 2 s)))
 
-module _ (s : List ℕ) (h : 2 ≤ length s) (r : Step) (e : r ≡ step_of (declared 6 4 (take (length s - 2) (drop 2 s)))) where
-  pub endpoint_took : (m : ℕ) → r ≡ Took m → Took (2 + m) ≡ step_of (endpoint s)
-  endpoint_took m q = rest_took (declared 6 4) s 2 r e m q ∙ sym (endpoint_is s h)
-
-  pub endpoint_bad : (f p : ℕ) → r ≡ Fault f p → Fault f (2 + p) ≡ step_of (endpoint s)
-  endpoint_bad f p q = rest_bad (declared 6 4) s 2 r e f p q ∙ sym (endpoint_is s h)
+pub endpoint_rest : (s : List ℕ) → 2 ≤ length s → (r : Result ℕ Refusal) → r ≡ step_of (declared 6 4 (take (length s - 2) (drop 2 s)))
+    → later 2 r ≡ step_of (endpoint s)
+endpoint_rest s h r e = rest_later (declared 6 4) s 2 r e ∙ sym (endpoint_is s h)
 
 pub held_addresses : (n : ℕ) → Held (addresses n)
 unfolding addresses
@@ -187,7 +180,7 @@ pub held_endpoints : Held endpoints
 unfolding endpoints addresses
 held_endpoints = held_bind _ _ held_size held_addresses
 
-module _ (s : List ℕ) (n : ℕ) (r : Step) where
+module _ (s : List ℕ) (n : ℕ) (r : Result ℕ Refusal) where
   pub addresses_text : n ≡ 0 → r ≡ step_of (text s) → r ≡ step_of (addresses n s)
   unfolding addresses
   addresses_text z e = rw z e
@@ -196,19 +189,15 @@ module _ (s : List ℕ) (n : ℕ) (r : Step) where
   unfolding addresses
   addresses_list z e = rw (ne_eqb n 0 z) e
 
-module _ (s : List ℕ) (r : Sized) (e : r ≡ sized_of (size s)) where
-  pub endpoints_none : (f p : ℕ) → r ≡ Isnt f p → Fault f p ≡ step_of (endpoints s)
+module _ (s : List ℕ) (r : Result Counted Refusal) (e : r ≡ sized_of (size s)) where
+  pub endpoints_none : (x : Refusal) → r ≡ Err x → Err x ≡ step_of (endpoints s)
   unfolding endpoints addresses
-  endpoints_none f p q = with_none size addresses s r e f p q
+  endpoints_none x q = with_none size addresses s r e x q
 
-  module _ (n k : ℕ) (q : r ≡ Is n k) (t : Step) (d : t ≡ step_of (addresses n (take (length s - k) (drop k s)))) where
-    pub endpoints_took : (m : ℕ) → t ≡ Took m → Took (k + m) ≡ step_of (endpoints s)
-    unfolding endpoints addresses
-    endpoints_took m g = with_took size addresses s r e n k q t d m g
-
-    pub endpoints_bad : (f p : ℕ) → t ≡ Fault f p → Fault f (k + p) ≡ step_of (endpoints s)
-    unfolding endpoints addresses
-    endpoints_bad f p g = with_bad size addresses s r e n k q t d f p g
+  pub endpoints_rest : (x : Counted) → r ≡ Ok x → (t : Result ℕ Refusal) → t ≡ step_of (addresses x.number (take (length s - x.bytes) (drop x.bytes s)))
+      → later x.bytes t ≡ step_of (endpoints s)
+  unfolding endpoints addresses
+  endpoints_rest x q t d = with_later size addresses s r e x q t d
 
 -- ---- mode, secure, versions; then the endpoints
 
@@ -238,7 +227,7 @@ unfolding mode
 held_mode old = held_bind _ _ (held_must _ held_byte mode_form) λ _. held_secured old
 
 module _ (old : Bool) (s : List ℕ) where
-  pub addressed_old : old ≡ true → (r : Step) → r ≡ step_of (endpoints s) → r ≡ step_of (addressed old s)
+  pub addressed_old : old ≡ true → (r : Result ℕ Refusal) → r ≡ step_of (endpoints s) → r ≡ step_of (addressed old s)
   unfolding addressed versions times pure ◌>>=◌ after shift
   addressed_old h r e = rw h (e ∙ ap step_of (sym (shift_none (endpoints s))))
     where
@@ -247,7 +236,7 @@ module _ (old : Bool) (s : List ℕ) where
       shift_none (bad c p) = ap (bad c) (omega arith)
 
   module _ (o : old ≡ false) where
-    pub addressed_short : length s < 4 → Fault 4 (length s) ≡ step_of (addressed old s)
+    pub addressed_short : length s < 4 → refused 4 (length s) ≡ step_of (addressed old s)
     unfolding addressed versions ◌>>=◌ after step_of
     addressed_short h = rw (o, each_cut 4 s h)
 
@@ -256,19 +245,15 @@ module _ (old : Bool) (s : List ℕ) where
       unfolding addressed versions ◌>>=◌ after
       addressed_is = rw (o, each_whole 4 s h)
 
-      module _ (t : Step) (i : t ≡ step_of (endpoints (take (length s - 4) (drop 4 s)))) where
-        pub addressed_took : (n : ℕ) → t ≡ Took n → Took (4 + n) ≡ step_of (addressed old s)
-        addressed_took n q = rw addressed_is (rest_took endpoints s 4 t i n q)
+      pub addressed_rest : (t : Result ℕ Refusal) → t ≡ step_of (endpoints (take (length s - 4) (drop 4 s))) → later 4 t ≡ step_of (addressed old s)
+      addressed_rest t i = rw addressed_is (rest_later endpoints s 4 t i)
 
-        pub addressed_bad : (c p : ℕ) → t ≡ Fault c p → Fault c (4 + p) ≡ step_of (addressed old s)
-        addressed_bad c p q = rw addressed_is (rest_bad endpoints s 4 t i c p q)
-
-  pub secured_none : length s < 1 → Fault 4 0 ≡ step_of (secured old s)
+  pub secured_none : length s < 1 → refused 4 0 ≡ step_of (secured old s)
   unfolding secured bool mapc made must judged byte number chunk ◌>>=◌ after step_of
   secured_none h = rw (lt-leb 1 (length s) h)
 
   module _ (b : ℕ) (e : b ≡ at s 1 0) (h : 1 ≤ length s) where
-    pub secured_high : 2 ≤ b → Fault 8 0 ≡ step_of (secured old s)
+    pub secured_high : 2 ≤ b → refused 8 0 ≡ step_of (secured old s)
     unfolding secured bool mapc made must judged byte number chunk bool_form ◌>>=◌ after step_of at
     secured_high l = rw (le-leb 1 (length s) h, ← e, le-ltb b 2 l)
 
@@ -276,19 +261,15 @@ module _ (old : Bool) (s : List ℕ) where
     unfolding secured bool mapc made must judged byte number chunk bool_form ◌>>=◌ after at
     secured_is l = rw (le-leb 1 (length s) h, ← e, lt-ltb b 2 l)
 
-    module _ (l : b < 2) (t : Step) (i : t ≡ step_of (addressed old (take (length s - 1) (drop 1 s)))) where
-      pub secured_took : (n : ℕ) → t ≡ Took n → Took (1 + n) ≡ step_of (secured old s)
-      secured_took n q = rw (secured_is l) (rest_took (addressed old) s 1 t i n q)
+    pub secured_rest : (l : b < 2) → (t : Result ℕ Refusal) → t ≡ step_of (addressed old (take (length s - 1) (drop 1 s))) → later 1 t ≡ step_of (secured old s)
+    secured_rest l t i = rw (secured_is l) (rest_later (addressed old) s 1 t i)
 
-      pub secured_bad : (c p : ℕ) → t ≡ Fault c p → Fault c (1 + p) ≡ step_of (secured old s)
-      secured_bad c p q = rw (secured_is l) (rest_bad (addressed old) s 1 t i c p q)
-
-  pub mode_none : length s < 1 → Fault 4 0 ≡ step_of (mode old s)
+  pub mode_none : length s < 1 → refused 4 0 ≡ step_of (mode old s)
   unfolding mode must judged byte number chunk ◌>>=◌ after step_of
   mode_none h = rw (lt-leb 1 (length s) h)
 
   module _ (b : ℕ) (e : b ≡ at s 1 0) (h : 1 ≤ length s) where
-    pub mode_high : 5 ≤ b → Fault 10 0 ≡ step_of (mode old s)
+    pub mode_high : 5 ≤ b → refused 10 0 ≡ step_of (mode old s)
     unfolding mode must judged byte number chunk mode_form ◌>>=◌ after step_of at
     mode_high l = rw (le-leb 1 (length s) h, ← e, le-ltb b 5 l)
 
@@ -296,28 +277,20 @@ module _ (old : Bool) (s : List ℕ) where
     unfolding mode must judged byte number chunk mode_form ◌>>=◌ after at
     mode_is l = rw (le-leb 1 (length s) h, ← e, lt-ltb b 5 l)
 
-    module _ (l : b < 5) (t : Step) (i : t ≡ step_of (secured old (take (length s - 1) (drop 1 s)))) where
-      pub mode_took : (n : ℕ) → t ≡ Took n → Took (1 + n) ≡ step_of (mode old s)
-      mode_took n q = rw (mode_is l) (rest_took (secured old) s 1 t i n q)
-
-      pub mode_bad : (c p : ℕ) → t ≡ Fault c p → Fault c (1 + p) ≡ step_of (mode old s)
-      mode_bad c p q = rw (mode_is l) (rest_bad (secured old) s 1 t i c p q)
+    pub mode_rest : (l : b < 5) → (t : Result ℕ Refusal) → t ≡ step_of (secured old (take (length s - 1) (drop 1 s))) → later 1 t ≡ step_of (mode old s)
+    mode_rest l t i = rw (mode_is l) (rest_later (secured old) s 1 t i)
 
 -- ---- facets, then the mode and the rest
 
-module _ (old : Bool) (s : List ℕ) (r : Step) (e : r ≡ step_of (facets s)) where
-  pub reference_none : (f p : ℕ) → r ≡ Fault f p → Fault f p ≡ step_of (reference old s)
+module _ (old : Bool) (s : List ℕ) (r : Result ℕ Refusal) (e : r ≡ step_of (facets s)) where
+  pub reference_none : (x : Refusal) → r ≡ Err x → Err x ≡ step_of (reference old s)
   unfolding reference mode secured addressed
-  reference_none f p q = then_none facets (mode old) s r e f p q
+  reference_none x q = then_none facets (mode old) s r e x q
 
-  module _ (n : ℕ) (q : r ≡ Took n) (t : Step) (d : t ≡ step_of (mode old (take (length s - n) (drop n s)))) where
-    pub reference_took : (m : ℕ) → t ≡ Took m → Took (n + m) ≡ step_of (reference old s)
-    unfolding reference mode secured addressed
-    reference_took m g = then_took facets (mode old) s r e n q t d m g
-
-    pub reference_bad : (f p : ℕ) → t ≡ Fault f p → Fault f (n + p) ≡ step_of (reference old s)
-    unfolding reference mode secured addressed
-    reference_bad f p g = then_bad facets (mode old) s r e n q t d f p g
+  pub reference_rest : (n : ℕ) → r ≡ Ok n → (t : Result ℕ Refusal) → t ≡ step_of (mode old (take (length s - n) (drop n s)))
+      → later n t ≡ step_of (reference old s)
+  unfolding reference mode secured addressed
+  reference_rest n q t d = then_later facets (mode old) s r e n q t d
 
 -- ---- the identity, then the reference
 
@@ -337,21 +310,18 @@ follows_is : (old : Bool) (n : ℕ) → (n ≡ 0 → ⊥) → follows old n ≡ 
 unfolding follows
 follows_is old n z = rw (ne_eqb n 0 z)
 
-pub identity_end : (s : List ℕ) (r : Sized) → r ≡ sized_of (named s) → (n k : ℕ) → r ≡ Is n k → k ≤ length s
-identity_end s r e n k q = sized_held named held_named s r e n k q
+pub identity_end : (s : List ℕ) (r : Result Counted Refusal) → r ≡ sized_of (named s) → (x : Counted) → r ≡ Ok x → x.bytes ≤ length s
+identity_end s r e x q = sized_held named held_named s r e x q
 
-module _ (old : Bool) (s : List ℕ) (r : Sized) (e : r ≡ sized_of (named s)) where
-  pub proxy_none : (f p : ℕ) → r ≡ Isnt f p → Fault f p ≡ step_of (proxy old s)
-  proxy_none f p q = rw proxy_is (with_none named (follows old) s r e f p q)
+module _ (old : Bool) (s : List ℕ) (r : Result Counted Refusal) (e : r ≡ sized_of (named s)) where
+  pub proxy_none : (x : Refusal) → r ≡ Err x → Err x ≡ step_of (proxy old s)
+  proxy_none x q = rw proxy_is (with_none named (follows old) s r e x q)
 
-  module _ (n k : ℕ) (q : r ≡ Is n k) where
-    pub proxy_nil : n ≡ 0 → Took k ≡ step_of (proxy old s)
+  module _ (x : Counted) (q : r ≡ Ok x) where
+    pub proxy_nil : x.number ≡ 0 → Ok x.bytes ≡ step_of (proxy old s)
     unfolding follows pure
-    proxy_nil z = rw proxy_is (with_ends named (follows old) s r e n k q tt (rw z))
+    proxy_nil z = rw proxy_is (with_ends named (follows old) s r e x q tt (rw z))
 
-    module _ (z : n ≡ 0 → ⊥) (t : Step) (d : t ≡ step_of (reference old (take (length s - k) (drop k s)))) where
-      pub proxy_took : (m : ℕ) → t ≡ Took m → Took (k + m) ≡ step_of (proxy old s)
-      proxy_took m g = rw proxy_is (with_took named (follows old) s r e n k q t (rw (follows_is old n z) d) m g)
-
-      pub proxy_bad : (f p : ℕ) → t ≡ Fault f p → Fault f (k + p) ≡ step_of (proxy old s)
-      proxy_bad f p g = rw proxy_is (with_bad named (follows old) s r e n k q t (rw (follows_is old n z) d) f p g)
+    pub proxy_rest : (x.number ≡ 0 → ⊥) → (t : Result ℕ Refusal) → t ≡ step_of (reference old (take (length s - x.bytes) (drop x.bytes s)))
+        → later x.bytes t ≡ step_of (proxy old s)
+    proxy_rest z t d = rw proxy_is (with_later named (follows old) s r e x q t (rw (follows_is old x.number z) d))

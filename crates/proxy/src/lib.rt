@@ -7,93 +7,74 @@ ghost use Rattle.encoding.specs.Proxy.{facets, endpoint, endpoints, reference, p
 ghost use Rattle.wire.specs.Steps.{step_of, sized_of};
 ghost use Rattle.proxy.specs.Parts.{named, addresses, addressed, secured, mode};
 
-use wire::{Sized, Step};
+use wire::{Counted, Refusal};
 
 // An identity: its name, then its category; a category without a name is refused. Gives the length of the name.
-pub fn identity(s: &[u8]) -> Sized
+pub fn identity(s: &[u8]) -> Result<Counted, Refusal>
     ensures { result ≡ sized_of (named s.now) }
 {
-    let z = text::read_string(s);
-    match z {
-        Sized::Is(n, k) => {
-            let y = text::read_string(&s[k..]);
-            match y {
-                Sized::Is(c, j) => {
-                    if 0 < n {
-                        return Sized::Is(n, k + j);
-                    }
-                    if 0 < c {
-                        return Sized::Isnt(10, 0);
-                    }
-                    Sized::Is(n, k + j)
-                }
-                Sized::Isnt(f, p) => Sized::Isnt(f, k + p),
-            }
+    let name = text::read_string(s)?;
+    let category = match text::read_string(&s[name.bytes..]) {
+        Ok(category) => category,
+        Err(refusal) => return Err(refusal.behind(name.bytes)),
+    };
+    if name.number == 0 {
+        if 0 < category.number {
+            return Err(Refusal {
+                number: 10,
+                place: 0,
+            });
         }
-        Sized::Isnt(f, p) => Sized::Isnt(f, p),
     }
+    Ok(Counted {
+        number: name.number,
+        bytes: name.bytes + category.bytes,
+    })
 }
 
 // Facets: a sequence of at most one string.
-pub fn facets(s: &[u8]) -> Step
+pub fn facets(s: &[u8]) -> Result<usize, Refusal>
     ensures { result ≡ step_of (facets s.now) }
 {
-    let z = wire::read_size(s);
-    match z {
-        Sized::Is(n, k) => {
-            if 2 <= n {
-                return Step::Fault(10, 0);
-            }
-            if n == 0 {
-                return Step::Took(k);
-            }
-            let step = text::read_text(&s[k..]);
-            match step {
-                Step::Took(m) => Step::Took(k + m),
-                Step::Fault(f, p) => Step::Fault(f, k + p),
-            }
-        }
-        Sized::Isnt(f, p) => Step::Fault(f, p),
+    let size = wire::read_size(s)?;
+    if 2 <= size.number {
+        return Err(Refusal {
+            number: 10,
+            place: 0,
+        });
     }
+    if size.number == 0 {
+        return Ok(size.bytes);
+    }
+    wire::later(size.bytes, text::read_text(&s[size.bytes..]))
 }
 
 // One endpoint: a short and an encapsulation, kept unopened.
-pub fn endpoint(s: &[u8]) -> Step
+pub fn endpoint(s: &[u8]) -> Result<usize, Refusal>
     ensures { result ≡ step_of (endpoint s.now) }
 {
     if s.len() < 2 {
-        return Step::Fault(4, 0);
+        return Err(Refusal {
+            number: 4,
+            place: 0,
+        });
     }
-    let step = wire::read_declared(&s[2..], 6, 4);
-    match step {
-        Step::Took(m) => Step::Took(2 + m),
-        Step::Fault(f, p) => Step::Fault(f, 2 + p),
-    }
+    wire::later(2, wire::read_declared(&s[2..], 6, 4))
 }
 
 // n endpoints.
-pub fn endpoint_list(s: &[u8], n: usize) -> Step
+pub fn endpoint_list(s: &[u8], n: usize) -> Result<usize, Refusal>
     ensures { result ≡ step_of (times n endpoint s.now) }
 {
-    let mut left = n;
     let mut at: usize = 0;
-    while left > 0 {
-        let step = endpoint(&s[at..]);
-        match step {
-            Step::Took(m) => {
-                at += m;
-            }
-            Step::Fault(f, p) => {
-                return Step::Fault(f, at + p);
-            }
-        }
-        left -= 1;
+    for i in 0..n {
+        at = wire::later(at, endpoint(&s[at..]))?;
     }
-    Step::Took(at)
+    Ok(at)
 }
 
 // n endpoints, or an adapter if n is 0.
-fn addresses(s: &[u8], n: usize) -> Step
+fn addresses(s: &[u8], n: usize) -> Result<usize, Refusal>
     ensures { result ≡ step_of (addresses n s.now) }
 {
     if n == 0 {
@@ -103,106 +84,82 @@ fn addresses(s: &[u8], n: usize) -> Step
 }
 
 // The number of endpoints, then the endpoints or an adapter.
-fn endpoints(s: &[u8]) -> Step
+fn endpoints(s: &[u8]) -> Result<usize, Refusal>
     ensures { result ≡ step_of (endpoints s.now) }
 {
-    let z = wire::read_size(s);
-    match z {
-        Sized::Is(n, k) => {
-            let step = addresses(&s[k..], n);
-            match step {
-                Step::Took(m) => Step::Took(k + m),
-                Step::Fault(f, p) => Step::Fault(f, k + p),
-            }
-        }
-        Sized::Isnt(f, p) => Step::Fault(f, p),
-    }
+    let size = wire::read_size(s)?;
+    wire::later(size.bytes, addresses(&s[size.bytes..], size.number))
 }
 
 // Protocol and encoding, then the endpoints; encoding 1.0, here and below where `old` says so, has the endpoints alone.
-fn addressed(old: bool, s: &[u8]) -> Step
+fn addressed(old: bool, s: &[u8]) -> Result<usize, Refusal>
     ensures { result ≡ step_of (addressed old s.now) }
 {
     if old {
         return endpoints(s);
     }
     if s.len() < 4 {
-        return Step::Fault(4, s.len());
+        return Err(Refusal {
+            number: 4,
+            place: s.len(),
+        });
     }
-    let step = endpoints(&s[4..]);
-    match step {
-        Step::Took(m) => Step::Took(4 + m),
-        Step::Fault(f, p) => Step::Fault(f, 4 + p),
-    }
+    wire::later(4, endpoints(&s[4..]))
 }
 
 // Secure, then those.
-fn secured(old: bool, s: &[u8]) -> Step
+fn secured(old: bool, s: &[u8]) -> Result<usize, Refusal>
     ensures { result ≡ step_of (secured old s.now) }
 {
     if s.len() < 1 {
-        return Step::Fault(4, 0);
+        return Err(Refusal {
+            number: 4,
+            place: 0,
+        });
     }
     if 2 <= wire::byte_at(s, 0) {
-        return Step::Fault(8, 0);
+        return Err(Refusal {
+            number: 8,
+            place: 0,
+        });
     }
-    let step = addressed(old, &s[1..]);
-    match step {
-        Step::Took(m) => Step::Took(1 + m),
-        Step::Fault(f, p) => Step::Fault(f, 1 + p),
-    }
+    wire::later(1, addressed(old, &s[1..]))
 }
 
 // The mode, then all that follows it.
-fn mode(old: bool, s: &[u8]) -> Step
+fn mode(old: bool, s: &[u8]) -> Result<usize, Refusal>
     ensures { result ≡ step_of (mode old s.now) }
 {
     if s.len() < 1 {
-        return Step::Fault(4, 0);
+        return Err(Refusal {
+            number: 4,
+            place: 0,
+        });
     }
     if 5 <= wire::byte_at(s, 0) {
-        return Step::Fault(10, 0);
+        return Err(Refusal {
+            number: 10,
+            place: 0,
+        });
     }
-    let step = secured(old, &s[1..]);
-    match step {
-        Step::Took(m) => Step::Took(1 + m),
-        Step::Fault(f, p) => Step::Fault(f, 1 + p),
-    }
+    wire::later(1, secured(old, &s[1..]))
 }
 
 // All that follows an identity that is not nil: the facets, then the mode and the rest.
-fn reference(old: bool, s: &[u8]) -> Step
+fn reference(old: bool, s: &[u8]) -> Result<usize, Refusal>
     ensures { result ≡ step_of (reference old s.now) }
 {
-    let first = facets(s);
-    match first {
-        Step::Took(n) => {
-            let step = mode(old, &s[n..]);
-            match step {
-                Step::Took(m) => Step::Took(n + m),
-                Step::Fault(f, p) => Step::Fault(f, n + p),
-            }
-        }
-        Step::Fault(f, p) => Step::Fault(f, p),
-    }
+    let n = facets(s)?;
+    wire::later(n, mode(old, &s[n..]))
 }
 
 // A proxy: an identity, then a reference; an empty identity is the nil proxy and ends it.
-pub fn proxy(old: bool, s: &[u8]) -> Step
+pub fn proxy(old: bool, s: &[u8]) -> Result<usize, Refusal>
     ensures { result ≡ step_of (proxy old s.now) }
 {
-    let z = identity(s);
-    match z {
-        Sized::Is(n, k) => {
-            if n == 0 {
-                return Step::Took(k);
-            }
-            let step = reference(old, &s[k..]);
-            match step {
-                Step::Took(m) => Step::Took(k + m),
-                Step::Fault(f, p) => Step::Fault(f, k + p),
-            }
-        }
-        Sized::Isnt(f, p) => Step::Fault(f, p),
+    let identity = identity(s)?;
+    if identity.number == 0 {
+        return Ok(identity.bytes);
     }
+    wire::later(identity.bytes, reference(old, &s[identity.bytes..]))
 }

@@ -30,11 +30,10 @@ use Rattle.encoding.specs.Slice.{sliced, Slice, Chain, slices}
 use Rattle.encoding.specs.Message.{list, exception, class, Encoding, v10, v11, Read, parameters, marker_form, contents, old_contents, outer_form, version_form, old_form, outer, after_version, body, Row, piece_rows, first_known, rows, optionals_skipped, slices_skipped}
 use Rattle.encoding.specs.Message
 use Rattle.encoding.proofs.MessageLaws.{ended_ok, held_contents, held_old_contents}
-use Rattle.wire.specs.declared.Step.{Step}
-use Rattle.wire.specs.declared.Step.TheVariants.{Took, Fault}
-use Rattle.wire.specs.declared.Sized.{Sized}
-use Rattle.wire.specs.declared.Sized.TheVariants.{Is, Isnt}
-use Rattle.wire.specs.Steps.{step_of, sized_of}
+use Rattle.std.specs.Prelude.{Result, Ok, Err}
+use Rattle.wire.specs.declared.Refusal.{Refusal}
+use Rattle.wire.specs.declared.Counted.{Counted}
+use Rattle.wire.specs.Steps.{step_of, sized_of, refused, counted}
 use Rattle.wire.specs.StepLaws.{rest_is, step_took, step_fault, sized_is, sized_isnt}
 use Rattle.level.specs.Fill.{fill}
 use Rattle.slices.specs.declared.Walk.{Walk}
@@ -68,16 +67,16 @@ module _ (T : List ℕ) (top u : ℕ) (U : OldUse T top u) where
 -- ---- size and version
 
 module _ (T : List ℕ) (top : ℕ) (m : List ℕ) where
-  pub capsule_none : length m < 4 → Isnt 4 0 ≡ sized_of (outer T top (length m) m)
+  pub capsule_none : length m < 4 → refused 4 0 ≡ sized_of (outer T top (length m) m)
   unfolding outer ◌>>=◌ after must judged number chunk sized_of
   capsule_none h = rw (lt-leb 4 (length m) h)
 
   module _ (h : 4 ≤ length m) (n : ℕ) (e : n ≡ Table.at m 4 0) where
-    pub capsule_low : n < 6 → Isnt 5 0 ≡ sized_of (outer T top (length m) m)
+    pub capsule_low : n < 6 → refused 5 0 ≡ sized_of (outer T top (length m) m)
     unfolding outer ◌>>=◌ after must judged number chunk outer_form sized_of Table.at
     capsule_low l = rw (le-leb 4 (length m) h, ← e, lt-ltb n 6 l)
 
-    pub capsule_other : 6 ≤ n → (n ≡ length m → ⊥) → Isnt 5 0 ≡ sized_of (outer T top (length m) m)
+    pub capsule_other : 6 ≤ n → (n ≡ length m → ⊥) → refused 5 0 ≡ sized_of (outer T top (length m) m)
     unfolding outer ◌>>=◌ after must judged number chunk outer_form sized_of Table.at
     capsule_other l d = rw (le-leb 4 (length m) h, ← e, le-ltb n 6 l, ne_eqb n (length m) d)
 
@@ -100,65 +99,65 @@ module _ (T : List ℕ) (top : ℕ) (m : List ℕ) where
           right : outer_form (length m) n ≡ 0
           right = rw (le-ltb n 6 l, eq-eqb n (length m) d)
 
-      pub capsule_new : v ≡ 257 → Is 257 6 ≡ sized_of (outer T top (length m) m)
+      pub capsule_new : v ≡ 257 → counted 257 6 ≡ sized_of (outer T top (length m) m)
       unfolding judged version_form old_form shift sized_of
       capsule_new q = sym (ap sized_of outer_by ∙ rw q)
 
-      pub capsule_version : (v ≡ 257 → ⊥) → (v ≡ 1 → ⊥) → Isnt 6 4 ≡ sized_of (outer T top (length m) m)
+      pub capsule_version : (v ≡ 257 → ⊥) → (v ≡ 1 → ⊥) → refused 6 4 ≡ sized_of (outer T top (length m) m)
       unfolding judged version_form old_form shift sized_of
       capsule_version q w = sym (ap sized_of outer_by ∙ rw (ne_eqb v 257 q, ne_eqb v 1 w))
 
       module _ (q : v ≡ 1) (k : ℕ) (ek : k ≡ kind T top) where
-        pub capsule_class : k ≡ 14 → Isnt 6 4 ≡ sized_of (outer T top (length m) m)
+        pub capsule_class : k ≡ 14 → refused 6 4 ≡ sized_of (outer T top (length m) m)
         unfolding judged version_form old_form shift sized_of
         capsule_class z = sym (ap sized_of outer_by ∙ rw (q, eq-eqb (kind T top) 14 (sym ek ∙ z)))
 
         module _ (z : k ≡ 14 → ⊥) (b : Bool) (eb : b ≡ no_old T top) where
-          pub capsule_barred : b ≡ true → Isnt 26 0 ≡ sized_of (outer T top (length m) m)
+          pub capsule_barred : b ≡ true → refused 26 0 ≡ sized_of (outer T top (length m) m)
           unfolding judged version_form old_form shift sized_of
           capsule_barred y = sym (ap sized_of outer_by ∙ rw (q, ne_eqb (kind T top) 14 (λ x. z (ek ∙ x)), sym eb ∙ y))
 
-          pub capsule_old : b ≡ false → Is 1 6 ≡ sized_of (outer T top (length m) m)
+          pub capsule_old : b ≡ false → counted 1 6 ≡ sized_of (outer T top (length m) m)
           unfolding judged version_form old_form shift sized_of
           capsule_old y = sym (ap sized_of outer_by ∙ rw (q, ne_eqb (kind T top) 14 (λ x. z (ek ∙ x)), sym eb ∙ y))
 
 -- ---- a class's marker
 
 module _ (s : List ℕ) where
-  pub marker_none : length s < 1 → Fault 4 0 ≡ step_of (must marker_form byte s)
+  pub marker_none : length s < 1 → refused 4 0 ≡ step_of (must marker_form byte s)
   unfolding must judged byte number chunk step_of
   marker_none h = rw (lt-leb 1 (length s) h)
 
   module _ (h : 1 ≤ length s) (b : ℕ) (e : b ≡ Table.at s 1 0) where
-    pub marker_other : (b ≡ 1 → ⊥) → Fault 13 0 ≡ step_of (must marker_form byte s)
+    pub marker_other : (b ≡ 1 → ⊥) → refused 13 0 ≡ step_of (must marker_form byte s)
     unfolding must judged byte number chunk marker_form step_of Table.at
     marker_other q = rw (le-leb 1 (length s) h, ← e, ne_eqb b 1 q)
 
-    pub marker_right : b ≡ 1 → Took 1 ≡ step_of (must marker_form byte s)
+    pub marker_right : b ≡ 1 → Ok 1 ≡ step_of (must marker_form byte s)
     unfolding must judged byte number chunk marker_form step_of Table.at
     marker_right q = rw (le-leb 1 (length s) h, ← e, eq-eqb b 1 q)
 
 -- the header byte of a 1.0 exception
 module _ (s : List ℕ) where
-  pub lead_none : length s < 1 → Fault 4 0 ≡ step_of (must lead_form byte s)
+  pub lead_none : length s < 1 → refused 4 0 ≡ step_of (must lead_form byte s)
   unfolding must judged byte number chunk step_of
   lead_none h = rw (lt-leb 1 (length s) h)
 
   module _ (h : 1 ≤ length s) (b : ℕ) (e : b ≡ Table.at s 1 0) where
-    pub lead_other : (b ≡ 0 → ⊥) → Fault 25 0 ≡ step_of (must lead_form byte s)
+    pub lead_other : (b ≡ 0 → ⊥) → refused 25 0 ≡ step_of (must lead_form byte s)
     unfolding must judged byte number chunk lead_form step_of Table.at
     lead_other q = rw (le-leb 1 (length s) h, ← e, ne_eqb b 0 q)
 
-    pub lead_right : b ≡ 0 → Took 1 ≡ step_of (must lead_form byte s)
+    pub lead_right : b ≡ 0 → Ok 1 ≡ step_of (must lead_form byte s)
     unfolding must judged byte number chunk lead_form step_of Table.at
     lead_right q = rw (le-leb 1 (length s) h, ← e, eq-eqb b 0 q)
 
 module _ (k : ℕ) (s : List ℕ) where
-  pub marker_class : k ≡ 14 → (r : Step) → r ≡ step_of (must marker_form byte s) → r ≡ step_of (marker_of k s)
+  pub marker_class : k ≡ 14 → (r : Result ℕ Refusal) → r ≡ step_of (must marker_form byte s) → r ≡ step_of (marker_of k s)
   unfolding marker_of
   marker_class h r e = rw (eq-eqb k 14 h) e
 
-  pub marker_bare : (k ≡ 14 → ⊥) → Took 0 ≡ step_of (marker_of k s)
+  pub marker_bare : (k ≡ 14 → ⊥) → Ok 0 ≡ step_of (marker_of k s)
   unfolding marker_of pure step_of
   marker_bare h = rw (ne_eqb k 14 h)
 
@@ -328,7 +327,7 @@ module _ (T : List ℕ) (top : ℕ) (m : List ℕ) (six : 6 ≤ length m) (k : �
     old_list_gives out l fills r n e = filled T top (as_list v10) (piece_rows T top 6) (list_rows T top v10) (old_members T top (drop 6 m)) r n (sym old_lists ∙ e) out l fills
 
   -- slices, after a class instance's marker
-  module _ (u : k ≡ 15 → ⊥) (mark : Step) (em : mark ≡ step_of (marker_of k (take (length m - 6) (drop 6 m)))) where
+  module _ (u : k ≡ 15 → ⊥) (mark : Result ℕ Refusal) (em : mark ≡ step_of (marker_of k (take (length m - 6) (drop 6 m)))) where
     marks : mark ≡ step_of (marker_of (kind T top) (drop 6 m))
     marks = em ∙ ap₂ (λ (i : ℕ) (l : List ℕ). step_of (marker_of i l)) ek (rest_is m 6)
 
@@ -339,24 +338,24 @@ module _ (T : List ℕ) (top : ℕ) (m : List ℕ) (six : 6 ≤ length m) (k : �
     unfolding sliced_in
     by_slices = contents_slices T top (drop 6 m) (λ z. u (ek ∙ z))
 
-    module _ (c p : ℕ) (g : mark ≡ Fault c p) where
-      unmarked : marker_of (kind T top) (drop 6 m) ≡ bad c p
-      unmarked = step_fault (marker_of (kind T top) (drop 6 m)) c p (sym g ∙ marks)
+    module _ (x : Refusal) (g : mark ≡ Err x) where
+      unmarked : marker_of (kind T top) (drop 6 m) ≡ bad x.number x.place
+      unmarked = step_fault (marker_of (kind T top) (drop 6 m)) x (sym g ∙ marks)
 
-      contents_bad : contents T top (drop 6 m) ≡ bad c p
+      contents_bad : contents T top (drop 6 m) ≡ bad x.number x.place
       contents_bad = by_slices ∙ bind_bad (marker_of (kind T top)) sliced_in (drop 6 m) unmarked
 
-      pub new_unmarked : Stop c (6 + p) ≡ read_walk T top 6 (contents T top (drop 6 m))
+      pub new_unmarked : Stop x.number (6 + x.place) ≡ read_walk T top 6 (contents T top (drop 6 m))
       unfolding read_walk
       new_unmarked = rw contents_bad
 
       pub new_unmarked_gives : (out l : List ℕ) (r : Read) (n : ℕ) → contents T top (drop 6 m) ≡ ok r n → out ≡ fill 0 (rows T top r.format r.pieces) l
       new_unmarked_gives out l r n e = absurd (ok≢bad e contents_bad)
 
-      pub mark_place : Fits w64 (length m) → Fits w64 (6 + p)
+      pub mark_place : Fits w64 (length m) → Fits w64 (6 + x.place)
       mark_place f = omega (arith, held_refused (marker_of (kind T top)) (held_marker (kind T top)) (drop 6 m) unmarked, length-drop 6 m, six)
 
-    module _ (i : ℕ) (g : mark ≡ Took i) where
+    module _ (i : ℕ) (g : mark ≡ Ok i) where
       marked : (b : ℕ) × (marker_of (kind T top) (drop 6 m) ≡ ok b i)
       marked = step_took (marker_of (kind T top) (drop 6 m)) i (sym g ∙ marks)
 
@@ -393,7 +392,7 @@ module _ (T : List ℕ) (top : ℕ) (m : List ℕ) (six : 6 ≤ length m) (k : �
           (λ c j h. fills c j h ∙ ap (λ (x : ℕ). fill 0 (chain_rows T (6 + x) c) l) takes)
 
   -- ---- 1.0: pairs, after a header byte
-  module _ (u : k ≡ 15 → ⊥) (step : Step) (em : step ≡ step_of (must lead_form byte (take (length m - 6) (drop 6 m)))) where
+  module _ (u : k ≡ 15 → ⊥) (step : Result ℕ Refusal) (em : step ≡ step_of (must lead_form byte (take (length m - 6) (drop 6 m)))) where
     leads : step ≡ step_of (must lead_form byte (drop 6 m))
     leads = em ∙ ap (λ (l : List ℕ). step_of (must lead_form byte l)) (rest_is m 6)
 
@@ -404,24 +403,24 @@ module _ (T : List ℕ) (top : ℕ) (m : List ℕ) (six : 6 ≤ length m) (k : �
     unfolding pairs_in
     by_pairs = old_contents_pairs T top (drop 6 m) (λ z. u (ek ∙ z))
 
-    module _ (c p : ℕ) (g : step ≡ Fault c p) where
-      unled : must lead_form byte (drop 6 m) ≡ bad c p
-      unled = step_fault (must lead_form byte (drop 6 m)) c p (sym g ∙ leads)
+    module _ (x : Refusal) (g : step ≡ Err x) where
+      unled : must lead_form byte (drop 6 m) ≡ bad x.number x.place
+      unled = step_fault (must lead_form byte (drop 6 m)) x (sym g ∙ leads)
 
-      old_bad : old_contents T top (drop 6 m) ≡ bad c p
+      old_bad : old_contents T top (drop 6 m) ≡ bad x.number x.place
       old_bad = by_pairs ∙ bind_bad (must lead_form byte) pairs_in (drop 6 m) unled
 
-      pub old_unled : Stop c (6 + p) ≡ read_walk T top 6 (old_contents T top (drop 6 m))
+      pub old_unled : Stop x.number (6 + x.place) ≡ read_walk T top 6 (old_contents T top (drop 6 m))
       unfolding read_walk
       old_unled = rw old_bad
 
       pub old_unled_gives : (out l : List ℕ) (r : Read) (n : ℕ) → old_contents T top (drop 6 m) ≡ ok r n → out ≡ fill 0 (rows T top r.format r.pieces) l
       old_unled_gives out l r n e = absurd (ok≢bad e old_bad)
 
-      pub lead_place : Fits w64 (length m) → Fits w64 (6 + p)
+      pub lead_place : Fits w64 (length m) → Fits w64 (6 + x.place)
       lead_place f = omega (arith, held_refused (must lead_form byte) (held_must byte held_byte lead_form) (drop 6 m) unled, length-drop 6 m, six)
 
-    module _ (i : ℕ) (g : step ≡ Took i) where
+    module _ (i : ℕ) (g : step ≡ Ok i) where
       led : (b : ℕ) × (must lead_form byte (drop 6 m) ≡ ok b i)
       led = step_took (must lead_form byte (drop 6 m)) i (sym g ∙ leads)
 
@@ -467,38 +466,38 @@ module _ (T : List ℕ) (top : ℕ) (m : List ℕ) where
           let W = chunk_ok 2 val (drop B.n m) (must_ok (number 2) (drop B.n m) (version_form (kind T top)) B.next).0 in
           (omega (arith, A.0, A.2, W.0, length-drop B.n m), omega (arith, B.sum, A.2, W.2))
 
-  module _ (z : Sized) (ez : z ≡ sized_of (outer T top (length m) m)) where
-    module _ (c p : ℕ) (q : z ≡ Isnt c p) where
-      refused : body T top m ≡ bad c p
+  module _ (z : Result Counted Refusal) (ez : z ≡ sized_of (outer T top (length m) m)) where
+    module _ (x : Refusal) (q : z ≡ Err x) where
+      unread : body T top m ≡ bad x.number x.place
       unfolding body held_in
-      refused = bind_bad (outer T top (length m)) held_in m (sized_isnt (outer T top (length m) m) c p (sym q ∙ ez))
+      unread = bind_bad (outer T top (length m)) held_in m (sized_isnt (outer T top (length m) m) x (sym q ∙ ez))
 
-      pub body_fault : Stop c p ≡ body_walk T top (body T top m)
+      pub body_fault : Stop x.number x.place ≡ body_walk T top (body T top m)
       unfolding body_walk
-      body_fault = rw refused
+      body_fault = rw unread
 
       pub body_fault_gives : (out l : List ℕ) (r : Read) (n : ℕ) → body T top m ≡ ok r n → out ≡ fill 0 (rows T top r.format r.pieces) l
-      body_fault_gives out l r n e = absurd (ok≢bad e refused)
+      body_fault_gives out l r n e = absurd (ok≢bad e unread)
 
-    module _ (v k : ℕ) (q : z ≡ Is v k) where
-      sized : outer T top (length m) m ≡ ok v k
-      sized = sized_is (outer T top (length m) m) v k (sym q ∙ ez)
+    module _ (x : Counted) (q : z ≡ Ok x) where
+      sized : outer T top (length m) m ≡ ok x.number x.bytes
+      sized = sized_is (outer T top (length m) m) x (sym q ∙ ez)
 
       pub body_six : 6 ≤ length m
-      body_six = (outer_six v k sized).0
+      body_six = (outer_six x.number x.bytes sized).0
 
       -- what the version decides comes after it, and nothing after that
-      module _ (C : Parser Read) (H : Held C) (ev : after_version T top v ≡ C) where
+      module _ (C : Parser Read) (H : Held C) (ev : after_version T top x.number ≡ C) where
         inside : body T top m ≡ shift 6 (after (C (drop 6 m)) Message.ended (drop 6 m))
         unfolding body held_in ◌>>=◌
         inside =
             bind_next (outer T top (length m)) held_in m sized
-            ∙ ap (λ (i : ℕ). shift i (held_in v (drop i m))) (outer_six v k sized).1
+            ∙ ap (λ (i : ℕ). shift i (held_in x.number (drop i m))) (outer_six x.number x.bytes sized).1
             ∙ ap (λ (p : Parser Read). shift 6 (after (p (drop 6 m)) Message.ended (drop 6 m))) ev
 
         by_contents : ended_walk (length m) (read_walk T top 6 (C (drop 6 m))) ≡ body_walk T top (body T top m)
         by_contents =
-            read_ended T top 6 m (C (drop 6 m)) body_six (λ x j e. omega (arith, held_took C H (drop 6 m) e, length-drop 6 m, body_six))
+            read_ended T top 6 m (C (drop 6 m)) body_six (λ y j e. omega (arith, held_took C H (drop 6 m) e, length-drop 6 m, body_six))
             ∙ ap (body_walk T top) (sym inside)
 
         contents_ok : (r : Read) (j : ℕ) → body T top m ≡ ok r j → (i : ℕ) × (C (drop 6 m) ≡ ok r i)
@@ -506,12 +505,12 @@ module _ (T : List ℕ) (top : ℕ) (m : List ℕ) where
         contents_ok r j e =
             let S = shift_ok 6 ((C >>= Message.ended) (drop 6 m)) r j (sym inside ∙ e) in
             let B = bind_ok C Message.ended (drop 6 m) S.1 in
-            (B.n, B.first ∙ ap (λ (x : Read). ok x B.n) (sym (ended_ok B.fst (drop B.n (drop 6 m)) B.next).1))
+            (B.n, B.first ∙ ap (λ (y : Read). ok y B.n) (sym (ended_ok B.fst (drop B.n (drop 6 m)) B.next).1))
 
-      module _ (h : v ≡ 1) where
-        is_old : after_version T top v ≡ old_contents T top
+      module _ (h : x.number ≡ 1) where
+        is_old : after_version T top x.number ≡ old_contents T top
         unfolding after_version
-        is_old = rw (eq-eqb v 1 h)
+        is_old = rw (eq-eqb x.number 1 h)
 
         pub body_old : (w u : Walk) → w ≡ read_walk T top 6 (old_contents T top (drop 6 m)) → u ≡ ended_walk (length m) w → u ≡ body_walk T top (body T top m)
         body_old w u ew eu = eu ∙ ap (ended_walk (length m)) ew ∙ by_contents (old_contents T top) (held_old_contents T top) is_old
@@ -520,10 +519,10 @@ module _ (T : List ℕ) (top : ℕ) (m : List ℕ) where
             → (r : Read) (n : ℕ) → body T top m ≡ ok r n → out ≡ fill 0 (rows T top r.format r.pieces) l
         body_old_gives out l fills r n e = let C = contents_ok (old_contents T top) (held_old_contents T top) is_old r n e in fills r C.0 C.1
 
-      module _ (h : v ≡ 1 → ⊥) where
-        is_new : after_version T top v ≡ contents T top
+      module _ (h : x.number ≡ 1 → ⊥) where
+        is_new : after_version T top x.number ≡ contents T top
         unfolding after_version
-        is_new = rw (ne_eqb v 1 h)
+        is_new = rw (ne_eqb x.number 1 h)
 
         pub body_new : (w u : Walk) → w ≡ read_walk T top 6 (contents T top (drop 6 m)) → u ≡ ended_walk (length m) w → u ≡ body_walk T top (body T top m)
         body_new w u ew eu = eu ∙ ap (ended_walk (length m)) ew ∙ by_contents (contents T top) (held_contents T top) is_new

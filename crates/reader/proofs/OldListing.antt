@@ -22,7 +22,8 @@ use Rattle.level.specs.Answers.{members_of}
 use Rattle.level.specs.AnswersLaws.{members_read, members_refused, members_within, refused_within}
 use Rattle.level.specs.RequiredLaws.{required_count}
 use Rattle.level.specs.declared.Members.{Members}
-use Rattle.level.specs.declared.Members.TheVariants.{Read, Refused}
+use Rattle.std.specs.Prelude.{Result, Ok, Err}
+use Rattle.wire.specs.declared.Refusal.{Refusal}
 use Rattle.slices.specs.declared.Walk.TheVariants.{Done, Stop}
 use Rattle.slices.specs.Walks.{old_walk}
 use Rattle.slices.specs.MemberLaws.{required_plain}
@@ -34,28 +35,28 @@ module _ (T : List ℕ) (top : ℕ) (m : List ℕ) (start : ℕ) (h : start ≤ 
       → (ps : List Piece) (n : ℕ) → requireds (members_as true (Table.required_members T top)) (drop start m) ≡ ok ps n → out ≡ fill 0 (piece_rows T top start ps) l
   old_gives out l fills ps n e = fills ps n (ap (requireds (members_as true (Table.required_members T top))) (rest_is m start) ∙ e)
 
-  module _ (ms : Members) (em : ms ≡ members_of 0 (optional_start T top) (requireds (members_as true (Table.required_members T top)) (take (length m - start) (drop start m)))) where
+  module _ (ms : Result Members Refusal) (em : ms ≡ members_of 0 (optional_start T top) (requireds (members_as true (Table.required_members T top)) (take (length m - start) (drop start m)))) where
     reads : ms ≡ members_of 0 (optional_start T top) (requireds (members_as true (Table.required_members T top)) (drop start m))
     reads = em ∙ ap (λ (l : List ℕ). members_of 0 (optional_start T top) (requireds (members_as true (Table.required_members T top)) l)) (rest_is m start)
 
-    module _ (c p : ℕ) (q : ms ≡ Refused c p) where
-      pub old_refused : Stop c (start + p) ≡ old_walk T top start (requireds (members_as true (Table.required_members T top)) (drop start m))
+    module _ (x : Refusal) (q : ms ≡ Err x) where
+      pub old_refused : Stop x.number (start + x.place) ≡ old_walk T top start (requireds (members_as true (Table.required_members T top)) (drop start m))
       unfolding old_walk
-      old_refused = rw (members_refused (members_as true (Table.required_members T top)) 0 (optional_start T top) (drop start m) ms reads c p q)
+      old_refused = rw (members_refused (members_as true (Table.required_members T top)) 0 (optional_start T top) (drop start m) ms reads x q)
 
-      pub old_place : Fits w64 (length m) → Fits w64 (start + p)
-      old_place l = omega (arith, refused_within (members_as true (Table.required_members T top)) 0 (optional_start T top) (drop start m) ms reads c p q, length-drop start m)
+      pub old_place : Fits w64 (length m) → Fits w64 (start + x.place)
+      old_place l = omega (arith, refused_within (members_as true (Table.required_members T top)) 0 (optional_start T top) (drop start m) ms reads x q, length-drop start m)
 
-    module _ (n j i : ℕ) (q : ms ≡ Read n j i) where
-      pub old_at : Fits w64 (length m) → Fits w64 (start + n)
-      old_at l = omega (arith, members_within (members_as true (Table.required_members T top)) 0 (optional_start T top) (drop start m) ms reads n j i q, length-drop start m)
+    module _ (x : Members) (q : ms ≡ Ok x) where
+      pub old_at : Fits w64 (length m) → Fits w64 (start + x.bytes)
+      old_at l = omega (arith, members_within (members_as true (Table.required_members T top)) 0 (optional_start T top) (drop start m) ms reads x q, length-drop start m)
 
-      pub old_says : Done top 2 j 0 0 (start + n) ≡ old_walk T top start (requireds (members_as true (Table.required_members T top)) (drop start m))
+      pub old_says : Done top 2 x.count 0 0 (start + x.bytes) ≡ old_walk T top start (requireds (members_as true (Table.required_members T top)) (drop start m))
       unfolding old_walk
-      old_says = go (members_read (members_as true (Table.required_members T top)) 0 (optional_start T top) (drop start m) ms reads n j i q)
+      old_says = go (members_read (members_as true (Table.required_members T top)) 0 (optional_start T top) (drop start m) ms reads x q)
         where
-          go : (ps : List Piece) × (requireds (members_as true (Table.required_members T top)) (drop start m) ≡ ok ps n) × (j ≡ 0 + length ps)
-              → Done top 2 j 0 0 (start + n) ≡ old_walk T top start (requireds (members_as true (Table.required_members T top)) (drop start m))
+          go : (ps : List Piece) × (requireds (members_as true (Table.required_members T top)) (drop start m) ≡ ok ps x.bytes) × (x.count ≡ 0 + length ps)
+              → Done top 2 x.count 0 0 (start + x.bytes) ≡ old_walk T top start (requireds (members_as true (Table.required_members T top)) (drop start m))
           go R =
-              ap₂ (λ (x y : ℕ). Done top 2 x y 0 (start + n)) (omega (arith, R.2, required_count true T top (drop start m) R.0 n start R.1)) (sym (required_plain (members_as true (Table.required_members T top)) (drop start m) R.0 n R.1).none_skipped)
+              ap₂ (λ (i j : ℕ). Done top 2 i j 0 (start + x.bytes)) (omega (arith, R.2, required_count true T top (drop start m) R.0 x.bytes start R.1)) (sym (required_plain (members_as true (Table.required_members T top)) (drop start m) R.0 x.bytes R.1).none_skipped)
               ∙ sym (ap (old_walk T top start) R.1)

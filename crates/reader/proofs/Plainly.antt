@@ -15,15 +15,14 @@ use lib.ListN.{length, take, drop, length-drop}
 use lib.Seq.{drop-drop, length-take-le}
 use Rattle.encoding.specs.Table.{members_at}
 use Rattle.encoding.specs.Table
-use Rattle.wire.specs.declared.Sized.TheVariants.{Is}
+use Rattle.wire.specs.Steps.{counted}
 use Rattle.wire.specs.StepLaws.{rest_is}
 use Rattle.table.specs.declared.TypeRow.{TypeRow}
 use Rattle.table.specs.Rows.{IsTypeRow, Whole}
 use Rattle.table.specs.Tags.{first_required}
 use Rattle.table.proofs.Chains.{bare_later}
 use Rattle.level.specs.Due.{Due}
-use Rattle.level.specs.Answers.{Logged, LastLog}
-use Rattle.level.specs.declared.Members.TheVariants.{Read}
+use Rattle.level.specs.Answers.{reads, Logged, LastLog}
 use Rattle.level.proofs.Plain.{last_says, last_gives, log_next, log_length}
 use Rattle.slices.specs.declared.Walk.TheVariants.{Done}
 use Rattle.slices.specs.Left.{listing}
@@ -56,7 +55,7 @@ module _ (T : List ℕ) (top : ℕ) (m out : List ℕ) (row stop bytes count : �
   last = bare_later T bare stop none row past D.within
 
   pub plain_begin : (from : ℕ) → Takes T top from stop → length m < 2 ^ 63 → Listing T top m (listing T top m (6 + bytes) 0 count 0 mid) stop (6 + bytes) 0 row count 0 mid
-  plain_begin from A l = list_begin T top m 6 bytes count row mid (last_says T top 6 0 _ out row stop bytes count mid D stop last refl) from stop A six l
+  plain_begin from A l = list_begin T top m 6 (record { bytes = bytes; count = count; optional = row }) mid (last_says T top 6 0 _ out row stop bytes count mid D stop last refl) from stop A six l
 
   pub plain_read : (at least row' k : ℕ) (end : List ℕ) → Listing T top m (listing T top m (6 + bytes) 0 count 0 mid) stop at least row' k 0 end → length m ≤ at → length end ≡ length out → PlainMembers T top m (1 + k) out end
   plain_read at least row' k end L over kept =
@@ -66,8 +65,8 @@ module _ (T : List ℕ) (top : ℕ) (m out : List ℕ) (row stop bytes count : �
       let y : length m ≡ at = omega (arith, L.inside) in
       record {
         kept = kept;
-        says = λ _. rw (z, y) (read_says T top m 6 bytes count row mid six (Read bytes count row) says refl (Done top 1 k 0 0 at) end E);
-        gives = λ _. read_gives T top m 6 bytes count row mid six (Read bytes count row) says refl (Done top 1 k 0 0 at) end E out (last_gives T top 6 0 _ out row stop bytes count mid D stop last refl);
+        says = λ _. rw (z, y) (read_says T top m 6 (record { bytes = bytes; count = count; optional = row }) mid six (reads bytes count row) says refl (Done top 1 k 0 0 at) end E);
+        gives = λ _. read_gives T top m 6 (record { bytes = bytes; count = count; optional = row }) mid six (reads bytes count row) says refl (Done top 1 k 0 0 at) end E out (last_gives T top 6 0 _ out row stop bytes count mid D stop last refl);
       }
 
 -- ---- a sequence at the end
@@ -121,6 +120,6 @@ module _ (T : List ℕ) (top : ℕ) (seat : Seat) (G : Seated T top seat) where
         let w = Done top 1 (r - 1) 0 0 (length m) in
         record {
           kept = P.kept;
-          says = λ h. body_new T top m (Is 257 6) Z 257 6 refl (λ q. absurd (omega (arith, q))) w w (new_list T top m six 15 K refl w (P.says h)) (ended_whole w (length m) top 1 (r - 1) 0 0 (length m) refl refl);
-          gives = λ h. body_new_gives T top m (Is 257 6) Z 257 6 refl (λ q. absurd (omega (arith, q))) end out (new_list_gives T top m six 15 K refl end out (P.gives h));
+          says = λ h. body_new T top m (counted 257 6) Z (record { number = 257; bytes = 6 }) refl (λ q. absurd (omega (arith, q))) w w (new_list T top m six 15 K refl w (P.says h)) (ended_whole w (length m) top 1 (r - 1) 0 0 (length m) refl refl);
+          gives = λ h. body_new_gives T top m (counted 257 6) Z (record { number = 257; bytes = 6 }) refl (λ q. absurd (omega (arith, q))) end out (new_list_gives T top m six 15 K refl end out (P.gives h));
         }

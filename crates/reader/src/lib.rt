@@ -19,7 +19,7 @@ ghost use Rattle.reader.specs.OldUse.{OldUse};
 ghost use Rattle.reader.specs.Takes.{Takes};
 
 use slices::Walk;
-use wire::{Sized, Step};
+use wire::{Counted, Refusal};
 
 // What a caller that reads many messages finds once of table and top: `old` is what `judge_old` gives. If `stop` is above 0, the top is a parameter list that takes member rows `from` to `stop` - 1, all inside the table, whose member rows begin at `first`; from row `bare` on none of them is required.
 #[derive(Clone, Copy)]
@@ -57,59 +57,96 @@ fn barred(table: &[u8], begin: usize, top: usize, old_use: usize) -> bool
 // The encapsulation's size and version, 1.0 or 1.1; 26, at the first byte, where 1.0 cannot be used. Gives the version, as a number of two bytes.
 // Here and below, `begin` is where the type rows begin, and `kind` the top's kind.
 // Wrong and ruled out: 1.0 accepted for a class; 26 at the version.
-fn capsule(table: &[u8], begin: usize, top: usize, old_use: usize, kind: usize, m: &[u8]) -> Sized
+fn capsule(
+    table: &[u8],
+    begin: usize,
+    top: usize,
+    old_use: usize,
+    kind: usize,
+    m: &[u8],
+) -> Result<Counted, Refusal>
     requires begin_value { begin ≡ types_at table.now }
     requires old_use { OldUse table.now top old_use }
     requires kind_value { kind ≡ kind-of table.now top }
     ensures { result ≡ sized_of (outer table.now top (length m.now) m.now) }
 {
     if m.len() < 4 {
-        return Sized::Isnt(4, 0);
+        return Err(Refusal {
+            number: 4,
+            place: 0,
+        });
     }
     let n = wire::int_at(m, 0);
     if n < 6 {
-        return Sized::Isnt(5, 0);
+        return Err(Refusal {
+            number: 5,
+            place: 0,
+        });
     }
     if n != m.len() {
-        return Sized::Isnt(5, 0);
+        return Err(Refusal {
+            number: 5,
+            place: 0,
+        });
     }
     let version = wire::short_at(m, 4);
     if version == 257 {
-        return Sized::Is(257, 6);
+        return Ok(Counted {
+            number: 257,
+            bytes: 6,
+        });
     }
     if version != 1 {
-        return Sized::Isnt(6, 4);
+        return Err(Refusal {
+            number: 6,
+            place: 4,
+        });
     }
     if kind == 14 {
-        return Sized::Isnt(6, 4);
+        return Err(Refusal {
+            number: 6,
+            place: 4,
+        });
     }
     if barred(table, begin, top, old_use) {
-        return Sized::Isnt(26, 0);
+        return Err(Refusal {
+            number: 26,
+            place: 0,
+        });
     }
-    Sized::Is(1, 6)
+    Ok(Counted {
+        number: 1,
+        bytes: 6,
+    })
 }
 
 // A class instance's marker byte.
-fn marker(s: &[u8]) -> Step
+fn marker(s: &[u8]) -> Result<usize, Refusal>
     ensures { result ≡ step_of (must marker_form byte s.now) }
 {
     if s.len() < 1 {
-        return Step::Fault(4, 0);
+        return Err(Refusal {
+            number: 4,
+            place: 0,
+        });
     }
     if wire::byte_at(s, 0) != 1 {
-        return Step::Fault(13, 0);
+        return Err(Refusal {
+            number: 13,
+            place: 0,
+        });
     }
-    Step::Took(1)
+    Ok(1)
 }
 
 // What comes before the slices of a top of kind k: the marker byte of a class instance, else no byte.
-fn marker_of(k: usize, s: &[u8]) -> Step
+fn marker_of(k: usize, s: &[u8]) -> Result<usize, Refusal>
     ensures { result ≡ step_of (marker_of k s.now) }
 {
     if k == 14 {
         return marker(s);
     }
-    Step::Took(0)
+    Ok(0)
 }
 
 // No bytes after the record.
@@ -129,16 +166,22 @@ fn ended(w: Walk, len: usize) -> Walk
 }
 
 // The header byte of a 1.0 exception.
-fn lead(s: &[u8]) -> Step
+fn lead(s: &[u8]) -> Result<usize, Refusal>
     ensures { result ≡ step_of (must lead_form byte s.now) }
 {
     if s.len() < 1 {
-        return Step::Fault(4, 0);
+        return Err(Refusal {
+            number: 4,
+            place: 0,
+        });
     }
     if wire::byte_at(s, 0) != 0 {
-        return Step::Fault(25, 0);
+        return Err(Refusal {
+            number: 25,
+            place: 0,
+        });
     }
-    Step::Took(1)
+    Ok(1)
 }
 
 // What an encapsulation of 1.1 holds, with a row for each known member. The top takes member rows `from` to `stop` - 1.
@@ -165,11 +208,11 @@ fn contents(
     if kind == 15 {
         return lists::list(table, begin, shapes, top, from, stop, m, 6, out);
     }
-    let mark = marker_of(kind, &m[6..]);
-    match mark {
-        Step::Took(l) => slices::walks::slices(table, begin, shapes, top, m, 6 + l, out),
-        Step::Fault(c, p) => Walk::Stop(c, 6 + p),
-    }
+    let mark = match marker_of(kind, &m[6..]) {
+        Ok(mark) => mark,
+        Err(refusal) => return Walk::Stop(refusal.number, 6 + refusal.place),
+    };
+    slices::walks::slices(table, begin, shapes, top, m, 6 + mark, out)
 }
 
 // What an encapsulation of 1.0 holds.
@@ -193,10 +236,9 @@ fn old_contents(
     if kind == 15 {
         return lists::old_list(table, begin, shapes, top, m, 6, out);
     }
-    let first = lead(&m[6..]);
-    match first {
-        Step::Took(l) => pairs::walks::pairs(table, begin, shapes, top, m, 7, out),
-        Step::Fault(c, p) => Walk::Stop(c, 6 + p),
+    match lead(&m[6..]) {
+        Ok(_) => pairs::walks::pairs(table, begin, shapes, top, m, 7, out),
+        Err(refusal) => Walk::Stop(refusal.number, 6 + refusal.place),
     }
 }
 
@@ -221,20 +263,18 @@ pub fn body(
     let kind = row.kind;
     let from = row.a;
     let stop = row.a + row.b;
-    let version = capsule(table, begin, top, old_use, kind, m);
-    match version {
-        Sized::Is(v, n) => {
-            if v == 1 {
-                return ended(
-                    old_contents(table, begin, shapes, top, kind, m, out),
-                    m.len(),
-                );
-            }
-            ended(
-                contents(table, begin, shapes, top, kind, from, stop, m, out),
-                m.len(),
-            )
-        }
-        Sized::Isnt(c, p) => Walk::Stop(c, p),
+    let version = match capsule(table, begin, top, old_use, kind, m) {
+        Ok(version) => version,
+        Err(refusal) => return Walk::Stop(refusal.number, refusal.place),
+    };
+    if version.number == 1 {
+        return ended(
+            old_contents(table, begin, shapes, top, kind, m, out),
+            m.len(),
+        );
     }
+    ended(
+        contents(table, begin, shapes, top, kind, from, stop, m, out),
+        m.len(),
+    )
 }

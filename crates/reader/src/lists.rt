@@ -15,8 +15,9 @@ ghost use Rattle.slices.specs.Walks.{list_walk, old_walk};
 ghost use Rattle.reader.specs.Listing.{Listing};
 ghost use Rattle.reader.specs.Takes.{Takes};
 
-use level::{Members, Optional};
+use level::Optional;
 use slices::Walk;
+use wire::Refusal;
 
 // How far the optionals of a list were read without a call: the place, the rows there are, the least tag that may follow, and the member row that is looked at next.
 #[derive(Clone, Copy)]
@@ -85,7 +86,7 @@ fn next(
     row: usize,
     least: usize,
     s: &[u8],
-) -> Optional
+) -> Result<Optional, Refusal>
     requires begin_value { begin ≡ types_at table.now }
     requires first_value { (first ≡ members_at table.now) × (first < 1048576) }
     requires whole { (0 < limit → Whole table.now limit) × (limit ≤ stop) }
@@ -95,7 +96,12 @@ fn next(
 {
     let o = level::optionals::any_simple(table, first, limit, shapes, stop, row, least, s);
     if o.bytes != 0 {
-        return Optional::Known(row, o.tag, o.head, o.bytes);
+        return Ok(Optional::Known {
+            member: row,
+            tag: o.tag,
+            start: o.head,
+            bytes: o.bytes,
+        });
     }
     level::optionals::optional(table, begin, first, shapes, stop, row, least, s)
 }
@@ -130,7 +136,7 @@ fn others(
     let mut least = above;
     let mut row = from;
     while at < m.len() {
-        let o = next(
+        let answer = next(
             table,
             begin,
             first,
@@ -141,21 +147,27 @@ fn others(
             least,
             &m[at..],
         );
-        match o {
-            Optional::Known(member, tag, b, l) => {
-                wire::rows::put_row(out, count, member, at + b, l - b);
+        let optional = match answer {
+            Ok(optional) => optional,
+            Err(refusal) => return Walk::Stop(refusal.number, at + refusal.place),
+        };
+        match optional {
+            Optional::Known {
+                member,
+                tag,
+                start: head,
+                bytes,
+            } => {
+                wire::rows::put_row(out, count, member, at + head, bytes - head);
                 count += 1;
-                at += l;
+                at += bytes;
                 least = tag + 1;
                 row = table::chain::behind(table, first, row, member, tag);
             }
-            Optional::Skipped(tag, l) => {
+            Optional::Skipped { tag, bytes } => {
                 optionals += 1;
-                at += l;
+                at += bytes;
                 least = tag + 1;
-            }
-            Optional::Wrong(c, p) => {
-                return Walk::Stop(c, at + p);
             }
         }
     }
@@ -215,7 +227,7 @@ pub fn list(
 {
     let first = table::members_at(table, begin);
     let limit = table::chain::whole(table, first, stop);
-    let members = level::required_simple(
+    let answer = level::required_simple(
         table,
         begin,
         first,
@@ -229,25 +241,24 @@ pub fn list(
         0,
         out,
     );
-    match members {
-        Members::Read(n, k, opt) => {
-            optionals(
-                table,
-                begin,
-                first,
-                limit,
-                shapes,
-                top,
-                stop,
-                m,
-                start + n,
-                k,
-                opt,
-                out,
-            )
-        }
-        Members::Refused(c, p) => Walk::Stop(c, start + p),
-    }
+    let members = match answer {
+        Ok(members) => members,
+        Err(refusal) => return Walk::Stop(refusal.number, start + refusal.place),
+    };
+    optionals(
+        table,
+        begin,
+        first,
+        limit,
+        shapes,
+        top,
+        stop,
+        m,
+        start + members.bytes,
+        members.count,
+        members.optional,
+        out,
+    )
 }
 
 // A parameter list of encoding 1.0 from a place on: required members as declared, with a row for each.
@@ -267,9 +278,8 @@ pub fn old_list(
     ensures out_len_unchanged { length out.new ≡ length out.old }
     ensures out_after { (ps : List Piece) (n : ℕ) → requireds (members_as true (required_members table.now top)) (drop start m.now) ≡ ok ps n → out.new ≡ fill 0 (piece_rows table.now top start ps) out.old }
 {
-    let members = level::required(table, begin, shapes, top, &m[start..], start, 0, out, true);
-    match members {
-        Members::Read(n, k, next) => Walk::Done(top, 2, k, 0, 0, start + n),
-        Members::Refused(c, p) => Walk::Stop(c, start + p),
+    match level::required(table, begin, shapes, top, &m[start..], start, 0, out, true) {
+        Ok(members) => Walk::Done(top, 2, members.count, 0, 0, start + members.bytes),
+        Err(refusal) => Walk::Stop(refusal.number, start + refusal.place),
     }
 }

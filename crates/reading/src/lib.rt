@@ -161,7 +161,7 @@ fn most_rows(table: &[u8], k: usize) -> usize
     if k <= 5 {
         return k;
     }
-    wire::least(k, table::members(table))
+    k.min(table::members(table))
 }
 
 // Walks into a list of the call's own and copies the rows, since the lent list must stay on a refusal. At most 5 rows can be copied: so short a list is cleared by four stores.
@@ -327,7 +327,7 @@ fn few_skipped(w: Walk) -> Walk
 {
     match w {
         Walk::Done(first, format, n, optionals, slices, end) => {
-            let skipped = wire::least(optionals, 4294967295);
+            let skipped = optionals.min(4294967295);
             Walk::Done(first, format, n, skipped, slices, end)
         }
         Walk::Stop(c, p) => Walk::Stop(c, p),

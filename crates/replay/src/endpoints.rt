@@ -10,10 +10,8 @@ use std::io::Write;
 fn refused<W: Write>(to: &mut W, c: u32, p: u32, n: usize) -> io::Result<()> {
     print::number(to, c as u64)?;
     print::number(to, p as u64)?;
-    let mut left = n;
-    while left > 0 {
+    for i in 0..n {
         print::number(to, 0)?;
-        left -= 1;
     }
     Ok(())
 }

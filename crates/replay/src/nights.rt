@@ -9,12 +9,10 @@ use std::io::Write;
 fn row_count(answers: &[u8], n: usize) -> usize
     ensures { result ≤ 1000000 }
 {
-    let m = wire::least(n, answers.len() / 28);
-    let mut i = 0;
+    let m = n.min(answers.len() / 28);
     let mut rows = 0;
-    while i < m {
-        rows = wire::least(rows + wire::int_at(answers, 28 * i + 16), 1000000);
-        i += 1;
+    for i in 0..m {
+        rows = (rows + wire::int_at(answers, 28 * i + 16)).min(1000000);
     }
     rows
 }

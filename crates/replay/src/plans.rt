@@ -13,18 +13,15 @@ fn numbers(s: &[u8], list: &mut [u64]) -> usize {
     if list.len() < n {
         return 0;
     }
-    let mut i = 0;
-    while i < n {
+    for i in 0..n {
         list[i] = wire::long_at(s, 8 * i) as u64;
-        i += 1;
     }
     n
 }
 
 // Prints the first n numbers of a list, and whether it was touched after them.
 fn show<W: Write>(to: &mut W, list: &[u64], n: usize) -> io::Result<()> {
-    let mut i = 0;
-    while i < list.len() {
+    for i in 0..list.len() {
         if i < n {
             print::number(to, list[i])?;
         } else {
@@ -32,7 +29,6 @@ fn show<W: Write>(to: &mut W, list: &[u64], n: usize) -> io::Result<()> {
                 to.write_all(b"touched ")?;
             }
         }
-        i += 1;
     }
     to.write_all(b"\n")?;
     Ok(())

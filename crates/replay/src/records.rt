@@ -31,10 +31,8 @@ fn show<W: Write>(to: &mut W, r: Row) -> io::Result<()> {
 
 // Prints every element.
 fn show_rows<W: Write>(to: &mut W, rows: [Row; 8]) -> io::Result<()> {
-    let mut i = 0;
-    while i < 8 {
-        show(to, rows[i])?;
-        i += 1;
+    for row in rows {
+        show(to, row)?;
     }
     to.write_all(b"\n")?;
     Ok(())

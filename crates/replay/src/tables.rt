@@ -18,10 +18,8 @@ fn forms<W: Write>(to: &mut W, table: &[u8]) -> io::Result<()> {
     let mut shapes = [10u8; 256];
     shapes::fill(table, table::types_at(table), &mut shapes);
     let n = table::rows(table);
-    let mut t = 0;
-    while t < n {
+    for t in 0..n {
         letter(to, shapes::form(&shapes, t))?;
-        t += 1;
     }
     Ok(())
 }

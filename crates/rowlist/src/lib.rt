@@ -25,7 +25,7 @@ fn row_at(bytes: &[u8], i: usize) -> Row
 fn count(bytes: &[u8], n: usize, room: usize) -> usize
     ensures { result ≡ min (min n (length bytes.now / 12)) room }
 {
-    wire::least(wire::least(n, bytes.len() / 12), room)
+    n.min(bytes.len() / 12).min(room)
 }
 
 // Puts the first n rows of the row bytes into the lent list; returns how many.
@@ -57,7 +57,7 @@ fn listing(table: &[u8], top: u32, message: &[u8], room: usize, list: &mut [u8])
     ensures { (result ≡ reading_of (reading table.now top message.now (12 * room))) × ((rows_of result ≤ 1024) × (records list.new 0 (rows_of result) ≡ map record_of (reading table.now top message.now (12 * room)).rows)) }
 {
     prepare::byte_count(message);
-    let n = 12 * wire::least(room, 1024);
+    let n = 12 * room.min(1024);
     reading::read(table, top, message, &mut list[..n])
 }
 

@@ -22,7 +22,7 @@
 --   usual_..                   the tests of a usual row, and that it breaks no rule but perhaps that of its type
 --   Owner, owner_..            the member rows of one owner, each of its class (class_..), read whole or usual; Owners, owners_.. of all owners
 --   check_..                   the passes one after another; check_rows, check_all_rows the type rows lie inside, all rows do
-use Prim.Native.Nat.{ℕ, zero, suc, ◌+◌, ◌-◌, ◌*◌, ◌/◌, ◌%◌, ◌^◌, ◌≤◌, ◌<◌, min, max}
+use Prim.Native.Nat.{ℕ, zero, suc, ◌+◌, ◌-◌, ◌*◌, ◌/◌, ◌%◌, ◌^◌, ◌≤◌, ◌<◌, max}
 use mathlib.Core.Path.{◌≡◌, refl, sym, ap, ap₂, ◌∙◌}
 use mathlib.Core.Bool.{Bool, true, false, ◌&&◌, ◌||◌, not, true≢false}
 use mathlib.Core.List.{List, [], ◌∷◌, map}
@@ -30,29 +30,30 @@ use mathlib.Core.Logic.{◌⊎◌, inl, inr, ⊎_elim}
 use native.Mathlib.Nat.{add-zero, eq-or-lt_of_le}
 use native.Mathlib.Numerals.{add-one, sub-one}
 use native.Mathlib.Omega.{arith}
-use lib.ListN.{length, take, drop, get_or, get_or-eq_default}
+use lib.ListN.{length, take, drop, get_or, get_or-eq_default, drop_of_length-le}
 use lib.Dec.{eqb, leb, ltb}
 use borrow.Author.Tests.{eqb-true, eqb-false, leb-true, ltb-true, ltb-false, not-true, not-false, lt-ltb, le-ltb, le-leb, lt-leb, eq-eqb, ne_eqb}
 use Rattle.encoding.specs.Result.{pick, first_of, same_bytes}
 use Rattle.encoding.proofs.ResultLaws.{both_true, either_false}
 use Rattle.encoding.specs.Utf8.{is_utf8}
 use Rattle.encoding.specs.Number.{val, negative}
-use Rattle.encoding.specs.Table.{at, version, with_lists, types, members, names, entries, types_at, row_at, member_at, names_at, entries_at, field_at, list_entry, kind, spare, field, member_type, mark, member_spare, tag, is_record, owns, name_of, range, any, used, taken_by, taken, no_part, alike, type_rules, rises_to, has_list, entries_taken, allowed_rules, entries_rules, header_tests, header_rules, sum_rules, fault_at, Fault, fine, fault, or_else, pass, passes, faults}
+use Rattle.encoding.specs.Table.{at, version, with_lists, types, members, names, entries, types_at, row_at, member_at, entries_at, field_at, list_entry, kind, spare, field, member_type, mark, member_spare, tag, is_record, owns, name_of, range, any, used, taken_by, taken, no_part, alike, type_rules, rises_to, has_list, entries_taken, allowed_rules, entries_rules, header_tests, header_rules, sum_rules, fault_at, Fault, fine, fault, or_else, pass, passes, faults}
 use Rattle.encoding.proofs.TableLaws.{header_least}
 use Rattle.wire.specs.At.{at_more, at_split}
-use Rattle.table.specs.Names.{is_named}
+use Rattle.table.specs.Names.{name_start, is_named}
 use Rattle.table.specs.NamesLaws.{name_part}
-use Rattle.rules.specs.Checks.{finding_of, is_marked, is_set_from, no_base_of, alike_from, enum_rules, struct_rules, seq_rules, dict_rules, record_rules, list_rules, kind_rules, row_rules, share, is_basic, past, allowed_rules_by, entry_count, type_pass, allowed_pass, rows_pass, member_pass, is_optional_of, is_tag_before, is_tag_alike, required_rules, optional_rules, member_rules_by, member_rules_of, is_usual, owner_pass, owners_pass, MembersThere, OwnersThere}
+use Rattle.rules.specs.Checks.{finding_of, class_of, broken_of, placed, is_marked, is_set_from, no_base_of, alike_from, enum_rules, struct_rules, seq_rules, dict_rules, record_rules, list_rules, kind_rules, row_rules, share, is_basic, past, allowed_rules_by, entry_count, type_pass, allowed_pass, rows_pass, member_pass, is_optional_of, is_tag_before, is_tag_alike, required_rules, optional_rules, member_rules_by, member_rules_of, is_usual, owner_pass, owners_pass, MembersThere, OwnersThere}
 use Rattle.rules.specs.ChecksLaws.{row_rules_lem, allowed_rules_lem, or_assoc, table_length, owners_pass_lem, owners_there}
 use Rattle.table.specs.Rows.{type_row_of, member_row_of, IsTypeRow, IsMemberRow, greatest_of}
 use Rattle.table.specs.declared.TypeRow.{TypeRow}
 use Rattle.table.specs.declared.MemberRow.{MemberRow}
-use Rattle.rules.specs.declared.Finding.{Finding}
-use Rattle.rules.specs.declared.Finding.TheVariants.{Fine, Broken}
+use Rattle.std.specs.Prelude.{Result, Ok, Err}
+use Rattle.wire.specs.declared.Refusal.{Refusal}
+use Rattle.wire.specs.Steps.{refused}
 use Rattle.table.proofs.Places.{row_shows}
 use Rattle.table.proofs.Ranges.{range_more, range_none, range_left, range_empty, any_here, any_next, any_none, any_never, any_past}
 use Rattle.table.proofs.ByKind.{by_kind}
-use Rattle.table.proofs.Labels.{name_least, name_long, record_named, record_short, record_none}
+use Rattle.table.proofs.Labels.{record_named, record_short, record_none}
 
 -- ---- rows read whole
 
@@ -152,11 +153,11 @@ module _ (T : List ℕ) (f : ℕ) (ef : f ≡ types_at T) where
   pub five_there : f ≤ length T → 5 ≤ length T
   five_there h = omega (arith, header_least T)
 
-  pub header_short : length T < f → fault_at 0 31 ≡ header_rules T
-  unfolding header_rules header_tests first_of
+  pub header_short : length T < f → placed 0 (Err 31) ≡ finding_of (header_rules T)
+  unfolding placed finding_of fault_at header_rules header_tests first_of
   header_short h = rw (lt-ltb (length T) (types_at T) (omega arith)) (go (not (same_bytes (take 3 T) (70 ∷ 71 ∷ 84 ∷ []))) (not (eqb (version T) 1 || with_lists T)))
     where
-      go : (a b : Bool) → fault_at 0 31 ≡ fault_at 0 (pick a 31 (pick b 31 31))
+      go : (a b : Bool) → placed 0 (Err 31) ≡ finding_of (fault_at 0 (pick a 31 (pick b 31 31)))
       go true b = refl
       go false true = refl
       go false false = refl
@@ -165,11 +166,11 @@ module _ (T : List ℕ) (f : ℕ) (ef : f ≡ types_at T) where
     all_there : ltb (length T) (types_at T) ≡ false
     all_there = le-ltb (length T) (types_at T) (omega arith)
 
-    pub header_mark : not s ≡ true → fault_at 0 31 ≡ header_rules T
-    unfolding header_rules header_tests first_of is_marked
+    pub header_mark : not s ≡ true → placed 0 (Err 31) ≡ finding_of (header_rules T)
+    unfolding placed finding_of fault_at header_rules header_tests first_of is_marked
     header_mark q = go (same_bytes (take 3 T) (70 ∷ 71 ∷ 84 ∷ [])) (eqb (version T) 1 || with_lists T) _ (sym es ∙ not-true s q)
       where
-        go : (a b : Bool) (r : ℕ) → a && b ≡ false → fault_at 0 31 ≡ fault_at 0 (pick (not a) 31 (pick (not b) 31 r))
+        go : (a b : Bool) (r : ℕ) → a && b ≡ false → placed 0 (Err 31) ≡ finding_of (fault_at 0 (pick (not a) 31 (pick (not b) 31 r)))
         go true true r e = absurd (true≢false e)
         go true false r e = refl
         go false b r e = refl
@@ -183,28 +184,28 @@ module _ (T : List ℕ) (f : ℕ) (ef : f ≡ types_at T) where
       unfolding is_marked
       version_is = (both_true (same_bytes (take 3 T) (70 ∷ 71 ∷ 84 ∷ [])) _ (sym es ∙ not-false s marked)).1
 
-      pub header_none : t ≡ 0 → fault_at 0 31 ≡ header_rules T
-      unfolding header_rules header_tests first_of
+      pub header_none : t ≡ 0 → placed 0 (Err 31) ≡ finding_of (header_rules T)
+      unfolding placed finding_of fault_at header_rules header_tests first_of
       header_none z = rw (mark_is, version_is, all_there, ← et, eq-eqb t 0 z)
 
       module _ (some : t ≡ 0 → ⊥) where
-        pub header_types : 256 < t → fault_at 0 31 ≡ header_rules T
-        unfolding header_rules header_tests first_of
+        pub header_types : 256 < t → placed 0 (Err 31) ≡ finding_of (header_rules T)
+        unfolding placed finding_of fault_at header_rules header_tests first_of
         header_types h = rw (mark_is, version_is, all_there, ← et, ne_eqb t 0 some, lt-ltb _ _ h)
 
         module _ (few : t ≤ 256) (m : ℕ) (em : m ≡ members T) where
-          pub header_members : 1024 < m → fault_at 0 31 ≡ header_rules T
-          unfolding header_rules header_tests first_of
+          pub header_members : 1024 < m → placed 0 (Err 31) ≡ finding_of (header_rules T)
+          unfolding placed finding_of fault_at header_rules header_tests first_of
           header_members h = rw (mark_is, version_is, all_there, ← et, ne_eqb t 0 some, le-ltb _ _ few, ← em, lt-ltb _ _ h)
 
           module _ (small : m ≤ 1024) (n : ℕ) (en : n ≡ names T) where
-            pub header_names : 8192 < n → fault_at 0 31 ≡ header_rules T
-            unfolding header_rules header_tests first_of
+            pub header_names : 8192 < n → placed 0 (Err 31) ≡ finding_of (header_rules T)
+            unfolding placed finding_of fault_at header_rules header_tests first_of
             header_names h = rw (mark_is, version_is, all_there, ← et, ne_eqb t 0 some, le-ltb _ _ few, ← em, le-ltb _ _ small, ← en, lt-ltb _ _ h)
 
             module _ (short : n ≤ 8192) (b : ℕ) (eb : b ≡ at T 1 11) where
-              pub header_spare : (b ≡ 0 → ⊥) → fault_at 0 31 ≡ header_rules T
-              unfolding header_rules header_tests first_of
+              pub header_spare : (b ≡ 0 → ⊥) → placed 0 (Err 31) ≡ finding_of (header_rules T)
+              unfolding placed finding_of fault_at header_rules header_tests first_of
               header_spare h = rw (mark_is, version_is, all_there, ← et, ne_eqb t 0 some, le-ltb _ _ few, ← em, le-ltb _ _ small, ← en, le-ltb _ _ short, ← eb, ne_eqb b 0 h)
 
               module _ (spare : b ≡ 0) (k : ℕ) (ek : k ≡ entries T) where
@@ -213,54 +214,47 @@ module _ (T : List ℕ) (f : ℕ) (ef : f ≡ types_at T) where
                 all_but_entries =
                     rw (mark_is, version_is, all_there, ne_eqb (types T) 0 (λ z. some (et ∙ z)), le-ltb 256 (types T) (omega arith), le-ltb 1024 (members T) (omega arith), le-ltb 8192 (names T) (omega arith), ← eb, eq-eqb b 0 spare, ek)
 
-                pub header_entries : 1024 < k → fault_at 0 31 ≡ header_rules T
-                header_entries h = sym (all_but_entries ∙ rw (lt-ltb 1024 k h))
+                pub header_entries : 1024 < k → placed 0 (Err 31) ≡ finding_of (header_rules T)
+                unfolding placed finding_of fault_at
+                header_entries h = sym (ap finding_of all_but_entries ∙ rw (lt-ltb 1024 k h))
 
                 module _ (little : k ≤ 1024) (p : ℕ) (ep : p ≡ member_at T m) where
-                  pub header_length : (length T ≡ p + n + 4 * k → ⊥) → fault_at 0 31 ≡ header_rules T
-                  header_length h = sym (all_but_entries ∙ rw (le-ltb 1024 k little, ne_eqb (length T) (entries_at T + 4 * entries T) (λ q. h (omega arith))))
+                  pub header_length : (length T ≡ p + n + 4 * k → ⊥) → placed 0 (Err 31) ≡ finding_of (header_rules T)
+                  unfolding placed finding_of fault_at
+                  header_length h = sym (ap finding_of all_but_entries ∙ rw (le-ltb 1024 k little, ne_eqb (length T) (entries_at T + 4 * entries T) (λ q. h (omega arith))))
 
-                  pub header_fine : length T ≡ p + n + 4 * k → fault_at 0 0 ≡ header_rules T
-                  header_fine h = sym (all_but_entries ∙ rw (le-ltb 1024 k little, eq-eqb (length T) (entries_at T + 4 * entries T) (omega arith)))
+                  pub header_fine : length T ≡ p + n + 4 * k → placed 0 (Ok tt) ≡ finding_of (header_rules T)
+                  unfolding placed finding_of fault_at
+                  header_fine h = sym (ap finding_of all_but_entries ∙ rw (le-ltb 1024 k little, eq-eqb (length T) (entries_at T + 4 * entries T) (omega arith)))
 
 -- ---- fields that a kind does not use
 
-module _ (r : TypeRow) where
-  pub set_a : (r.a ≡ 0 → ⊥) → true ≡ is_set_from r 0
-  unfolding is_set_from any
-  set_a h = rw (ne_eqb r.a 0 h)
+-- the fields, each of them tested if it is not before field i
+pub set_is : (r : TypeRow) (i : ℕ)
+    → ((((eqb i 0 && not (eqb r.a 0)) || (leb i 1 && not (eqb r.b 0))) || (leb i 2 && not (eqb r.c 0))) || (leb i 3 && not (eqb r.d 0))) || (leb i 4 && not (eqb r.e 0)) ≡ is_set_from r i
+unfolding is_set_from any
+set_is r i = go i
+  where
+    or_all : (a b c d e : Bool) → (((a || b) || c) || d) || e ≡ a || (b || (c || (d || (e || false))))
+    or_all true b c d e = refl
+    or_all false true c d e = refl
+    or_all false false true d e = refl
+    or_all false false false true e = refl
+    or_all false false false false true = refl
+    or_all false false false false false = refl
 
-  pub clear_a : r.a ≡ 0 → (b : Bool) → b ≡ is_set_from r 1 → b ≡ is_set_from r 0
-  unfolding is_set_from any
-  clear_a h b q = q ∙ sym (rw (eq-eqb r.a 0 h))
-
-  pub set_b : (r.b ≡ 0 → ⊥) → true ≡ is_set_from r 1
-  unfolding is_set_from any
-  set_b h = rw (ne_eqb r.b 0 h)
-
-  pub clear_b : r.b ≡ 0 → (b : Bool) → b ≡ is_set_from r 2 → b ≡ is_set_from r 1
-  unfolding is_set_from any
-  clear_b h b q = q ∙ sym (rw (eq-eqb r.b 0 h))
-
-  pub set_c : (r.c ≡ 0 → ⊥) → true ≡ is_set_from r 2
-  unfolding is_set_from any
-  set_c h = rw (ne_eqb r.c 0 h)
-
-  module _ (c : r.c ≡ 0) where
-    pub set_d : (r.d ≡ 0 → ⊥) → true ≡ is_set_from r 2
-    unfolding is_set_from any
-    set_d h = rw (eq-eqb r.c 0 c, ne_eqb r.d 0 h)
-
-    pub clear_d : r.d ≡ 0 → not (eqb r.e 0) ≡ is_set_from r 2
-    unfolding is_set_from any
-    clear_d h = rw (eq-eqb r.c 0 c, eq-eqb r.d 0 h) (go (not (eqb r.e 0)))
-      where
-        go : (b : Bool) → b ≡ b || false
-        go true = refl
-        go false = refl
+    go : (i : ℕ) → ((((eqb i 0 && not (eqb r.a 0)) || (leb i 1 && not (eqb r.b 0))) || (leb i 2 && not (eqb r.c 0))) || (leb i 3 && not (eqb r.d 0))) || (leb i 4 && not (eqb r.e 0)) ≡ is_set_from r i
+    go zero = or_all (not (eqb r.a 0)) (not (eqb r.b 0)) (not (eqb r.c 0)) (not (eqb r.d 0)) (not (eqb r.e 0))
+    go (suc zero) = or_all false (not (eqb r.b 0)) (not (eqb r.c 0)) (not (eqb r.d 0)) (not (eqb r.e 0))
+    go (suc (suc zero)) = or_all false false (not (eqb r.c 0)) (not (eqb r.d 0)) (not (eqb r.e 0))
+    go (suc (suc (suc zero))) = or_all false false false (not (eqb r.d 0)) (not (eqb r.e 0))
+    go (suc (suc (suc (suc zero)))) = or_all false false false false (not (eqb r.e 0))
+    go (suc (suc (suc (suc (suc i))))) =
+        let n : ℕ = suc (suc (suc (suc (suc i)))) in
+        rw (ne_eqb n 0 (omega arith), lt-leb n 1 (omega arith), lt-leb n 2 (omega arith), lt-leb n 3 (omega arith), lt-leb n 4 (omega arith), drop_of_length-le {A = ℕ} [] {i = i} (omega arith))
 
 -- by the kind
-used_low : (T : List ℕ) (k : ℕ) → k < 8 → 0 ≡ used T k
+pub used_low : (T : List ℕ) (k : ℕ) → k < 8 → 0 ≡ used T k
 unfolding used
 used_low T = by_kind (λ n. n < 8 → 0 ≡ used T n)
     (λ h. refl) (λ h. refl) (λ h. refl) (λ h. refl) (λ h. refl) (λ h. refl) (λ h. refl) (λ h. refl)
@@ -278,6 +272,15 @@ used_two T = by_kind (λ n. 8 < n → (n ≡ 10 → ⊥) → (n ≡ 12 → ⊥) 
 used_unknown : (T : List ℕ) (k : ℕ) → 16 ≤ k → 5 ≡ used T k
 unfolding used
 used_unknown T k h = sym (get_or-eq_default {A = ℕ} (0 ∷ 0 ∷ 0 ∷ 0 ∷ 0 ∷ 0 ∷ 0 ∷ 0 ∷ pick (with_lists T) 4 2 ∷ 2 ∷ 1 ∷ 2 ∷ 0 ∷ 5 ∷ 5 ∷ 2 ∷ []) 5 {n = k} h)
+
+pub used_all : (T : List ℕ) (k : ℕ) → 8 ≤ k → (k ≡ 8 → ⊥) → (k ≡ 9 → ⊥) → (k ≡ 10 → ⊥) → (k ≡ 11 → ⊥) → (k ≡ 12 → ⊥) → (k ≡ 15 → ⊥) → 5 ≡ used T k
+unfolding used
+used_all T k l n8 n9 n10 n11 n12 n15 = go (eqb k 13) refl (eqb k 14) refl
+  where
+    go : (x : Bool) → eqb k 13 ≡ x → (y : Bool) → eqb k 14 ≡ y → 5 ≡ used T k
+    go true e y f = rw (eqb-true k 13 e)
+    go false e true f = rw (eqb-true k 14 f)
+    go false e false f = used_unknown T k (omega (arith, n8, n9, n10, n11, n12, n15, eqb-false k 13 e, eqb-false k 14 f))
 
 module _ (T : List ℕ) (r : TypeRow) (k : ℕ) (b : Bool) where
   pub unused_low : k < 8 → b ≡ is_set_from r 0 → b ≡ is_set_from r (used T k)
@@ -297,16 +300,8 @@ module _ (T : List ℕ) (r : TypeRow) (k : ℕ) (b : Bool) where
   pub unused_two : 8 ≤ k → (k ≡ 8 → ⊥) → (k ≡ 10 → ⊥) → (k ≡ 12 → ⊥) → (k ≡ 13 → ⊥) → (k ≡ 14 → ⊥) → k < 16 → b ≡ is_set_from r 2 → b ≡ is_set_from r (used T k)
   unused_two h u x y z w l e = e ∙ ap (is_set_from r) (used_two T k (omega (arith, u)) x y z w l)
 
--- of an enum, with and without lists
+-- of an enum in a table without lists
 module _ (T : List ℕ) (r : TypeRow) (b : Bool) (eb : b ≡ with_lists T) where
-  pub enum_listed : b ≡ true → not (eqb r.e 0) ≡ is_set_from r (used T 8)
-  unfolding used is_set_from any
-  enum_listed q = rw (← eb, q) (go (not (eqb r.e 0)))
-    where
-      go : (s : Bool) → s ≡ s || false
-      go true = refl
-      go false = refl
-
   pub enum_plain : b ≡ false → (s : Bool) → s ≡ is_set_from r 2 → s ≡ is_set_from r (used T 8)
   unfolding used
   enum_plain q s e = rw (← eb, q) e
@@ -323,9 +318,6 @@ module _ (T : List ℕ) (r : TypeRow) (k : ℕ) where
   pub unused_class : k ≡ 14 → false ≡ is_set_from r (used T k)
   unfolding used
   unused_class h = rw h none_set
-
-  pub unused_unknown : 16 ≤ k → false ≡ is_set_from r (used T k)
-  unused_unknown h = none_set ∙ ap (is_set_from r) (used_unknown T k h)
 
 -- ---- references
 
@@ -410,12 +402,9 @@ any_same f g h [] = refl
 any_same f g h (i ∷ l) = rw (h i, any_same f g h l)
 
 -- the part of the table that is a row's name
-module _ (T : List ℕ) (t p a l : ℕ) (row : TypeRow) (r : Bool) (i : IsTypeRow T t row) (ep : p ≡ names_at T) (ea : a ≡ min (p + row.d) (length T)) (el : l ≡ min row.e (length T - a)) where
+module _ (T : List ℕ) (t a l : ℕ) (r : Bool) (ea : a ≡ name_start T t) (el : l ≡ length (name_of T t)) where
   name_taken : take (a + l - a) (drop a T) ≡ name_of T t
-  name_taken =
-      let n = name_long T t a row.e l (name_least T t p row.d ep i.d_is a ea) i.e_is el in
-      let z : a + l - a ≡ length (name_of T t) = omega (arith, n) in
-      rw (z, name_least T t p row.d ep i.d_is a ea, name_part T t)
+  name_taken = let z : a + l - a ≡ length (name_of T t) = omega (arith, el) in rw (z, ea, name_part T t)
 
   pub alike_is : (from : ℕ) → r ≡ any (is_named T (take (a + l - a) (drop a T))) (range from (t - from)) → r ≡ alike_from T from t
   unfolding alike_from
@@ -475,146 +464,148 @@ module _ (T : List ℕ) (t from : ℕ) (inv : Plain T t from) where
 -- ---- the rules of each kind
 
 module _ (r : TypeRow) (g : ℕ) (e : g ≡ greatest_of r) where
-  pub enum_great : 2147483648 ≤ g → 38 ≡ first_of (enum_rules r)
-  unfolding first_of enum_rules negative
+  pub enum_great : 2147483648 ≤ g → Err 38 ≡ broken_of (enum_rules r)
+  unfolding broken_of class_of first_of enum_rules negative
   enum_great h = rw (← e, le-leb (2 ^ 31) g h)
 
-  pub enum_fine : g < 2147483648 → 0 ≡ first_of (enum_rules r)
-  unfolding first_of enum_rules negative
+  pub enum_fine : g < 2147483648 → Ok tt ≡ broken_of (enum_rules r)
+  unfolding broken_of class_of first_of enum_rules negative
   enum_fine h = rw (← e, lt-leb (2 ^ 31) g h)
 
 module _ (r : TypeRow) (n : ℕ) where
-  pub struct_first : (r.a ≡ n → ⊥) → 35 ≡ first_of (struct_rules r n)
-  unfolding first_of struct_rules
+  pub struct_first : (r.a ≡ n → ⊥) → Err 35 ≡ broken_of (struct_rules r n)
+  unfolding broken_of class_of first_of struct_rules
   struct_first h = rw (ne_eqb r.a n h)
 
-  pub list_first : (r.a ≡ n → ⊥) → 35 ≡ first_of (list_rules r n)
-  unfolding first_of list_rules
+  pub list_first : (r.a ≡ n → ⊥) → Err 35 ≡ broken_of (list_rules r n)
+  unfolding broken_of class_of first_of list_rules
   list_first h = rw (ne_eqb r.a n h)
 
-  pub list_fine : r.a ≡ n → 0 ≡ first_of (list_rules r n)
-  unfolding first_of list_rules
+  pub list_fine : r.a ≡ n → Ok tt ≡ broken_of (list_rules r n)
+  unfolding broken_of class_of first_of list_rules
   list_fine h = rw (eq-eqb r.a n h)
 
   module _ (first : r.a ≡ n) where
-    pub struct_empty : r.b ≡ 0 → 36 ≡ first_of (struct_rules r n)
-    unfolding first_of struct_rules
+    pub struct_empty : r.b ≡ 0 → Err 36 ≡ broken_of (struct_rules r n)
+    unfolding broken_of class_of first_of struct_rules
     struct_empty z = rw (eq-eqb r.a n first, eq-eqb r.b 0 z)
 
-    pub struct_fine : (r.b ≡ 0 → ⊥) → 0 ≡ first_of (struct_rules r n)
-    unfolding first_of struct_rules
+    pub struct_fine : (r.b ≡ 0 → ⊥) → Ok tt ≡ broken_of (struct_rules r n)
+    unfolding broken_of class_of first_of struct_rules
     struct_fine z = rw (eq-eqb r.a n first, ne_eqb r.b 0 z)
 
 module _ (T : List ℕ) (t : ℕ) (r : TypeRow) (b : Bool) (eb : b ≡ no_part T t r.a) where
-  pub seq_broken : b ≡ true → 34 ≡ first_of (seq_rules T t r)
-  unfolding first_of seq_rules
+  pub seq_broken : b ≡ true → Err 34 ≡ broken_of (seq_rules T t r)
+  unfolding broken_of class_of first_of seq_rules
   seq_broken q = rw (← eb, q)
 
-  pub seq_fine : b ≡ false → 0 ≡ first_of (seq_rules T t r)
-  unfolding first_of seq_rules
+  pub seq_fine : b ≡ false → Ok tt ≡ broken_of (seq_rules T t r)
+  unfolding broken_of class_of first_of seq_rules
   seq_fine q = rw (← eb, q)
 
-  pub dict_key : b ≡ true → 34 ≡ first_of (dict_rules T t r)
-  unfolding first_of dict_rules
+  pub dict_key : b ≡ true → Err 34 ≡ broken_of (dict_rules T t r)
+  unfolding broken_of class_of first_of dict_rules
   dict_key q = rw (← eb, q)
 
   module _ (key : b ≡ false) (s : Bool) (es : s ≡ no_part T t r.b) where
-    pub dict_value : s ≡ true → 34 ≡ first_of (dict_rules T t r)
-    unfolding first_of dict_rules
+    pub dict_value : s ≡ true → Err 34 ≡ broken_of (dict_rules T t r)
+    unfolding broken_of class_of first_of dict_rules
     dict_value q = rw (← eb, key, ← es, q)
 
-    pub dict_fine : s ≡ false → 0 ≡ first_of (dict_rules T t r)
-    unfolding first_of dict_rules
+    pub dict_fine : s ≡ false → Ok tt ≡ broken_of (dict_rules T t r)
+    unfolding broken_of class_of first_of dict_rules
     dict_fine q = rw (← eb, key, ← es, q)
 
 module _ (T : List ℕ) (t : ℕ) (r : TypeRow) (n : ℕ) (s b : Bool) (eb : b ≡ no_base_of T t r.kind r.c) where
-  pub record_base : b ≡ true → 34 ≡ first_of (record_rules T t r n s)
-  unfolding first_of record_rules
+  pub record_base : b ≡ true → Err 34 ≡ broken_of (record_rules T t r n s)
+  unfolding broken_of class_of first_of record_rules
   record_base q = rw (← eb, q)
 
   module _ (base : b ≡ false) where
-    pub record_first : (r.a ≡ n → ⊥) → 35 ≡ first_of (record_rules T t r n s)
-    unfolding first_of record_rules
+    pub record_first : (r.a ≡ n → ⊥) → Err 35 ≡ broken_of (record_rules T t r n s)
+    unfolding broken_of class_of first_of record_rules
     record_first h = rw (← eb, base, ne_eqb r.a n h)
 
     module _ (first : r.a ≡ n) where
-      pub record_empty : r.e ≡ 0 → 37 ≡ first_of (record_rules T t r n s)
-      unfolding first_of record_rules
+      pub record_empty : r.e ≡ 0 → Err 37 ≡ broken_of (record_rules T t r n s)
+      unfolding broken_of class_of first_of record_rules
       record_empty z = rw (← eb, base, eq-eqb r.a n first, eq-eqb r.e 0 z)
 
       module _ (some : r.e ≡ 0 → ⊥) where
-        pub record_long : 255 < r.e → 37 ≡ first_of (record_rules T t r n s)
-        unfolding first_of record_rules
+        pub record_long : 255 < r.e → Err 37 ≡ broken_of (record_rules T t r n s)
+        unfolding broken_of class_of first_of record_rules
         record_long h = rw (← eb, base, eq-eqb r.a n first, ne_eqb r.e 0 some, lt-ltb 255 r.e h)
 
         module _ (short : r.e ≤ 255) (k : ℕ) (ek : k ≡ names T) where
-          pub record_outside : k < r.d + r.e → 37 ≡ first_of (record_rules T t r n s)
-          unfolding first_of record_rules
+          pub record_outside : k < r.d + r.e → Err 37 ≡ broken_of (record_rules T t r n s)
+          unfolding broken_of class_of first_of record_rules
           record_outside h = rw (← eb, base, eq-eqb r.a n first, ne_eqb r.e 0 some, le-ltb 255 r.e short, ← ek, lt-ltb k (r.d + r.e) h)
 
           module _ (within : r.d + r.e ≤ k) (a : Bool) (ea : a ≡ s) where
-            pub record_alike : a ≡ true → 37 ≡ first_of (record_rules T t r n s)
-            unfolding first_of record_rules
+            pub record_alike : a ≡ true → Err 37 ≡ broken_of (record_rules T t r n s)
+            unfolding broken_of class_of first_of record_rules
             record_alike q = rw (← eb, base, eq-eqb r.a n first, ne_eqb r.e 0 some, le-ltb 255 r.e short, ← ek, le-ltb k (r.d + r.e) within, ← ea, q)
 
             module _ (new : a ≡ false) (u : Bool) (eu : u ≡ is_utf8 (name_of T t)) where
-              pub record_other : u ≡ false → 37 ≡ first_of (record_rules T t r n s)
-              unfolding first_of record_rules
+              pub record_other : u ≡ false → Err 37 ≡ broken_of (record_rules T t r n s)
+              unfolding broken_of class_of first_of record_rules
               record_other q =
                   rw (← eb, base, eq-eqb r.a n first, ne_eqb r.e 0 some, le-ltb 255 r.e short, ← ek, le-ltb k (r.d + r.e) within, ← ea, new, ← eu, q)
 
-              pub record_fine : u ≡ true → 0 ≡ first_of (record_rules T t r n s)
-              unfolding first_of record_rules
+              pub record_fine : u ≡ true → Ok tt ≡ broken_of (record_rules T t r n s)
+              unfolding broken_of class_of first_of record_rules
               record_fine q =
                   rw (← eb, base, eq-eqb r.a n first, ne_eqb r.e 0 some, le-ltb 255 r.e short, ← ek, le-ltb k (r.d + r.e) within, ← ea, new, ← eu, q)
 
-module _ (T : List ℕ) (t : ℕ) (r : TypeRow) (n c : ℕ) (s : Bool) where
-  pub kind_enum : r.kind ≡ 8 → c ≡ first_of (enum_rules r) → c ≡ first_of (kind_rules T t r n s)
+module _ (T : List ℕ) (t : ℕ) (r : TypeRow) (n : ℕ) (c : Result Unit ℕ) (s : Bool) where
+  pub kind_enum : r.kind ≡ 8 → c ≡ broken_of (enum_rules r) → c ≡ broken_of (kind_rules T t r n s)
   unfolding kind_rules enum_rules
   kind_enum e h = rw e h
 
-  pub kind_struct : r.kind ≡ 9 → c ≡ first_of (struct_rules r n) → c ≡ first_of (kind_rules T t r n s)
+  pub kind_struct : r.kind ≡ 9 → c ≡ broken_of (struct_rules r n) → c ≡ broken_of (kind_rules T t r n s)
   unfolding kind_rules struct_rules
   kind_struct e h = rw e h
 
-  pub kind_seq : r.kind ≡ 10 → c ≡ first_of (seq_rules T t r) → c ≡ first_of (kind_rules T t r n s)
+  pub kind_seq : r.kind ≡ 10 → c ≡ broken_of (seq_rules T t r) → c ≡ broken_of (kind_rules T t r n s)
   unfolding kind_rules seq_rules
   kind_seq e h = rw e h
 
-  pub kind_dict : r.kind ≡ 11 → c ≡ first_of (dict_rules T t r) → c ≡ first_of (kind_rules T t r n s)
+  pub kind_dict : r.kind ≡ 11 → c ≡ broken_of (dict_rules T t r) → c ≡ broken_of (kind_rules T t r n s)
   unfolding kind_rules dict_rules
   kind_dict e h = rw e h
 
-  pub kind_list : r.kind ≡ 15 → c ≡ first_of (list_rules r n) → c ≡ first_of (kind_rules T t r n s)
+  pub kind_list : r.kind ≡ 15 → c ≡ broken_of (list_rules r n) → c ≡ broken_of (kind_rules T t r n s)
   unfolding kind_rules list_rules
   kind_list e h = rw e h
 
   module _ (e8 : r.kind ≡ 8 → ⊥) (e9 : r.kind ≡ 9 → ⊥) (e10 : r.kind ≡ 10 → ⊥) (e11 : r.kind ≡ 11 → ⊥) (b : Bool) (eb : b ≡ is_record r.kind) where
-    pub kind_record : b ≡ true → c ≡ first_of (record_rules T t r n s) → c ≡ first_of (kind_rules T t r n s)
+    pub kind_record : b ≡ true → c ≡ broken_of (record_rules T t r n s) → c ≡ broken_of (kind_rules T t r n s)
     unfolding kind_rules
     kind_record q h = rw (ne_eqb r.kind 8 e8, ne_eqb r.kind 9 e9, ne_eqb r.kind 10 e10, ne_eqb r.kind 11 e11, sym eb ∙ q) h
 
-    pub kind_plain : b ≡ false → (r.kind ≡ 15 → ⊥) → 0 ≡ first_of (kind_rules T t r n s)
-    unfolding kind_rules first_of
+module _ (T : List ℕ) (t : ℕ) (r : TypeRow) (n : ℕ) (s : Bool) where
+  module _ (e8 : r.kind ≡ 8 → ⊥) (e9 : r.kind ≡ 9 → ⊥) (e10 : r.kind ≡ 10 → ⊥) (e11 : r.kind ≡ 11 → ⊥) (b : Bool) (eb : b ≡ is_record r.kind) where
+    pub kind_plain : b ≡ false → (r.kind ≡ 15 → ⊥) → Ok tt ≡ broken_of (kind_rules T t r n s)
+    unfolding kind_rules broken_of class_of first_of
     kind_plain q e = rw (ne_eqb r.kind 8 e8, ne_eqb r.kind 9 e9, ne_eqb r.kind 10 e10, ne_eqb r.kind 11 e11, sym eb ∙ q, ne_eqb r.kind 15 e)
 
 module _ (T : List ℕ) (t : ℕ) (r : TypeRow) (n : ℕ) (s : Bool) where
-  pub row_spare : (r.spare ≡ 0 → ⊥) → 32 ≡ first_of (row_rules T t r n s)
-  unfolding first_of row_rules
+  pub row_spare : (r.spare ≡ 0 → ⊥) → Err 32 ≡ broken_of (row_rules T t r n s)
+  unfolding broken_of class_of first_of row_rules
   row_spare h = rw (ne_eqb r.spare 0 h)
 
   module _ (spare : r.spare ≡ 0) (u : Bool) (eu : u ≡ is_set_from r (used T r.kind)) where
-    pub row_unused : u ≡ true → 32 ≡ first_of (row_rules T t r n s)
-    unfolding first_of row_rules
+    pub row_unused : u ≡ true → Err 32 ≡ broken_of (row_rules T t r n s)
+    unfolding broken_of class_of first_of row_rules
     row_unused q = rw (eq-eqb r.spare 0 spare, ← eu, q)
 
     module _ (none : u ≡ false) where
-      pub row_unknown : 15 < r.kind → 33 ≡ first_of (row_rules T t r n s)
-      unfolding first_of row_rules
+      pub row_unknown : 15 < r.kind → Err 33 ≡ broken_of (row_rules T t r n s)
+      unfolding broken_of class_of first_of row_rules
       row_unknown h = rw (eq-eqb r.spare 0 spare, ← eu, none, lt-ltb 15 r.kind h)
 
-      pub row_known : r.kind ≤ 15 → (c : ℕ) → c ≡ first_of (kind_rules T t r n s) → c ≡ first_of (row_rules T t r n s)
-      unfolding first_of row_rules
+      pub row_known : r.kind ≤ 15 → (c : Result Unit ℕ) → c ≡ broken_of (kind_rules T t r n s) → c ≡ broken_of (row_rules T t r n s)
+      unfolding broken_of class_of first_of row_rules
       row_known h c e = e ∙ sym (rw (eq-eqb r.spare 0 spare, ← eu, none, le-ltb 15 r.kind h))
 
 -- ---- the member rows that rows take
@@ -694,46 +685,53 @@ module _ (T : List ℕ) (t : ℕ) (basic : is_basic T t ≡ true) where
       let z = either_false (eqb (kind T t) 9) _ (low_owns (kind T t) (omega (arith, basic_kind))) in
       (either_false (is_record (kind T t)) _ z.1).0
 
-  basic_rules : 0 ≡ first_of (type_rules T t)
+  basic_rules : Ok tt ≡ broken_of (type_rules T t)
+  unfolding broken_of
   basic_rules =
       let l = basic_kind in
       let r = type_row_of T t in
-      row_known T t r (taken T t) (alike T t) basic_spare false (unused_low T r (kind T t) false l basic_clear) refl (omega arith) 0
-      (kind_plain T t r (taken T t) 0 (alike T t) (λ e. omega arith) (λ e. omega arith) (λ e. omega arith) (λ e. omega arith) (is_record (kind T t)) refl basic_plain (λ e. omega arith))
-      ∙ row_rules_lem T t
+      row_known T t r (taken T t) (alike T t) basic_spare false (unused_low T r (kind T t) false l basic_clear) refl (omega arith) (Ok tt)
+      (kind_plain T t r (taken T t) (alike T t) (λ e. omega arith) (λ e. omega arith) (λ e. omega arith) (λ e. omega arith) (is_record (kind T t)) refl basic_plain (λ e. omega arith))
+      ∙ ap class_of (row_rules_lem T t)
 
   basic_share : 0 ≡ share (type_row_of T t)
   basic_share = share_none (type_row_of T t) (owns (kind T t)) refl (low_owns (kind T t) (omega (arith, basic_kind)))
 
 -- ---- a pass
 
-module _ (place : ℕ → ℕ) (f : ℕ → List (ℕ × Bool)) (r c : ℕ) (l : List ℕ) (e : c ≡ first_of (f r)) where
-  pass_fault : (c ≡ 0 → ⊥) → finding_of (pass place f (r ∷ l)) ≡ Broken c (place r)
-  unfolding pass finding_of or_else fault_at
-  pass_fault h = rw (← e) (go c h)
-    where
-      go : (c : ℕ) → (c ≡ 0 → ⊥) → finding_of (or_else (fault_at (place r) c) (pass place f l)) ≡ Broken c (place r)
-      go zero h = absurd (h refl)
-      go (suc c) h = refl
+-- a class at its place
+placed_at : (p c : ℕ) → placed p (class_of c) ≡ finding_of (fault_at p c)
+unfolding placed class_of finding_of fault_at
+placed_at p zero = refl
+placed_at p (suc c) = refl
 
-  pass_next : c ≡ 0 → pass place f (r ∷ l) ≡ pass place f l
-  unfolding pass or_else fault_at
-  pass_next h = rw (← e, h)
-
-or_finding : (f g : Fault) → finding_of f ≡ Fine → finding_of (or_else f g) ≡ finding_of g
+or_finding : (f g : Fault) (u : Unit) → finding_of f ≡ Ok u → finding_of (or_else f g) ≡ finding_of g
 unfolding finding_of or_else
-or_finding fine g e = refl
-or_finding (fault c p) g e = let z : ◌≡◌ {A = ℕ} 0 1 = cc in absurd (omega arith)
+or_finding fine g u e = refl
+or_finding (fault c p) g u e = let z : ◌≡◌ {A = ℕ} 0 1 = cc in absurd (omega arith)
 
-or_broken : (f g : Fault) (c p : ℕ) → finding_of f ≡ Broken c p → finding_of (or_else f g) ≡ Broken c p
+or_broken : (f g : Fault) (x : Refusal) → finding_of f ≡ Err x → finding_of (or_else f g) ≡ Err x
 unfolding finding_of or_else
-or_broken fine g c p e = let z : ◌≡◌ {A = ℕ} 0 1 = cc in absurd (omega arith)
-or_broken (fault k q) g c p e = e
+or_broken fine g x e = let z : ◌≡◌ {A = ℕ} 0 1 = cc in absurd (omega arith)
+or_broken (fault k q) g x e = e
 
-pub is_fine : (f : Fault) → finding_of f ≡ Fine → f ≡ fine
+pub is_fine : (f : Fault) (u : Unit) → finding_of f ≡ Ok u → f ≡ fine
 unfolding finding_of
-is_fine fine e = refl
-is_fine (fault c p) e = let z : ◌≡◌ {A = ℕ} 0 1 = cc in absurd (omega arith)
+is_fine fine u e = refl
+is_fine (fault c p) u e = let z : ◌≡◌ {A = ℕ} 0 1 = cc in absurd (omega arith)
+
+module _ (place : ℕ → ℕ) (f : ℕ → List (ℕ × Bool)) (r : ℕ) (l : List ℕ) (v : Result Unit Refusal) (e : v ≡ placed (place r) (broken_of (f r))) where
+  row_finding : finding_of (fault_at (place r) (first_of (f r))) ≡ v
+  unfolding broken_of
+  row_finding = sym (e ∙ placed_at (place r) (first_of (f r)))
+
+  pass_fault : (x : Refusal) → v ≡ Err x → finding_of (pass place f (r ∷ l)) ≡ Err x
+  unfolding pass
+  pass_fault x q = or_broken (fault_at (place r) (first_of (f r))) (pass place f l) x (row_finding ∙ q)
+
+  pass_next : (u : Unit) → v ≡ Ok u → finding_of (pass place f (r ∷ l)) ≡ finding_of (pass place f l)
+  unfolding pass
+  pass_next u q = or_finding (fault_at (place r) (first_of (f r))) (pass place f l) u (row_finding ∙ q)
 
 -- over the type rows, and the member sum
 pub record Types (T : List ℕ) (n t prior from : ℕ) : Type 0 where
@@ -748,30 +746,31 @@ unfolding type_pass types
 types_begin T small n e = let z : n - 0 ≡ types T = omega arith in record { within = omega arith; few = omega (arith, at_below T small 2 5); sum = sum_begin T; plain = plain_begin T; rest = rw z }
 
 module _ (T : List ℕ) (n t prior from : ℕ) (inv : Types T n t prior from) where
-  module _ (e : n ≡ types T) (h : n ≤ t) (v : Finding) (ev : v ≡ finding_of (allowed_pass T)) where
+  module _ (e : n ≡ types T) (h : n ≤ t) (v : Result Unit Refusal) (ev : v ≡ finding_of (allowed_pass T)) where
     past_rows : finding_of (rows_pass T) ≡ finding_of (or_else (allowed_pass T) (sum_rules T))
     unfolding rows_pass finding_of pass
-    past_rows = or_finding (type_pass T) _ (inv.rest ∙ rw (range_none t n h))
+    past_rows = or_finding (type_pass T) _ tt (inv.rest ∙ rw (range_none t n h))
 
-    pub types_lists : (c p : ℕ) → v ≡ Broken c p → Broken c p ≡ finding_of (rows_pass T)
-    types_lists c p q = sym (past_rows ∙ or_broken (allowed_pass T) (sum_rules T) c p (sym ev ∙ q))
+    pub types_lists : (x : Refusal) → v ≡ Err x → Err x ≡ finding_of (rows_pass T)
+    types_lists x q = sym (past_rows ∙ or_broken (allowed_pass T) (sum_rules T) x (sym ev ∙ q))
 
-    module _ (q : v ≡ Fine) (m : ℕ) (em : m ≡ members T) where
+    module _ (u : Unit) (q : v ≡ Ok u) (m : ℕ) (em : m ≡ members T) where
       past_lists : finding_of (rows_pass T) ≡ finding_of (sum_rules T)
-      past_lists = past_rows ∙ or_finding (allowed_pass T) (sum_rules T) (sym ev ∙ q)
+      past_lists = past_rows ∙ or_finding (allowed_pass T) (sum_rules T) u (sym ev ∙ q)
 
       sum_is : prior ≡ taken T (types T)
       sum_is = let z : t ≡ types T = omega (arith, inv.within) in inv.sum.so_far ∙ ap (taken T) z
 
-      pub types_sum : (prior ≡ m → ⊥) → Broken 35 0 ≡ finding_of (rows_pass T)
+      pub types_sum : (prior ≡ m → ⊥) → refused 35 0 ≡ finding_of (rows_pass T)
       unfolding sum_rules fault_at finding_of
       types_sum z = sym (past_lists ∙ rw (← sum_is, ← em, ne_eqb prior m z))
 
-      pub types_end : prior ≡ m → Fine ≡ finding_of (rows_pass T)
+      pub types_end : prior ≡ m → Ok tt ≡ finding_of (rows_pass T)
       unfolding sum_rules fault_at finding_of
       types_end z = sym (past_lists ∙ rw (← sum_is, ← em, eq-eqb prior m z))
 
   pub types_basic : t < n → (b : Bool) → b ≡ is_basic T t → b ≡ true → (f : ℕ) → f ≡ past from t true → Types T n (t + 1) prior f
+  unfolding placed
   types_basic h b e q f ef =
       let basic = sym e ∙ q in
       record {
@@ -779,26 +778,28 @@ module _ (T : List ℕ) (n t prior from : ℕ) (inv : Types T n t prior from) wh
         few = inv.few;
         sum = rw add-zero at (sum_next T t prior 0 inv.sum (basic_share T t basic) (omega arith));
         plain = rw ef (plain_next T t from inv.plain true (λ y. basic_plain T t basic));
-        rest = inv.rest ∙ rw (range_more t n h) (ap finding_of (pass_next (row_at T) (type_rules T) t 0 (range (t + 1) (n - (t + 1))) (basic_rules T t basic) refl));
+        rest = inv.rest ∙ rw (range_more t n h) (pass_next (row_at T) (type_rules T) t (range (t + 1) (n - (t + 1))) (Ok tt) (ap (placed (row_at T t)) (basic_rules T t basic)) tt refl);
       }
 
-  module _ (h : t < n) (r : TypeRow) (er : IsTypeRow T t r) (c : ℕ) (e : c ≡ first_of (row_rules T t r prior (alike_from T from t))) where
-    types_row : c ≡ first_of (type_rules T t)
+  module _ (h : t < n) (r : TypeRow) (er : IsTypeRow T t r) (p : ℕ) (ep : p ≡ row_at T t) (c : Result Unit ℕ) (e : c ≡ broken_of (row_rules T t r prior (alike_from T from t))) (v : Result Unit Refusal) (ev : v ≡ placed p c) where
+    types_row : v ≡ placed (row_at T t) (broken_of (type_rules T t))
+    unfolding broken_of
     types_row =
-        e ∙ ap₂ (λ (z : TypeRow) (y : ℕ). first_of (row_rules T t z y (alike_from T from t))) (whole_type T t r er) inv.sum.so_far
-        ∙ ap (λ (b : Bool). first_of (row_rules T t (type_row_of T t) (taken T t) b)) (alike_from_lem T t from inv.plain) ∙ row_rules_lem T t
+        ev ∙ ap₂ placed ep
+        (e ∙ ap₂ (λ (z : TypeRow) (y : ℕ). broken_of (row_rules T t z y (alike_from T from t))) (whole_type T t r er) inv.sum.so_far
+        ∙ ap (λ (b : Bool). broken_of (row_rules T t (type_row_of T t) (taken T t) b)) (alike_from_lem T t from inv.plain) ∙ ap class_of (row_rules_lem T t))
 
-    pub types_fault : (c ≡ 0 → ⊥) → (p : ℕ) → p ≡ row_at T t → Broken c p ≡ finding_of (rows_pass T)
+    pub types_fault : (x : Refusal) → v ≡ Err x → Err x ≡ finding_of (rows_pass T)
     unfolding rows_pass
-    types_fault z p ep = ap (Broken c) ep ∙ sym (or_broken (type_pass T) _ c (row_at T t) (inv.rest ∙ rw (range_more t n h) (pass_fault (row_at T) (type_rules T) t c (range (t + 1) (n - (t + 1))) types_row z)))
+    types_fault x q = sym (or_broken (type_pass T) _ x (inv.rest ∙ rw (range_more t n h) (pass_fault (row_at T) (type_rules T) t (range (t + 1) (n - (t + 1))) v types_row x q)))
 
-    pub types_next : c ≡ 0 → (s : ℕ) → s ≡ share r → s ≤ r.b → (b : Bool) → b ≡ is_record r.kind → (f : ℕ) → f ≡ past from t (not b) → Types T n (t + 1) (prior + s) f
-    types_next z s es hs b eb f ef = record {
+    pub types_next : (u : Unit) → v ≡ Ok u → (s : ℕ) → s ≡ share r → s ≤ r.b → (b : Bool) → b ≡ is_record r.kind → (f : ℕ) → f ≡ past from t (not b) → Types T n (t + 1) (prior + s) f
+    types_next u q s es hs b eb f ef = record {
       within = omega arith;
       few = inv.few;
       sum = sum_next T t prior s inv.sum (es ∙ ap share (whole_type T t r er)) (omega (arith, er.b_small));
       plain = rw ef (plain_next T t from inv.plain (not b) (λ q. sym (eb ∙ ap is_record er.kind_is) ∙ not-true b q));
-      rest = inv.rest ∙ rw (range_more t n h) (ap finding_of (pass_next (row_at T) (type_rules T) t c (range (t + 1) (n - (t + 1))) types_row z));
+      rest = inv.rest ∙ rw (range_more t n h) (pass_next (row_at T) (type_rules T) t (range (t + 1) (n - (t + 1))) v types_row u q);
     }
 
 -- ---- lists
@@ -838,27 +839,27 @@ module _ (T : List ℕ) (c d g : ℕ) where
 
 -- the rules of a list
 module _ (T : List ℕ) (all : ℕ) (r : TypeRow) (n : ℕ) where
-  pub allowed_other : (r.kind ≡ 8 → ⊥) → 0 ≡ first_of (allowed_rules_by T all r n)
-  unfolding first_of allowed_rules_by
+  pub allowed_other : (r.kind ≡ 8 → ⊥) → Ok tt ≡ broken_of (allowed_rules_by T all r n)
+  unfolding broken_of class_of first_of allowed_rules_by
   allowed_other h = rw (ne_eqb r.kind 8 h)
 
   module _ (e8 : r.kind ≡ 8) where
-    pub allowed_first : (r.c ≡ n → ⊥) → 39 ≡ first_of (allowed_rules_by T all r n)
-    unfolding first_of allowed_rules_by
+    pub allowed_first : (r.c ≡ n → ⊥) → Err 39 ≡ broken_of (allowed_rules_by T all r n)
+    unfolding broken_of class_of first_of allowed_rules_by
     allowed_first h = rw (eq-eqb r.kind 8 e8, ne_eqb r.c n h)
 
     module _ (first : r.c ≡ n) where
-      pub allowed_outside : all < r.c + r.d → 39 ≡ first_of (allowed_rules_by T all r n)
-      unfolding first_of allowed_rules_by
+      pub allowed_outside : all < r.c + r.d → Err 39 ≡ broken_of (allowed_rules_by T all r n)
+      unfolding broken_of class_of first_of allowed_rules_by
       allowed_outside h = rw (eq-eqb r.kind 8 e8, eq-eqb r.c n first, lt-ltb _ _ h)
 
       module _ (inside : r.c + r.d ≤ all) (g : ℕ) (eg : g ≡ greatest_of r) (b : Bool) (eb : b ≡ rises_to g (map (list_entry T) (range r.c r.d))) where
-        pub allowed_falls : not b ≡ true → 39 ≡ first_of (allowed_rules_by T all r n)
-        unfolding first_of allowed_rules_by
+        pub allowed_falls : not b ≡ true → Err 39 ≡ broken_of (allowed_rules_by T all r n)
+        unfolding broken_of class_of first_of allowed_rules_by
         allowed_falls q = rw (eq-eqb r.kind 8 e8, eq-eqb r.c n first, le-ltb _ _ inside, ← eg, ← eb, q)
 
-        pub allowed_fine : not b ≡ false → 0 ≡ first_of (allowed_rules_by T all r n)
-        unfolding first_of allowed_rules_by
+        pub allowed_fine : not b ≡ false → Ok tt ≡ broken_of (allowed_rules_by T all r n)
+        unfolding broken_of class_of first_of allowed_rules_by
         allowed_fine q = rw (eq-eqb r.kind 8 e8, eq-eqb r.c n first, le-ltb _ _ inside, ← eg, ← eb, q)
 
 module _ (r : TypeRow) where
@@ -886,58 +887,60 @@ module _ (T : List ℕ) (n t prior : ℕ) (inv : Lists T n t prior) where
   module _ (e : n ≡ types T) (h : n ≤ t) (all : ℕ) (ea : all ≡ entries T) where
     past_all : finding_of (allowed_pass T) ≡ finding_of (entries_rules T)
     unfolding allowed_pass finding_of pass
-    past_all = or_finding _ (entries_rules T) (inv.rest ∙ rw (range_none t n h))
+    past_all = or_finding _ (entries_rules T) tt (inv.rest ∙ rw (range_none t n h))
 
     taken_is : prior ≡ entries_taken T (types T)
     taken_is = let z : t ≡ types T = omega (arith, inv.within) in inv.so_far ∙ ap (entries_taken T) z
 
-    pub lists_left : (prior ≡ all → ⊥) → Broken 39 0 ≡ finding_of (allowed_pass T)
+    pub lists_left : (prior ≡ all → ⊥) → refused 39 0 ≡ finding_of (allowed_pass T)
     unfolding entries_rules fault_at finding_of
     lists_left z = sym (past_all ∙ rw (← taken_is, ← ea, ne_eqb prior all z))
 
-    pub lists_end : prior ≡ all → Fine ≡ finding_of (allowed_pass T)
+    pub lists_end : prior ≡ all → Ok tt ≡ finding_of (allowed_pass T)
     unfolding entries_rules fault_at finding_of
     lists_end z = sym (past_all ∙ rw (← taken_is, ← ea, eq-eqb prior all z))
 
-  module _ (lists : with_lists T ≡ true) (h : t < n) (r : TypeRow) (er : IsTypeRow T t r) (all : ℕ) (ea : all ≡ entries T) (c : ℕ) (e : c ≡ first_of (allowed_rules_by T all r prior)) where
-    list_row : c ≡ first_of (allowed_rules T t)
+  module _ (lists : with_lists T ≡ true) (h : t < n) (r : TypeRow) (er : IsTypeRow T t r) (p : ℕ) (ep : p ≡ row_at T t) (all : ℕ) (ea : all ≡ entries T) (c : Result Unit ℕ) (e : c ≡ broken_of (allowed_rules_by T all r prior)) (v : Result Unit Refusal) (ev : v ≡ placed p c) where
+    list_row : v ≡ placed (row_at T t) (broken_of (allowed_rules T t))
+    unfolding broken_of
     list_row =
-        e ∙ ap (λ (z : TypeRow). first_of (allowed_rules_by T all z prior)) (whole_type T t r er)
-        ∙ ap₂ (λ (y z : ℕ). first_of (allowed_rules_by T y (type_row_of T t) z)) ea inv.so_far ∙ allowed_rules_lem T lists t
+        ev ∙ ap₂ placed ep
+        (e ∙ ap (λ (z : TypeRow). broken_of (allowed_rules_by T all z prior)) (whole_type T t r er)
+        ∙ ap₂ (λ (y z : ℕ). broken_of (allowed_rules_by T y (type_row_of T t) z)) ea inv.so_far ∙ ap class_of (allowed_rules_lem T lists t))
 
-    pub lists_fault : (c ≡ 0 → ⊥) → (p : ℕ) → p ≡ row_at T t → Broken c p ≡ finding_of (allowed_pass T)
+    pub lists_fault : (x : Refusal) → v ≡ Err x → Err x ≡ finding_of (allowed_pass T)
     unfolding allowed_pass
-    lists_fault z p ep = ap (Broken c) ep ∙ sym (or_broken _ (entries_rules T) c (row_at T t) (inv.rest ∙ rw (range_more t n h) (pass_fault (row_at T) (allowed_rules T) t c (range (t + 1) (n - (t + 1))) list_row z)))
+    lists_fault x q = sym (or_broken _ (entries_rules T) x (inv.rest ∙ rw (range_more t n h) (pass_fault (row_at T) (allowed_rules T) t (range (t + 1) (n - (t + 1))) v list_row x q)))
 
-    pub lists_next : c ≡ 0 → (s : ℕ) → s ≡ entry_count r → s ≤ r.d → Lists T n (t + 1) (prior + s)
+    pub lists_next : (u : Unit) → v ≡ Ok u → (s : ℕ) → s ≡ entry_count r → s ≤ r.d → Lists T n (t + 1) (prior + s)
     unfolding entries_taken taken_by has_list entry_count
-    lists_next z s es hs = record {
+    lists_next u q s es hs = record {
       within = omega arith;
       few = inv.few;
       so_far = rw (add-one, inv.so_far, lists, es ∙ ap entry_count (whole_type T t r er));
       bound = omega (arith, inv.bound, er.d_small);
-      rest = inv.rest ∙ rw (range_more t n h) (ap finding_of (pass_next (row_at T) (allowed_rules T) t c (range (t + 1) (n - (t + 1))) list_row z));
+      rest = inv.rest ∙ rw (range_more t n h) (pass_next (row_at T) (allowed_rules T) t (range (t + 1) (n - (t + 1))) v list_row u q);
     }
 
 -- a table without lists has none of these faults
 module _ (T : List ℕ) (none : with_lists T ≡ false) where
-  no_list : (t : ℕ) → 0 ≡ first_of (allowed_rules T t)
-  unfolding first_of allowed_rules has_list
+  no_list : (t : ℕ) → Ok tt ≡ broken_of (allowed_rules T t)
+  unfolding broken_of class_of first_of allowed_rules has_list
   no_list t = rw none
 
-  no_lists : (k i : ℕ) → finding_of (pass (row_at T) (allowed_rules T) (range i k)) ≡ Fine
-  unfolding finding_of pass range
+  no_lists : (k i : ℕ) → finding_of (pass (row_at T) (allowed_rules T) (range i k)) ≡ Ok tt
+  unfolding finding_of pass range placed
   no_lists zero i = refl
-  no_lists (suc k) i = ap finding_of (pass_next (row_at T) (allowed_rules T) i 0 (range (suc i) k) (no_list i) refl) ∙ no_lists k (suc i)
+  no_lists (suc k) i = pass_next (row_at T) (allowed_rules T) i (range (suc i) k) (Ok tt) (ap (placed (row_at T i)) (no_list i)) tt refl ∙ no_lists k (suc i)
 
   none_taken : (n : ℕ) → entries_taken T n ≡ 0
   unfolding entries_taken taken_by has_list
   none_taken zero = refl
   none_taken (suc n) = rw (none, none_taken n)
 
-pub lists_without : (T : List ℕ) (b : Bool) → b ≡ with_lists T → b ≡ false → Fine ≡ finding_of (allowed_pass T)
+pub lists_without : (T : List ℕ) (b : Bool) → b ≡ with_lists T → b ≡ false → Ok tt ≡ finding_of (allowed_pass T)
 unfolding allowed_pass entries_rules entries fault_at finding_of
-lists_without T b eb q = let none = sym eb ∙ q in sym (or_finding _ (entries_rules T) (no_lists T none (types T) 0) ∙ rw (none_taken T none (types T), none))
+lists_without T b eb q = let none = sym eb ∙ q in sym (or_finding _ (entries_rules T) tt (no_lists T none (types T) 0) ∙ rw (none_taken T none (types T), none))
 
 -- ---- member rows
 
@@ -977,88 +980,88 @@ module _ (T : List ℕ) (first m above g : ℕ) where
 
 -- the rules of a member row
 module _ (T : List ℕ) (o : ℕ) (r : MemberRow) where
-  pub required_tag : (r.tag ≡ 0 → ⊥) → 32 ≡ first_of (required_rules T o r)
-  unfolding first_of required_rules
+  pub required_tag : (r.tag ≡ 0 → ⊥) → Err 32 ≡ broken_of (required_rules T o r)
+  unfolding broken_of class_of first_of required_rules
   required_tag h = rw (ne_eqb r.tag 0 h)
 
   module _ (zero-tag : r.tag ≡ 0) (b : Bool) (eb : b ≡ no_part T o r.of) where
-    pub required_part : b ≡ true → 34 ≡ first_of (required_rules T o r)
-    unfolding first_of required_rules
+    pub required_part : b ≡ true → Err 34 ≡ broken_of (required_rules T o r)
+    unfolding broken_of class_of first_of required_rules
     required_part q = rw (eq-eqb r.tag 0 zero-tag, ← eb, q)
 
-    pub required_fine : b ≡ false → 0 ≡ first_of (required_rules T o r)
-    unfolding first_of required_rules
+    pub required_fine : b ≡ false → Ok tt ≡ broken_of (required_rules T o r)
+    unfolding broken_of class_of first_of required_rules
     required_fine q = rw (eq-eqb r.tag 0 zero-tag, ← eb, q)
 
 module _ (T : List ℕ) (o : ℕ) (own : TypeRow) (r : MemberRow) (b : Bool) (eb : b ≡ no_part T o r.of) (s : Bool) where
-  pub optional_part : b ≡ true → 34 ≡ first_of (optional_rules T o own r s)
-  unfolding first_of optional_rules
+  pub optional_part : b ≡ true → Err 34 ≡ broken_of (optional_rules T o own r s)
+  unfolding broken_of class_of first_of optional_rules
   optional_part q = rw (← eb, q)
 
   module _ (part : b ≡ false) where
-    pub optional_mark : 1 < r.mark → 36 ≡ first_of (optional_rules T o own r s)
-    unfolding first_of optional_rules
+    pub optional_mark : 1 < r.mark → Err 36 ≡ broken_of (optional_rules T o own r s)
+    unfolding broken_of class_of first_of optional_rules
     optional_mark h = rw (← eb, part, lt-ltb 1 r.mark h)
 
     module _ (marked : r.mark ≤ 1) where
-      pub optional_struct : own.kind ≡ 9 → 36 ≡ first_of (optional_rules T o own r s)
-      unfolding first_of optional_rules
+      pub optional_struct : own.kind ≡ 9 → Err 36 ≡ broken_of (optional_rules T o own r s)
+      unfolding broken_of class_of first_of optional_rules
       optional_struct h = rw (← eb, part, le-ltb 1 r.mark marked, eq-eqb own.kind 9 h)
 
       module _ (other : own.kind ≡ 9 → ⊥) where
-        pub optional_great : 2147483648 ≤ r.tag → 38 ≡ first_of (optional_rules T o own r s)
-        unfolding first_of optional_rules negative
+        pub optional_great : 2147483648 ≤ r.tag → Err 38 ≡ broken_of (optional_rules T o own r s)
+        unfolding broken_of class_of first_of optional_rules negative
         optional_great h = rw (← eb, part, le-ltb 1 r.mark marked, ne_eqb own.kind 9 other, le-leb (2 ^ 31) r.tag h)
 
         module _ (small : r.tag < 2147483648) (t : Bool) (et : t ≡ s) where
-          pub optional_alike : t ≡ true → 38 ≡ first_of (optional_rules T o own r s)
-          unfolding first_of optional_rules negative
+          pub optional_alike : t ≡ true → Err 38 ≡ broken_of (optional_rules T o own r s)
+          unfolding broken_of class_of first_of optional_rules negative
           optional_alike q = rw (← eb, part, le-ltb 1 r.mark marked, ne_eqb own.kind 9 other, lt-leb (2 ^ 31) r.tag small, ← et, q)
 
-          pub optional_fine : t ≡ false → 0 ≡ first_of (optional_rules T o own r s)
-          unfolding first_of optional_rules negative
+          pub optional_fine : t ≡ false → Ok tt ≡ broken_of (optional_rules T o own r s)
+          unfolding broken_of class_of first_of optional_rules negative
           optional_fine q = rw (← eb, part, le-ltb 1 r.mark marked, ne_eqb own.kind 9 other, lt-leb (2 ^ 31) r.tag small, ← et, q)
 
 module _ (T : List ℕ) (o : ℕ) (own : TypeRow) (r : MemberRow) (s : Bool) where
-  pub member_spare_lem : (r.spare ≡ 0 → ⊥) → 32 ≡ first_of (member_rules_by T o own r s)
-  unfolding first_of member_rules_by
+  pub member_spare_lem : (r.spare ≡ 0 → ⊥) → Err 32 ≡ broken_of (member_rules_by T o own r s)
+  unfolding broken_of class_of first_of member_rules_by
   member_spare_lem h = rw (ne_eqb r.spare 0 h)
 
-  module _ (spare : r.spare ≡ 0) (c : ℕ) where
-    pub member_required : r.mark ≡ 0 → c ≡ first_of (required_rules T o r) → c ≡ first_of (member_rules_by T o own r s)
-    unfolding first_of member_rules_by
+  module _ (spare : r.spare ≡ 0) (c : Result Unit ℕ) where
+    pub member_required : r.mark ≡ 0 → c ≡ broken_of (required_rules T o r) → c ≡ broken_of (member_rules_by T o own r s)
+    unfolding broken_of class_of first_of member_rules_by
     member_required h e = e ∙ sym (rw (eq-eqb r.spare 0 spare, eq-eqb r.mark 0 h))
 
-    pub member_optional : (r.mark ≡ 0 → ⊥) → c ≡ first_of (optional_rules T o own r s) → c ≡ first_of (member_rules_by T o own r s)
-    unfolding first_of member_rules_by
+    pub member_optional : (r.mark ≡ 0 → ⊥) → c ≡ broken_of (optional_rules T o own r s) → c ≡ broken_of (member_rules_by T o own r s)
+    unfolding broken_of class_of first_of member_rules_by
     member_optional h e = e ∙ sym (rw (eq-eqb r.spare 0 spare, ne_eqb r.mark 0 h))
 
--- over the members of one owner; the tags before m are below `above`
-pub record Owner (T : List ℕ) (o : ℕ) (own : TypeRow) (left m above : ℕ) : Type 0 where
+-- over the members of one owner up to member row `end`; the tags before m are below `above`
+pub record Owner (T : List ℕ) (o : ℕ) (own : TypeRow) (end m above : ℕ) : Type 0 where
   pub bytes : (i : ℕ) → get_or T i 0 < 256
   pub own_is : IsTypeRow T o own
   pub below : (i : ℕ) → field T o 0 ≤ i → i < m → tag T i < above
-  pub rest : finding_of (owner_pass T o) ≡ finding_of (pass (member_at T) (member_rules_of T o) (range m left))
+  pub rest : finding_of (owner_pass T o) ≡ finding_of (pass (member_at T) (member_rules_of T o) (range m (end - m)))
 
 -- none taken; some that are not there; the loop begins
-module _ (T : List ℕ) (o left : ℕ) (own : TypeRow) (eo : IsTypeRow T o own) (el : left ≡ share own) where
-  left_is : left ≡ share (type_row_of T o)
-  left_is = el ∙ ap share (whole_type T o own eo)
+module _ (T : List ℕ) (o count : ℕ) (own : TypeRow) (eo : IsTypeRow T o own) (el : count ≡ share own) where
+  count_is : count ≡ share (type_row_of T o)
+  count_is = el ∙ ap share (whole_type T o own eo)
 
-  pub owner_none : left ≡ 0 → Fine ≡ finding_of (owner_pass T o)
+  pub owner_none : count ≡ 0 → Ok tt ≡ finding_of (owner_pass T o)
   unfolding owner_pass finding_of pass range
-  owner_none z = rw (← left_is, z)
+  owner_none z = rw (← count_is, z)
 
-  pub owner_short : (left ≡ 0 → ⊥) → (k : ℕ) → k ≡ members T → k < own.a + left → MembersThere T o → Broken 35 0 ≡ finding_of (owner_pass T o)
-  owner_short z k ek h all = absurd (omega (arith, all.there (omega (arith, left_is)), left_is, eo.a_is))
+  pub owner_short : (count ≡ 0 → ⊥) → (k : ℕ) → k ≡ members T → k < own.a + count → MembersThere T o → refused 35 0 ≡ finding_of (owner_pass T o)
+  owner_short z k ek h all = absurd (omega (arith, all.there (omega (arith, count_is)), count_is, eo.a_is))
 
-  pub owner_begin : ((i : ℕ) → get_or T i 0 < 256) → Owner T o own left own.a 0
+  pub owner_begin : ((i : ℕ) → get_or T i 0 < 256) → Owner T o own (own.a + count) own.a 0
   unfolding owner_pass
   owner_begin small = record {
     bytes = small;
     own_is = eo;
     below = λ i l h. absurd (omega (arith, eo.a_is));
-    rest = rw (eo.a_is, left_is);
+    rest = let z : own.a + count - own.a ≡ share (type_row_of T o) = omega (arith, count_is) in rw (z, eo.a_is);
   }
 
 -- the tests of a usual row
@@ -1112,30 +1115,40 @@ tag_of r x parts = omega (arith, parts.whole, parts.of_small, parts.mark_small, 
 pub type_of : (T : List ℕ) → ((i : ℕ) → get_or T i 0 < 256) → (m x : ℕ) → x ≡ at T 8 (member_at T m) → x % 65536 ≡ member_type T m
 type_of T small m x e = let parts = fields T small m x e in omega (arith, parts.whole, parts.of_small)
 
+-- what its type, which is no part of the owner's or is one, leaves of its rules
+abbrev part_class : Bool → Result Unit ℕ
+part_class true = Err 34
+part_class false = Ok tt
+
+part_is : (b : Bool) → part_class b ≡ class_of (pick b 34 0)
+unfolding class_of
+part_is true = refl
+part_is false = refl
+
 -- a member row that is usual breaks no rule but perhaps that of its type
 module _ (T : List ℕ) (o : ℕ) (own : TypeRow) (r : MemberRow) (x above : ℕ) (parts : Fields r x) (s : Bool) (new : above ≤ r.tag → s ≡ false) (b : Bool) (eb : b ≡ no_part T o r.of) where
-  usual_required : x < 65536 → pick b 34 0 ≡ first_of (member_rules_by T o own r s)
-  unfolding first_of required_rules
+  usual_required : x < 65536 → part_class b ≡ broken_of (member_rules_by T o own r s)
+  unfolding broken_of class_of first_of required_rules
   usual_required h =
       let z : r.tag ≡ 0 = omega (arith, parts.whole) in
-      member_required T o own r s (omega (arith, parts.whole)) (pick b 34 0) (omega (arith, parts.whole)) (rw (eq-eqb r.tag 0 z, ← eb))
+      member_required T o own r s (omega (arith, parts.whole)) (part_class b) (omega (arith, parts.whole)) (rw (eq-eqb r.tag 0 z, ← eb) (part_is b))
 
-  usual_optional : (own.kind ≡ 9 → ⊥) → x / 65536 % 65536 ≡ 1 → above ≤ x / 4294967296 → x / 4294967296 < 2147483648 → pick b 34 0 ≡ first_of (member_rules_by T o own r s)
+  usual_optional : (own.kind ≡ 9 → ⊥) → x / 65536 % 65536 ≡ 1 → above ≤ x / 4294967296 → x / 4294967296 < 2147483648 → part_class b ≡ broken_of (member_rules_by T o own r s)
   usual_optional other h l k =
       let g = tag_of r x parts in
       let z : r.mark + 256 * r.spare ≡ 1 = omega (arith, parts.whole, parts.of_small, parts.mark_small, parts.spare_small) in
-      member_optional T o own r s (omega (arith, parts.mark_small)) (pick b 34 0) (λ q. omega arith) (go b eb (omega arith) (omega arith) (new (omega arith)))
+      member_optional T o own r s (omega (arith, parts.mark_small)) (part_class b) (λ q. omega arith) (go b eb (omega arith) (omega arith) (new (omega arith)))
     where
-      go : (b : Bool) → b ≡ no_part T o r.of → r.mark ≤ 1 → r.tag < 2147483648 → s ≡ false → pick b 34 0 ≡ first_of (optional_rules T o own r s)
+      go : (b : Bool) → b ≡ no_part T o r.of → r.mark ≤ 1 → r.tag < 2147483648 → s ≡ false → part_class b ≡ broken_of (optional_rules T o own r s)
       go true e y w q = optional_part T o own r true e s refl
       go false e y w q = optional_fine T o own r false e s refl y other w s refl q
 
-  usual_rules : (u : Bool) → u ≡ not (eqb own.kind 9) → is_usual x u above ≡ true → pick b 34 0 ≡ first_of (member_rules_by T o own r s)
+  usual_rules : (u : Bool) → u ≡ not (eqb own.kind 9) → is_usual x u above ≡ true → part_class b ≡ broken_of (member_rules_by T o own r s)
   unfolding is_usual
   usual_rules u eu h = go (ltb x 65536) refl h
     where
       go : (t : Bool) → ltb x 65536 ≡ t → t || (u && (eqb (x / 65536 % 65536) 1 && (leb above (x / 4294967296) && ltb (x / 4294967296) 2147483648))) ≡ true
-          → pick b 34 0 ≡ first_of (member_rules_by T o own r s)
+          → part_class b ≡ broken_of (member_rules_by T o own r s)
       go true e q = usual_required (ltb-true _ _ e)
       go false e q =
           let a = both_true u _ q in
@@ -1143,10 +1156,10 @@ module _ (T : List ℕ) (o : ℕ) (own : TypeRow) (r : MemberRow) (x above : ℕ
           let f = both_true (leb above (x / 4294967296)) _ d.1 in
           usual_optional (eqb-false _ _ (not-true _ (sym eu ∙ a.0))) (eqb-true _ _ d.0) (leb-true _ _ f.0) (ltb-true _ _ f.1)
 
-module _ (T : List ℕ) (o : ℕ) (own : TypeRow) (left m above : ℕ) (inv : Owner T o own left m above) where
-  pub owner_end : left ≤ 0 → Fine ≡ finding_of (owner_pass T o)
+module _ (T : List ℕ) (o : ℕ) (own : TypeRow) (end m above : ℕ) (inv : Owner T o own end m above) where
+  pub owner_end : end ≤ m → Ok tt ≡ finding_of (owner_pass T o)
   unfolding finding_of pass
-  owner_end h = sym (inv.rest ∙ rw (range_empty m left h))
+  owner_end h = sym (inv.rest ∙ rw (range_none m end h))
 
   -- a tag that is not below `above` is not among them
   tag_new : (g : ℕ) → above ≤ g → is_tag_before T (field T o 0) m g ≡ false
@@ -1170,51 +1183,56 @@ module _ (T : List ℕ) (o : ℕ) (own : TypeRow) (left m above : ℕ) (inv : Ow
       go true e = refl
       go false e = sym (tag_new g (ltb-false g above e))
 
-  module _ (h : 0 < left) where
-    -- a row of class c
-    module _ (c : ℕ) (e : c ≡ first_of (member_rules_of T o m)) where
-      class_fault : (c ≡ 0 → ⊥) → (p : ℕ) → p ≡ member_at T m → Broken c p ≡ finding_of (owner_pass T o)
-      class_fault z p ep = ap (Broken c) ep ∙ sym (inv.rest ∙ rw (range_left m left h) (pass_fault (member_at T) (member_rules_of T o) m c (range (m + 1) (left - 1)) e z))
+  module _ (h : m < end) where
+    -- a row of a class at its place
+    module _ (v : Result Unit Refusal) (e : v ≡ placed (member_at T m) (broken_of (member_rules_of T o m))) where
+      class_fault : (x : Refusal) → v ≡ Err x → Err x ≡ finding_of (owner_pass T o)
+      class_fault x q = sym (inv.rest ∙ rw (range_more m end h) (pass_fault (member_at T) (member_rules_of T o) m (range (m + 1) (end - (m + 1))) v e x q))
 
-      class_next : c ≡ 0 → (a : ℕ) → a ≡ max above (tag T m + 1) → Owner T o own (left - 1) (m + 1) a
-      class_next z a ea = record {
+      class_next : (u : Unit) → v ≡ Ok u → (a : ℕ) → a ≡ max above (tag T m + 1) → Owner T o own end (m + 1) a
+      class_next u q a ea = record {
         bytes = inv.bytes;
         own_is = inv.own_is;
-        below = λ i l k. ⊎_elim (λ q. omega (arith, ap (tag T) q)) (λ q. omega (arith, inv.below i l q)) (eq-or-lt_of_le {n = i} {m = m} (omega arith));
-        rest = inv.rest ∙ rw (range_left m left h) (ap finding_of (pass_next (member_at T) (member_rules_of T o) m c (range (m + 1) (left - 1)) e z));
+        below = λ i l k. ⊎_elim (λ z. omega (arith, ap (tag T) z)) (λ z. omega (arith, inv.below i l z)) (eq-or-lt_of_le {n = i} {m = m} (omega arith));
+        rest = inv.rest ∙ rw (range_more m end h) (pass_next (member_at T) (member_rules_of T o) m (range (m + 1) (end - (m + 1))) v e u q);
       }
 
     -- a row read whole
-    module _ (r : MemberRow) (er : IsMemberRow T m r) (c : ℕ) (e : c ≡ first_of (member_rules_by T o own r (is_tag_alike T own.a m above r.tag))) where
-      owner_row : c ≡ first_of (member_rules_of T o m)
+    module _ (r : MemberRow) (er : IsMemberRow T m r) (c : Result Unit ℕ) (e : c ≡ broken_of (member_rules_by T o own r (is_tag_alike T own.a m above r.tag)))
+        (p : ℕ) (ep : p ≡ member_at T m) (v : Result Unit Refusal) (ev : v ≡ placed p c) where
+      owner_row : v ≡ placed (member_at T m) (broken_of (member_rules_of T o m))
       unfolding member_rules_of
       owner_row =
-          e ∙ ap₂ (λ (y : TypeRow) (z : MemberRow). first_of (member_rules_by T o y z (is_tag_alike T y.a m above z.tag))) (whole_type T o own inv.own_is) (whole_member T m r er)
-          ∙ ap (λ (b : Bool). first_of (member_rules_by T o (type_row_of T o) (member_row_of T m) b)) (tag_alike (tag T m))
+          ev ∙ ap₂ placed ep
+          (e ∙ ap₂ (λ (y : TypeRow) (z : MemberRow). broken_of (member_rules_by T o y z (is_tag_alike T y.a m above z.tag))) (whole_type T o own inv.own_is) (whole_member T m r er)
+          ∙ ap (λ (b : Bool). broken_of (member_rules_by T o (type_row_of T o) (member_row_of T m) b)) (tag_alike (tag T m)))
 
-      pub owner_fault : (c ≡ 0 → ⊥) → (p : ℕ) → p ≡ member_at T m → Broken c p ≡ finding_of (owner_pass T o)
-      owner_fault z = class_fault c owner_row z
+      pub owner_fault : (x : Refusal) → v ≡ Err x → Err x ≡ finding_of (owner_pass T o)
+      owner_fault x q = class_fault v owner_row x q
 
-      pub owner_next : c ≡ 0 → (a : ℕ) → a ≡ max above (r.tag + 1) → Owner T o own (left - 1) (m + 1) a
-      owner_next z a ea = class_next c owner_row z a (ea ∙ ap (λ (g : ℕ). max above (g + 1)) er.tag_is)
+      pub owner_next : (u : Unit) → v ≡ Ok u → (a : ℕ) → a ≡ max above (r.tag + 1) → Owner T o own end (m + 1) a
+      owner_next u q a ea = class_next v owner_row u q a (ea ∙ ap (λ (g : ℕ). max above (g + 1)) er.tag_is)
 
     -- a row as one number, which is usual
     module _ (p x : ℕ) (ep : p ≡ member_at T m) (ex : x ≡ at T 8 p) (u : Bool) (eu : u ≡ is_usual x (not (eqb own.kind 9)) above) (usual : not u ≡ false) (b : Bool) (eb : b ≡ no_part T o (x % 65536)) where
       parts : Fields (member_row_of T m) x
       parts = fields T inv.bytes m x (ex ∙ ap (at T 8) ep)
 
-      usual_class : (s : Bool) → b ≡ s → pick s 34 0 ≡ first_of (member_rules_of T o m)
+      usual_class : (s : Bool) → b ≡ s → placed (member_at T m) (part_class s) ≡ placed (member_at T m) (broken_of (member_rules_of T o m))
       unfolding member_rules_of
       usual_class s q =
           let z = type_of T inv.bytes m x (ex ∙ ap (at T 8) ep) in
-          usual_rules T o (type_row_of T o) (member_row_of T m) x above parts (is_tag_before T (field T o 0) m (tag T m)) (tag_new (tag T m)) s (sym q ∙ eb ∙ ap (no_part T o) z)
-          (not (eqb own.kind 9)) (ap (λ (k : ℕ). not (eqb k 9)) inv.own_is.kind_is) (sym eu ∙ not-false u usual)
+          ap (placed (member_at T m))
+          (usual_rules T o (type_row_of T o) (member_row_of T m) x above parts (is_tag_before T (field T o 0) m (tag T m)) (tag_new (tag T m)) s (sym q ∙ eb ∙ ap (no_part T o) z)
+          (not (eqb own.kind 9)) (ap (λ (k : ℕ). not (eqb k 9)) inv.own_is.kind_is) (sym eu ∙ not-false u usual))
 
-      pub usual_fault : b ≡ true → Broken 34 p ≡ finding_of (owner_pass T o)
-      usual_fault q = class_fault 34 (usual_class true q) (λ z. omega arith) p ep
+      pub usual_fault : b ≡ true → refused 34 p ≡ finding_of (owner_pass T o)
+      unfolding placed
+      usual_fault q = ap (refused 34) ep ∙ class_fault (refused 34 (member_at T m)) (usual_class true q) _ refl
 
-      pub usual_next : b ≡ false → (a : ℕ) → a ≡ max above (x / 4294967296 + 1) → Owner T o own (left - 1) (m + 1) a
-      usual_next q a ea = class_next 0 (usual_class false q) refl a (ea ∙ ap (λ (g : ℕ). max above (g + 1)) (tag_of (member_row_of T m) x parts))
+      pub usual_next : b ≡ false → (a : ℕ) → a ≡ max above (x / 4294967296 + 1) → Owner T o own end (m + 1) a
+      unfolding placed
+      usual_next q a ea = class_next (Ok tt) (usual_class false q) tt refl a (ea ∙ ap (λ (g : ℕ). max above (g + 1)) (tag_of (member_row_of T m) x parts))
 
 -- over the owners
 pub record Owners (T : List ℕ) (n o : ℕ) : Type 0 where
@@ -1225,64 +1243,80 @@ pub owners_begin : (T : List ℕ) (n : ℕ) → n ≡ types T → Owners T n 0
 owners_begin T n e = let z : n - 0 ≡ types T = omega arith in record { within = omega arith; rest = λ there. rw z }
 
 module _ (T : List ℕ) (n o : ℕ) (inv : Owners T n o) where
-  pub owners_end : n ≤ o → OwnersThere T → Fine ≡ finding_of (owners_pass T (range 0 (types T)))
+  pub owners_end : n ≤ o → OwnersThere T → Ok tt ≡ finding_of (owners_pass T (range 0 (types T)))
   unfolding finding_of owners_pass
   owners_end h there = sym (inv.rest there ∙ rw (range_none o n h))
 
-  module _ (h : o < n) (en : n ≡ types T) (v : Finding) (e : MembersThere T o → v ≡ finding_of (owner_pass T o)) where
+  module _ (h : o < n) (en : n ≡ types T) (v : Result Unit Refusal) (e : MembersThere T o → v ≡ finding_of (owner_pass T o)) where
     owner_says : OwnersThere T → finding_of (owner_pass T o) ≡ v
     owner_says there = sym (e (there.owners o (omega arith)))
 
-    pub owners_fault : (c p : ℕ) → v ≡ Broken c p → OwnersThere T → Broken c p ≡ finding_of (owners_pass T (range 0 (types T)))
+    pub owners_fault : (x : Refusal) → v ≡ Err x → OwnersThere T → Err x ≡ finding_of (owners_pass T (range 0 (types T)))
     unfolding owners_pass
-    owners_fault c p q there = sym (inv.rest there ∙ rw (range_more o n h) (or_broken (owner_pass T o) _ c p (owner_says there ∙ q)))
+    owners_fault x q there = sym (inv.rest there ∙ rw (range_more o n h) (or_broken (owner_pass T o) _ x (owner_says there ∙ q)))
 
-    pub owners_next : v ≡ Fine → Owners T n (o + 1)
+    pub owners_next : (u : Unit) → v ≡ Ok u → Owners T n (o + 1)
     unfolding owners_pass
-    owners_next q = record { within = omega arith; rest = λ there. inv.rest there ∙ rw (range_more o n h) (or_finding (owner_pass T o) _ (owner_says there ∙ q)) }
+    owners_next u q = record { within = omega arith; rest = λ there. inv.rest there ∙ rw (range_more o n h) (or_finding (owner_pass T o) _ u (owner_says there ∙ q)) }
 
   -- a row that takes no member rows
   pub owners_low : o < n → n ≡ types T → (k : ℕ) → k ≡ kind T o → k < 9 → Owners T n (o + 1)
   unfolding owner_pass finding_of pass range share
-  owners_low h en k ek low = owners_next h en Fine (λ there. rw (low_owns (kind T o) (omega arith))) refl
+  owners_low h en k ek low = owners_next h en (Ok tt) (λ there. rw (low_owns (kind T o) (omega arith))) tt refl
 
 -- ---- header, type rows and member sum, member rows
 
-module _ (T : List ℕ) (h : ℕ) (eh : fault_at 0 h ≡ header_rules T) where
-  all : faults T ≡ or_else (fault_at 0 h) (or_else (rows_pass T) (or_else (member_pass T) fine))
-  unfolding faults passes type_pass allowed_pass rows_pass member_pass
-  all = rw (eh, or_assoc, or_assoc, or_assoc)
+all : (T : List ℕ) → faults T ≡ or_else (header_rules T) (or_else (rows_pass T) (or_else (member_pass T) fine))
+unfolding faults passes type_pass allowed_pass rows_pass member_pass
+all T = rw (or_assoc, or_assoc, or_assoc)
 
-  pub check_header : (h ≡ 0 → ⊥) → Broken h 0 ≡ finding_of (faults T)
-  unfolding finding_of fault_at
-  check_header z = sym (ap finding_of all ∙ or_broken (fault_at 0 h) _ h 0 (go h z))
-    where
-      go : (h : ℕ) → (h ≡ 0 → ⊥) → finding_of (fault_at 0 h) ≡ Broken h 0
-      go zero z = absurd (z refl)
-      go (suc c) z = refl
+module _ (T : List ℕ) (head : header_rules T ≡ fine) where
+  pub all_rows_there : (k : ℕ) → k ≡ members T → member_at T k ≤ length T
+  all_rows_there k ek = omega (arith, table_length T head)
 
-  module _ (head : h ≡ 0) where
-    pub check_all_rows : (k : ℕ) → k ≡ members T → member_at T k ≤ length T
-    unfolding fault_at
-    check_all_rows k ek = omega (arith, table_length T (sym eh ∙ rw head))
+  pub rows_there : (n : ℕ) → n ≡ types T → row_at T n ≤ length T
+  rows_there n en = omega (arith, all_rows_there (members T) refl)
 
-    pub check_rows : (n : ℕ) → n ≡ types T → row_at T n ≤ length T
-    check_rows n en = omega (arith, check_all_rows (members T) refl)
-
-  module _ (head : h ≡ 0) (v : Finding) (ev : v ≡ finding_of (rows_pass T)) where
+  module _ (v : Result Unit Refusal) (ev : v ≡ finding_of (rows_pass T)) where
     past_header : finding_of (faults T) ≡ finding_of (or_else (rows_pass T) (or_else (member_pass T) fine))
-    unfolding fault_at finding_of
-    past_header = ap finding_of all ∙ rw head (or_finding fine _ refl)
+    unfolding or_else
+    past_header = ap finding_of (all T) ∙ rw head
 
-    pub check_types : (c p : ℕ) → v ≡ Broken c p → Broken c p ≡ finding_of (faults T)
-    check_types c p q = sym (past_header ∙ or_broken (rows_pass T) _ c p (sym ev ∙ q))
+    pub rows_broken : (x : Refusal) → v ≡ Err x → Err x ≡ finding_of (faults T)
+    rows_broken x q = sym (past_header ∙ or_broken (rows_pass T) _ x (sym ev ∙ q))
 
-    pub check_members : v ≡ Fine → (w : Finding) → (OwnersThere T → w ≡ finding_of (owners_pass T (range 0 (types T)))) → w ≡ finding_of (faults T)
+    pub members_judged : (u : Unit) → v ≡ Ok u → (w : Result Unit Refusal) → (OwnersThere T → w ≡ finding_of (owners_pass T (range 0 (types T)))) → w ≡ finding_of (faults T)
     unfolding or_else finding_of
-    check_members q w e =
-        let f = is_fine (rows_pass T) (sym ev ∙ q) in
-        e (owners_there T f) ∙ ap finding_of (owners_pass_lem T f) ∙ sym (past_header ∙ or_finding (rows_pass T) _ (sym ev ∙ q) ∙ last (member_pass T))
+    members_judged u q w e =
+        let f = is_fine (rows_pass T) u (sym ev ∙ q) in
+        e (owners_there T f) ∙ ap finding_of (owners_pass_lem T f) ∙ sym (past_header ∙ or_finding (rows_pass T) _ u (sym ev ∙ q) ∙ last (member_pass T))
       where
         last : (f : Fault) → finding_of (or_else f fine) ≡ finding_of f
         last fine = refl
         last (fault c p) = refl
+
+module _ (T : List ℕ) (h : Result Unit ℕ) (eh : placed 0 h ≡ finding_of (header_rules T)) where
+  pub header_judged : (u : Unit) → h ≡ Ok u → header_rules T ≡ fine
+  unfolding placed
+  header_judged u q = is_fine (header_rules T) u (sym eh ∙ ap (placed 0) q)
+
+  module _ (v : Result Unit Refusal) (ev : v ≡ placed 0 h) where
+    pub check_header : (x : Refusal) → v ≡ Err x → Err x ≡ finding_of (faults T)
+    check_header x q = sym (ap finding_of (all T) ∙ or_broken (header_rules T) _ x (sym eh ∙ sym ev ∙ q))
+
+    module _ (u : Unit) (q : v ≡ Ok u) where
+      head : header_rules T ≡ fine
+      head = is_fine (header_rules T) u (sym eh ∙ sym ev ∙ q)
+
+      pub check_all_rows : (k : ℕ) → k ≡ members T → member_at T k ≤ length T
+      check_all_rows k ek = all_rows_there T head k ek
+
+      pub check_rows : (n : ℕ) → n ≡ types T → row_at T n ≤ length T
+      check_rows n en = rows_there T head n en
+
+      module _ (r : Result Unit Refusal) (er : r ≡ finding_of (rows_pass T)) where
+        pub check_types : (x : Refusal) → r ≡ Err x → Err x ≡ finding_of (faults T)
+        check_types x z = rows_broken T head r er x z
+
+        pub check_members : (y : Unit) → r ≡ Ok y → (w : Result Unit Refusal) → (OwnersThere T → w ≡ finding_of (owners_pass T (range 0 (types T)))) → w ≡ finding_of (faults T)
+        check_members y z w e = members_judged T head r er y z w e

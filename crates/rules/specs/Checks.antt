@@ -1,6 +1,8 @@
 -- The rules of a table as the code takes them: the type rules by kind, the member rules by owner.
 --
---   finding_of                 fine, or the class and the place of the first rule that is broken
+--   finding_of                 Ok, or the class and the place of the first rule that is broken, as a refusal
+--   class_of                   a class as an answer, which is Ok where it is 0; broken_of the class of the first of some rules that is broken
+--   placed                     a class at a place
 --   is_marked                  the mark FGT, and version 1 or 2
 --   is_set_from                 a field of a row, from field i on, is not 0
 --   no_base_of                  row b - 1 is no base of row t of kind k
@@ -22,20 +24,31 @@
 --   is_usual                   a member row as one number of eight bytes: it breaks no rule but perhaps that of its type; the tags before it are below `above`
 --   owner_pass, owners_pass     the member rows of one owner; of several in turn
 --   MembersThere, OwnersThere      the member rows that a row takes are all there; those of each row are
-use Rattle.std.specs.Prelude.{ℕ, zero, suc, ◌+◌, ◌-◌, ◌/◌, ◌%◌, ◌≤◌, ◌<◌, Bool, false, ◌&&◌, ◌||◌, not, List, [], ◌∷◌, map, take, drop, eqb, leb, ltb}
-use Rattle.encoding.specs.Result.{pick, same_bytes}
+use Rattle.std.specs.Prelude.{ℕ, zero, suc, ◌+◌, ◌-◌, ◌/◌, ◌%◌, ◌≤◌, ◌<◌, Bool, false, ◌&&◌, ◌||◌, not, List, [], ◌∷◌, map, take, drop, eqb, leb, ltb, Result, Ok, Err}
+use Rattle.encoding.specs.Result.{pick, first_of, same_bytes}
 use Rattle.encoding.specs.Utf8.{is_utf8}
 use Rattle.encoding.specs.Table.{at, version, with_lists, types, members, names, row_at, member_at, list_entry, kind, field, mark, tag, is_record, owns, name_of, range, any, great, used, no_part, type_rules, rises_to, allowed_rules, entries_rules, sum_rules, member_rules, Fault, fine, fault, or_else, pass}
 use Rattle.table.specs.Names.{is_named}
 use Rattle.table.specs.Rows.{type_row_of, member_row_of, greatest_of}
 use Rattle.table.specs.declared.TypeRow.{TypeRow}
 use Rattle.table.specs.declared.MemberRow.{MemberRow}
-use Rattle.rules.specs.declared.Finding.{Finding}
-use Rattle.rules.specs.declared.Finding.TheVariants.{Fine, Broken}
+use Rattle.wire.specs.declared.Refusal.{Refusal}
+use Rattle.wire.specs.Steps.{refused}
 
-unfoldable pub finding_of : Fault → Finding
-finding_of fine = Fine
-finding_of (fault c p) = Broken c p
+unfoldable pub finding_of : Fault → Result Unit Refusal
+finding_of fine = Ok tt
+finding_of (fault c p) = refused c p
+
+unfoldable pub class_of : ℕ → Result Unit ℕ
+class_of zero = Ok tt
+class_of (suc c) = Err (suc c)
+
+unfoldable pub broken_of : List (ℕ × Bool) → Result Unit ℕ
+broken_of l = class_of (first_of l)
+
+unfoldable pub placed : ℕ → Result Unit ℕ → Result Unit Refusal
+placed p (Ok u) = Ok u
+placed p (Err c) = refused c p
 
 unfoldable pub is_marked : List ℕ → Bool
 is_marked T = same_bytes (take 3 T) (70 ∷ 71 ∷ 84 ∷ []) && (eqb (version T) 1 || with_lists T)

@@ -1,21 +1,26 @@
-// The check of a table: header, type rows, lists of allowed enumerators, member sum, member rows. It answers the first broken rule as its class (31 to 39) and its place.
+// The check of a table: header, type rows, lists of allowed enumerators, member sum, member rows. It refuses the first broken rule by its class (31 to 39) and its place.
+// A function that judges one row answers the class of the first rule that the row breaks; the passes know the row's place.
 #![tactic(auto)]
 
 ghost use Rattle.std.specs.Prelude.{◌≡◌, true, map, ◌+◌, ◌-◌, ◌≤◌, ◌<◌, max, length};
-ghost use Rattle.encoding.specs.Result.{first_of};
 ghost use Rattle.encoding.specs.Utf8.{is_utf8};
-ghost use Rattle.encoding.specs.Table.{any, range, with_lists, types, members, types_at, row_at, members_at, member_at, names_at, name_of, entries_at, list_entry, header_rules, used, no_part, rises_to, fault_at, faults};
+ghost use Rattle.encoding.specs.Table.{any, range, with_lists, types, members, types_at, row_at, members_at, member_at, names_at, name_of, entries_at, list_entry, header_rules, used, no_part, rises_to, faults};
 ghost use Rattle.table.specs.Names.{is_named};
 ghost use Rattle.table.specs.Rows.{IsTypeRow};
-ghost use Rattle.rules.specs.Checks.{finding_of, is_marked, is_set_from, no_base_of, alike_from, enum_rules, struct_rules, seq_rules, dict_rules, record_rules, list_rules, kind_rules, row_rules, share, is_basic, past, allowed_rules_by, entry_count, allowed_pass, rows_pass, is_optional_of, is_tag_before, is_tag_alike, required_rules, optional_rules, member_rules_by, is_usual, owner_pass, owners_pass, MembersThere, OwnersThere};
+ghost use Rattle.rules.specs.Checks.{finding_of, broken_of, placed, is_marked, is_set_from, no_base_of, alike_from, enum_rules, struct_rules, seq_rules, dict_rules, record_rules, list_rules, kind_rules, row_rules, share, is_basic, past, allowed_rules_by, entry_count, allowed_pass, rows_pass, is_optional_of, is_tag_before, is_tag_alike, required_rules, optional_rules, member_rules_by, is_usual, owner_pass, owners_pass, MembersThere, OwnersThere};
 
 use table::{MemberRow, TypeRow};
+use wire::Refusal;
 
-// No rule is broken; or the class and the place of the first broken one.
-#[derive(Clone, Copy)]
-pub enum Finding {
-    Fine,
-    Broken(usize, usize),
+// A broken rule, which is known by its class, at its place.
+#[tactic(auto, unfolding(crate::specs::Checks::placed))]
+fn placed(place: usize, answer: Result<(), usize>) -> Result<(), Refusal>
+    ensures { result ≡ placed place answer }
+{
+    match answer {
+        Ok(()) => Ok(()),
+        Err(number) => Err(Refusal { number, place }),
+    }
 }
 
 // The table begins with the mark FGT and version 1 or 2: four bytes, compared as one int, then a 0.
@@ -32,118 +37,78 @@ fn is_marked(table: &[u8]) -> bool
     wire::byte_at(table, 4) == 0
 }
 
-// The class of the first rule that the header breaks, or 0.
-pub fn header(table: &[u8], begin: usize) -> usize
+// The rules of the header, which are all of class 31.
+pub fn header(table: &[u8], begin: usize) -> Result<(), usize>
     requires { begin ≡ types_at table.now }
-    ensures { fault_at 0 result ≡ header_rules table.now }
+    ensures { placed 0 result ≡ finding_of (header_rules table.now) }
 {
     if table.len() < begin {
-        return 31;
+        return Err(31);
     }
     if !is_marked(table) {
-        return 31;
+        return Err(31);
     }
     let t = table::types(table);
     if t == 0 {
-        return 31;
+        return Err(31);
     }
     if 256 < t {
-        return 31;
+        return Err(31);
     }
     let m = table::members(table);
     if 1024 < m {
-        return 31;
+        return Err(31);
     }
     let n = table::names(table);
     if 8192 < n {
-        return 31;
+        return Err(31);
     }
     if wire::byte_at(table, 11) != 0 {
-        return 31;
+        return Err(31);
     }
     let e = table::entries(table, begin);
     if 1024 < e {
-        return 31;
+        return Err(31);
     }
     let first = table::row_at(table, begin, t);
     if table.len() != table::member_at(table, first, m) + n + 4 * e {
-        return 31;
+        return Err(31);
     }
-    0
+    Ok(())
 }
 
-// One of the fields c, d, e of a row is not 0.
-pub fn is_set_from_c(row: TypeRow) -> bool
-    ensures { result ≡ is_set_from row 2 }
+// One of the fields of a row, from field i on (a is field 0, e is 4), is not 0.
+pub fn is_set_from(row: TypeRow, i: usize) -> bool
+    ensures { result ≡ is_set_from row i }
 {
-    if row.c != 0 {
-        return true;
-    }
-    if row.d != 0 {
-        return true;
-    }
-    row.e != 0
+    ((i == 0) & (row.a != 0))
+        | ((i <= 1) & (row.b != 0))
+        | ((i <= 2) & (row.c != 0))
+        | ((i <= 3) & (row.d != 0))
+        | ((i <= 4) & (row.e != 0))
 }
 
-// One of the fields b to e is not 0.
-pub fn is_set_from_b(row: TypeRow) -> bool
-    ensures { result ≡ is_set_from row 1 }
-{
-    if row.b != 0 {
-        return true;
-    }
-    is_set_from_c(row)
-}
-
-// One of the fields is not 0.
-pub fn is_set_from_a(row: TypeRow) -> bool
-    ensures { result ≡ is_set_from row 0 }
-{
-    if row.a != 0 {
-        return true;
-    }
-    is_set_from_b(row)
-}
-
-// A field that an enum row does not use in this table is not 0: its c and d are its list.
-fn is_enum_set(table: &[u8], begin: usize, row: TypeRow) -> bool
+// How many fields, from a on, rows of kind k use in this table: the c and d of an enum are its list. A kind above 15 counts as one that uses all.
+fn used(table: &[u8], begin: usize, k: usize) -> usize
     requires { begin ≡ types_at table.now }
-    ensures { result ≡ is_set_from row (used table.now 8) }
+    ensures { result ≡ used table.now k }
 {
-    if table::with_lists(table, begin) {
-        return row.e != 0;
-    }
-    is_set_from_c(row)
-}
-
-// A field that the row's kind does not use in this table is not 0.
-fn is_unused_set(table: &[u8], begin: usize, row: TypeRow) -> bool
-    requires { begin ≡ types_at table.now }
-    ensures { result ≡ is_set_from row (used table.now row.kind) }
-{
-    let k = row.kind;
     if k < 8 {
-        return is_set_from_a(row);
+        return 0;
     }
-    if k == 8 {
-        return is_enum_set(table, begin, row);
+    match k {
+        8 => if table::with_lists(table, begin) {
+            4
+        } else {
+            2
+        },
+        9 => 2,
+        10 => 1,
+        11 => 2,
+        12 => 0,
+        15 => 2,
+        _ => 5,
     }
-    if k == 10 {
-        return is_set_from_b(row);
-    }
-    if k == 12 {
-        return is_set_from_a(row);
-    }
-    if k == 13 {
-        return false;
-    }
-    if k == 14 {
-        return false;
-    }
-    if k < 16 {
-        return is_set_from_c(row);
-    }
-    false
 }
 
 // Row r cannot be a part of row t: it is not below t, or not of kinds 0 to 12. The rows below t lie inside the table.
@@ -179,8 +144,7 @@ fn is_name_before(table: &[u8], begin: usize, name: &[u8], from: usize, t: usize
     requires t_in_bounds { row_at table.now t ≤ length table.now }
     ensures { result ≡ any (is_named table.now name.now) (range from (t - from)) }
 {
-    let mut r = from;
-    while r < t {
+    for r in from..t {
         let row = table::type_row_in(table, begin, r);
         if table::is_record(row.kind) {
             if name.len() <= row.e {
@@ -189,7 +153,6 @@ fn is_name_before(table: &[u8], begin: usize, name: &[u8], from: usize, t: usize
                 }
             }
         }
-        r += 1;
     }
     false
 }
@@ -202,9 +165,8 @@ pub fn alike(table: &[u8], begin: usize, labels: usize, t: usize, row: TypeRow, 
     requires type_row { IsTypeRow table.now t row }
     ensures { result ≡ alike_from table.now from t }
 {
-    let start = labels + row.d;
-    let a = wire::least(start, table.len());
-    let e = a + wire::least(row.e, table.len() - a);
+    let a = table::naming::start_of(table, labels, row, t);
+    let e = a + table::naming::length_of(table, a, row, t);
     is_name_before(table, begin, &table[a..e], from, t)
 }
 
@@ -214,65 +176,64 @@ pub fn is_name_text(table: &[u8], labels: usize, t: usize, row: TypeRow) -> bool
     requires type_row { IsTypeRow table.now t row }
     ensures { result ≡ is_utf8 (name_of table.now t) }
 {
-    let start = labels + row.d;
-    let a = wire::least(start, table.len());
-    let e = a + wire::least(row.e, table.len() - a);
+    let a = table::naming::start_of(table, labels, row, t);
+    let e = a + table::naming::length_of(table, a, row, t);
     text::is_utf8(table, a, e)
 }
 
 // The rule of an enum.
-fn enum_row(row: TypeRow) -> usize
+fn enum_row(row: TypeRow) -> Result<(), usize>
     requires { (row.a < 65536) × (row.b < 65536) }
-    ensures { result ≡ first_of (enum_rules row) }
+    ensures { result ≡ broken_of (enum_rules row) }
 {
     if 2147483648 <= table::greatest(row) {
-        return 38;
+        return Err(38);
     }
-    0
+    Ok(())
 }
 
 // The rules of a struct; the rows before it take `prior` member rows.
-fn struct_row(row: TypeRow, prior: usize) -> usize
-    ensures { result ≡ first_of (struct_rules row prior) }
+fn struct_row(row: TypeRow, prior: usize) -> Result<(), usize>
+    ensures { result ≡ broken_of (struct_rules row prior) }
 {
     if row.a != prior {
-        return 35;
+        return Err(35);
     }
     if row.b == 0 {
-        return 36;
+        return Err(36);
     }
-    0
+    Ok(())
 }
 
 // The rule of a sequence, row t.
-fn seq_row(table: &[u8], begin: usize, t: usize, row: TypeRow) -> usize
+fn seq_row(table: &[u8], begin: usize, t: usize, row: TypeRow) -> Result<(), usize>
     requires begin_value { begin ≡ types_at table.now }
     requires t_in_bounds { row_at table.now t ≤ length table.now }
-    ensures { result ≡ first_of (seq_rules table.now t row) }
+    ensures { result ≡ broken_of (seq_rules table.now t row) }
 {
     if no_part(table, begin, t, row.a) {
-        return 34;
+        return Err(34);
     }
-    0
+    Ok(())
 }
 
 // The rules of a dictionary, row t.
-fn dict_row(table: &[u8], begin: usize, t: usize, row: TypeRow) -> usize
+fn dict_row(table: &[u8], begin: usize, t: usize, row: TypeRow) -> Result<(), usize>
     requires begin_value { begin ≡ types_at table.now }
     requires t_in_bounds { row_at table.now t ≤ length table.now }
-    ensures { result ≡ first_of (dict_rules table.now t row) }
+    ensures { result ≡ broken_of (dict_rules table.now t row) }
 {
     if no_part(table, begin, t, row.a) {
-        return 34;
+        return Err(34);
     }
     if no_part(table, begin, t, row.b) {
-        return 34;
+        return Err(34);
     }
-    0
+    Ok(())
 }
 
 // The rules of an exception or a class, row t; its name is compared with those of records from row `from` on.
-fn record_row(
+pub fn record_row(
     table: &[u8],
     begin: usize,
     labels: usize,
@@ -280,45 +241,45 @@ fn record_row(
     row: TypeRow,
     prior: usize,
     from: usize,
-) -> usize
+) -> Result<(), usize>
     requires begin_value { begin ≡ types_at table.now }
     requires labels_value { (labels ≡ names_at table.now) × (labels < 2097152) }
     requires t_in_bounds { row_at table.now t ≤ length table.now }
     requires type_row { IsTypeRow table.now t row }
-    ensures { result ≡ first_of (record_rules table.now t row prior (alike_from table.now from t)) }
+    ensures { result ≡ broken_of (record_rules table.now t row prior (alike_from table.now from t)) }
 {
     if no_base(table, begin, t, row.kind, row.c) {
-        return 34;
+        return Err(34);
     }
     if row.a != prior {
-        return 35;
+        return Err(35);
     }
     if row.e == 0 {
-        return 37;
+        return Err(37);
     }
     if 255 < row.e {
-        return 37;
+        return Err(37);
     }
     if table::names(table) < row.d + row.e {
-        return 37;
+        return Err(37);
     }
     if alike(table, begin, labels, t, row, from) {
-        return 37;
+        return Err(37);
     }
     if is_name_text(table, labels, t, row) {
-        return 0;
+        return Ok(());
     }
-    37
+    Err(37)
 }
 
 // The rule of a parameter list.
-fn list_row(row: TypeRow, prior: usize) -> usize
-    ensures { result ≡ first_of (list_rules row prior) }
+fn list_row(row: TypeRow, prior: usize) -> Result<(), usize>
+    ensures { result ≡ broken_of (list_rules row prior) }
 {
     if row.a != prior {
-        return 35;
+        return Err(35);
     }
-    0
+    Ok(())
 }
 
 // The rules that the kind of row t has.
@@ -330,12 +291,12 @@ fn kind_row(
     row: TypeRow,
     prior: usize,
     from: usize,
-) -> usize
+) -> Result<(), usize>
     requires begin_value { begin ≡ types_at table.now }
     requires labels_value { (labels ≡ names_at table.now) × (labels < 2097152) }
     requires t_in_bounds { row_at table.now t ≤ length table.now }
     requires type_row { IsTypeRow table.now t row }
-    ensures { result ≡ first_of (kind_rules table.now t row prior (alike_from table.now from t)) }
+    ensures { result ≡ broken_of (kind_rules table.now t row prior (alike_from table.now from t)) }
 {
     let k = row.kind;
     if k == 8 {
@@ -356,10 +317,10 @@ fn kind_row(
     if k == 15 {
         return list_row(row, prior);
     }
-    0
+    Ok(())
 }
 
-// The class of the first rule that type row t breaks, or 0.
+// The rules of type row t.
 fn type_class(
     table: &[u8],
     begin: usize,
@@ -368,21 +329,21 @@ fn type_class(
     row: TypeRow,
     prior: usize,
     from: usize,
-) -> usize
+) -> Result<(), usize>
     requires begin_value { begin ≡ types_at table.now }
     requires labels_value { (labels ≡ names_at table.now) × (labels < 2097152) }
     requires t_in_bounds { row_at table.now t ≤ length table.now }
     requires type_row { IsTypeRow table.now t row }
-    ensures { result ≡ first_of (row_rules table.now t row prior (alike_from table.now from t)) }
+    ensures { result ≡ broken_of (row_rules table.now t row prior (alike_from table.now from t)) }
 {
     if row.spare != 0 {
-        return 32;
+        return Err(32);
     }
-    if is_unused_set(table, begin, row) {
-        return 32;
+    if is_set_from(row, used(table, begin, row.kind)) {
+        return Err(32);
     }
     if 15 < row.kind {
-        return 33;
+        return Err(33);
     }
     kind_row(table, begin, labels, t, row, prior, from)
 }
@@ -435,37 +396,41 @@ fn rises_to(table: &[u8], first: usize, c: usize, d: usize, g: usize) -> bool
         return false;
     }
     let mut last = table::allowed::list_entry(table, first, c);
-    let mut i = 1;
-    while i < d {
+    for i in 1..d {
         let x = table::allowed::list_entry(table, first, c + i);
         if x <= last {
             return false;
         }
         last = x;
-        i += 1;
     }
     last == g
 }
 
 // The rules of the list of a row, if it is an enum; the lists before it take `prior` of `all` entries, which begin at `first`.
-fn allowed_row(table: &[u8], first: usize, all: usize, row: TypeRow, prior: usize) -> usize
+fn allowed_row(
+    table: &[u8],
+    first: usize,
+    all: usize,
+    row: TypeRow,
+    prior: usize,
+) -> Result<(), usize>
     requires first_value { (first ≡ entries_at table.now) × (first < 4194304) }
     requires a_bound { (row.a < 65536) × (row.b < 65536) × (row.c < 65536) × (row.d < 65536) }
-    ensures { result ≡ first_of (allowed_rules_by table.now all row prior) }
+    ensures { result ≡ broken_of (allowed_rules_by table.now all row prior) }
 {
     if row.kind != 8 {
-        return 0;
+        return Ok(());
     }
     if row.c != prior {
-        return 39;
+        return Err(39);
     }
     if all < row.c + row.d {
-        return 39;
+        return Err(39);
     }
     if !rises_to(table, first, row.c, row.d, table::greatest(row)) {
-        return 39;
+        return Err(39);
     }
-    0
+    Ok(())
 }
 
 // How many entries the list of a row has.
@@ -479,7 +444,7 @@ fn entry_count(row: TypeRow) -> usize
 }
 
 // The pass over the lists of the n type rows, then the entries left over, in a table that has lists.
-fn allowed_rows(table: &[u8], begin: usize, n: usize) -> Finding
+fn allowed_rows(table: &[u8], begin: usize, n: usize) -> Result<(), Refusal>
     requires begin_value { begin ≡ types_at table.now }
     requires n_value { n ≡ types table.now }
     requires n_in_bounds { row_at table.now n ≤ length table.now }
@@ -489,24 +454,25 @@ fn allowed_rows(table: &[u8], begin: usize, n: usize) -> Finding
     let first = table::entries_at(table, begin);
     let all = table::entries(table, begin);
     let mut prior = 0;
-    let mut t = 0;
-    while t < n {
+    for t in 0..n {
         let row = table::type_row_in(table, begin, t);
-        let c = allowed_row(table, first, all, row, prior);
-        if c != 0 {
-            return Finding::Broken(c, table::row_at(table, begin, t));
-        }
+        placed(
+            table::row_at(table, begin, t),
+            allowed_row(table, first, all, row, prior),
+        )?;
         prior += entry_count(row);
-        t += 1;
     }
     if prior != all {
-        return Finding::Broken(39, 0);
+        return Err(Refusal {
+            number: 39,
+            place: 0,
+        });
     }
-    Finding::Fine
+    Ok(())
 }
 
 // The pass over the lists, which a table of version 1 does not have.
-fn allowed_pass(table: &[u8], begin: usize, n: usize) -> Finding
+fn allowed_pass(table: &[u8], begin: usize, n: usize) -> Result<(), Refusal>
     requires begin_value { begin ≡ types_at table.now }
     requires n_value { n ≡ types table.now }
     requires n_in_bounds { row_at table.now n ≤ length table.now }
@@ -515,11 +481,11 @@ fn allowed_pass(table: &[u8], begin: usize, n: usize) -> Finding
     if table::with_lists(table, begin) {
         return allowed_rows(table, begin, n);
     }
-    Finding::Fine
+    Ok(())
 }
 
 // The pass over the n type rows, then the lists, then the member sum. A basic row breaks no rule and takes no member rows. No row before `from` is a record.
-fn type_rows(table: &[u8], begin: usize, n: usize) -> Finding
+fn type_rows(table: &[u8], begin: usize, n: usize) -> Result<(), Refusal>
     requires begin_value { begin ≡ types_at table.now }
     requires n_value { n ≡ types table.now }
     requires n_in_bounds { row_at table.now n ≤ length table.now }
@@ -528,33 +494,27 @@ fn type_rows(table: &[u8], begin: usize, n: usize) -> Finding
     let labels = table::names_at(table, begin);
     let mut prior = 0;
     let mut from = 0;
-    let mut t = 0;
-    while t < n {
+    for t in 0..n {
         if is_basic(table, begin, t) {
             from = past(from, t, true);
-            t += 1;
             continue;
         }
         let row = table::type_row_in(table, begin, t);
-        let c = type_class(table, begin, labels, t, row, prior, from);
-        if c != 0 {
-            return Finding::Broken(c, table::row_at(table, begin, t));
-        }
+        placed(
+            table::row_at(table, begin, t),
+            type_class(table, begin, labels, t, row, prior, from),
+        )?;
         prior += share(row);
         from = past(from, t, !table::is_record(row.kind));
-        t += 1;
     }
-    let v = allowed_pass(table, begin, n);
-    match v {
-        Finding::Broken(c, p) => {
-            return Finding::Broken(c, p);
-        }
-        Finding::Fine => {}
-    }
+    allowed_pass(table, begin, n)?;
     if prior != table::members(table) {
-        return Finding::Broken(35, 0);
+        return Err(Refusal {
+            number: 35,
+            place: 0,
+        });
     }
-    Finding::Fine
+    Ok(())
 }
 
 // Member row i, which lies inside the table, is optional and has this tag. The member rows begin at `at`.
@@ -576,12 +536,10 @@ fn is_tag_before(table: &[u8], at: usize, first: usize, m: usize, tag: usize) ->
     requires m_in_bounds { member_at table.now m ≤ length table.now }
     ensures { result ≡ is_tag_before table.now first m tag }
 {
-    let mut i = first;
-    while i < m {
+    for i in first..m {
         if is_optional_of(table, at, i, tag) {
             return true;
         }
-        i += 1;
     }
     false
 }
@@ -599,18 +557,18 @@ fn is_tag_alike(table: &[u8], at: usize, first: usize, m: usize, above: usize, t
 }
 
 // The rules of a required member of owner o.
-fn required_row(table: &[u8], begin: usize, o: usize, row: MemberRow) -> usize
+fn required_row(table: &[u8], begin: usize, o: usize, row: MemberRow) -> Result<(), usize>
     requires begin_value { begin ≡ types_at table.now }
     requires o_in_bounds { row_at table.now o ≤ length table.now }
-    ensures { result ≡ first_of (required_rules table.now o row) }
+    ensures { result ≡ broken_of (required_rules table.now o row) }
 {
     if row.tag != 0 {
-        return 32;
+        return Err(32);
     }
     if no_part(table, begin, o, row.of) {
-        return 34;
+        return Err(34);
     }
-    0
+    Ok(())
 }
 
 // The rules of member row m of owner o if its mark is not 0.
@@ -623,32 +581,32 @@ fn optional_row(
     m: usize,
     row: MemberRow,
     above: usize,
-) -> usize
+) -> Result<(), usize>
     requires begin_value { begin ≡ types_at table.now }
     requires o_in_bounds { row_at table.now o ≤ length table.now }
     requires at_value { at ≡ members_at table.now }
     requires m_in_bounds { member_at table.now m ≤ length table.now }
-    ensures { result ≡ first_of (optional_rules table.now o owner row (is_tag_alike table.now owner.a m above row.tag)) }
+    ensures { result ≡ broken_of (optional_rules table.now o owner row (is_tag_alike table.now owner.a m above row.tag)) }
 {
     if no_part(table, begin, o, row.of) {
-        return 34;
+        return Err(34);
     }
     if 1 < row.mark {
-        return 36;
+        return Err(36);
     }
     if owner.kind == 9 {
-        return 36;
+        return Err(36);
     }
     if 2147483648 <= row.tag {
-        return 38;
+        return Err(38);
     }
     if is_tag_alike(table, at, owner.a, m, above, row.tag) {
-        return 38;
+        return Err(38);
     }
-    0
+    Ok(())
 }
 
-// The class of the first rule that member row m of owner o breaks, or 0.
+// The rules of member row m of owner o.
 fn member_class(
     table: &[u8],
     begin: usize,
@@ -658,15 +616,15 @@ fn member_class(
     m: usize,
     row: MemberRow,
     above: usize,
-) -> usize
+) -> Result<(), usize>
     requires begin_value { begin ≡ types_at table.now }
     requires o_in_bounds { row_at table.now o ≤ length table.now }
     requires at_value { at ≡ members_at table.now }
     requires m_in_bounds { member_at table.now m ≤ length table.now }
-    ensures { result ≡ first_of (member_rules_by table.now o owner row (is_tag_alike table.now owner.a m above row.tag)) }
+    ensures { result ≡ broken_of (member_rules_by table.now o owner row (is_tag_alike table.now owner.a m above row.tag)) }
 {
     if row.spare != 0 {
-        return 32;
+        return Err(32);
     }
     if row.mark == 0 {
         return required_row(table, begin, o, row);
@@ -703,8 +661,8 @@ pub fn is_usual(x: usize, optional: bool, above: usize) -> bool
 }
 
 // The rules of the member rows of owner o, if they are all there, as they are once the member sum is right. The table has k member rows, from `first` on.
-// The first loop judges usual rows, each as one number; from the first other row on, the second loop judges each row rule by rule. The tags before row m are below `above`.
-fn owner(table: &[u8], begin: usize, o: usize, first: usize, k: usize) -> Finding
+// The first loop judges usual rows, each as one number; from the first other row on, the second loop judges each row rule by rule. The tags before a row are below `above`.
+fn owner(table: &[u8], begin: usize, o: usize, first: usize, k: usize) -> Result<(), Refusal>
     requires begin_value { begin ≡ types_at table.now }
     requires o_in_bounds { row_at table.now (o + 1) ≤ length table.now }
     requires first_value { (first ≡ members_at table.now) × (k ≡ members table.now) }
@@ -712,85 +670,64 @@ fn owner(table: &[u8], begin: usize, o: usize, first: usize, k: usize) -> Findin
     ensures { MembersThere table.now o → result ≡ finding_of (owner_pass table.now o) }
 {
     let own = table::type_row_in(table, begin, o);
-    let mut left = share(own);
-    if left == 0 {
-        return Finding::Fine;
+    let count = share(own);
+    if count == 0 {
+        return Ok(());
     }
-    if k < own.a + left {
-        return Finding::Broken(35, 0);
+    let end = own.a + count;
+    if k < end {
+        return Err(Refusal {
+            number: 35,
+            place: 0,
+        });
     }
-    let mut m = own.a;
+    let mut other = own.a;
     let mut above = 0;
     let optional = own.kind != 9;
-    while left > 0 {
-        let p = table::member_at(table, first, m);
-        let x = wire::long_in(table, p);
+    for m in own.a..end {
+        let place = table::member_at(table, first, m);
+        let x = wire::long_in(table, place);
         if !is_usual(x, optional, above) {
             break;
         }
         if no_part(table, begin, o, x % 65536) {
-            return Finding::Broken(34, p);
+            return Err(Refusal { number: 34, place });
         }
         above = raised(above, x / 4294967296);
-        m += 1;
-        left -= 1;
+        other = m + 1;
     }
-    while left > 0 {
-        let place = table::member_at(table, first, m);
+    for m in other..end {
         let row = table::member_row_in(table, first, m);
-        let c = member_class(table, begin, first, o, own, m, row, above);
-        if c != 0 {
-            return Finding::Broken(c, place);
-        }
+        let judged = member_class(table, begin, first, o, own, m, row, above);
+        placed(table::member_at(table, first, m), judged)?;
         above = raised(above, row.tag);
-        m += 1;
-        left -= 1;
     }
-    Finding::Fine
+    Ok(())
 }
 
 // The pass over the k member rows, owner by owner of the n type rows, if the member rows of each owner are all there. A row of kinds 0 to 8 takes none and is passed at once.
-fn member_rows(table: &[u8], begin: usize, n: usize, k: usize) -> Finding
+fn member_rows(table: &[u8], begin: usize, n: usize, k: usize) -> Result<(), Refusal>
     requires begin_value { begin ≡ types_at table.now }
     requires n_value { (n ≡ types table.now) × (k ≡ members table.now) }
     requires k_in_bounds { member_at table.now k ≤ length table.now }
     ensures { OwnersThere table.now → result ≡ finding_of (owners_pass table.now (range 0 (types table.now))) }
 {
     let first = table::row_at(table, begin, n);
-    let mut o = 0;
-    while o < n {
-        if table::kind_in(table, begin, o) < 9 {
-            o += 1;
-            continue;
+    for o in 0..n {
+        if 9 <= table::kind_in(table, begin, o) {
+            owner(table, begin, o, first, k)?;
         }
-        let v = owner(table, begin, o, first, k);
-        match v {
-            Finding::Fine => {}
-            Finding::Broken(c, p) => {
-                return Finding::Broken(c, p);
-            }
-        }
-        o += 1;
     }
-    Finding::Fine
+    Ok(())
 }
 
 // The first rule that the table breaks.
-pub fn check(table: &[u8]) -> Finding
+pub fn check(table: &[u8]) -> Result<(), Refusal>
     ensures { result ≡ finding_of (faults table.now) }
 {
     let begin = table::types_at(table);
-    let h = header(table, begin);
-    if h != 0 {
-        return Finding::Broken(h, 0);
-    }
+    placed(0, header(table, begin))?;
     let n = table::types(table);
-    let v = type_rows(table, begin, n);
-    match v {
-        Finding::Broken(c, p) => {
-            return Finding::Broken(c, p);
-        }
-        Finding::Fine => {}
-    }
+    type_rows(table, begin, n)?;
     member_rows(table, begin, n, table::members(table))
 }

@@ -19,6 +19,8 @@ use lib.Dec.{eqb, leb, ltb}
 use mir.Syntax.{w64}
 use mir.Val.{Fits}
 use borrow.Author.Tests.{eqb-true, eqb-false, eq-eqb, ne_eqb, lt-ltb, le-ltb, le-leb, ltb-true, leb-true}
+use Rattle.std.specs.Prelude.{Result, Ok, Err, Some, None}
+use Rattle.std.specs.Prelude.{Option as Maybe}
 use Rattle.encoding.specs.Result.{ok, pick, same_bytes}
 use Rattle.encoding.proofs.ResultLaws.{both_true, held_took}
 use Rattle.encoding.specs.Number.{declared, val}
@@ -31,28 +33,22 @@ use Rattle.encoding.proofs.TableLaws.{chain_row}
 use Rattle.encoding.specs.Optional.{extent, next_optional, requireds}
 use Rattle.encoding.proofs.OptionalLaws.{ends_extent, held_extent}
 use Rattle.encoding.specs.Write.{optional_row}
-use Rattle.wire.specs.declared.Sized.{Sized}
-use Rattle.wire.specs.declared.Sized.TheVariants.{Is, Isnt}
-use Rattle.wire.specs.declared.Step.{Step}
-use Rattle.wire.specs.declared.Step.TheVariants.{Took, Fault}
+use Rattle.wire.specs.declared.Refusal.{Refusal}
+use Rattle.wire.specs.declared.Counted.{Counted}
 use Rattle.wire.specs.Steps.{step_of, bytes_of}
 use Rattle.wire.specs.StepLaws.{rest_is, step_took, step_fault, bytes_is, bytes_isnt}
-use Rattle.table.specs.declared.Found.{Found}
-use Rattle.table.specs.declared.Found.TheVariants.{At as FoundAt, Nothing as NotFound}
 use Rattle.table.specs.Found.{found_of}
 use Rattle.table.specs.Tags.{optional_from}
 use Rattle.level.specs.declared.Optional.{Optional}
-use Rattle.level.specs.declared.Optional.TheVariants.{Known, Skipped, Wrong}
+use Rattle.level.specs.declared.Optional.TheVariants.{Known, Skipped}
 use Rattle.level.specs.declared.Members.{Members}
-use Rattle.level.specs.declared.Members.TheVariants.{Read, Refused}
 use Rattle.level.specs.Answers.{members_of, optional_answer}
-use Rattle.level.specs.AnswersLaws.{known_read, skipped_read, wrong_read, skipped_some, skipped_within, skipped_tag, members_read, members_refused, members_within}
+use Rattle.level.specs.AnswersLaws.{known_read, skipped_read, wrong_read, skipped_some, skipped_within, members_read, members_refused, members_within}
 use Rattle.edit.specs.Change.{Target, or_further, target_in, target}
 use Rattle.edit.specs.Place.{Gap, gap, closed, seek_at, seek_piece, seek_next, seek_tag, moved_by, after_required, gap_in, Seat, size_read, id_read, seek_slice}
 use Rattle.seek.specs.declared.Slot.{Slot}
 use Rattle.seek.specs.declared.Slot.TheVariants.{List as InList, At, Nothing}
 use Rattle.seek.specs.declared.Frame.{Frame}
-use Rattle.seek.specs.declared.Frame.TheVariants.{At as FrameAt, Nothing as NoFrame}
 use Rattle.seek.specs.declared.Spot.{Spot}
 use Rattle.seek.specs.Located.{target_row, slot_of, slot_in, SlotInside, Framed, FrameIs, as_gap, SpotInside}
 
@@ -118,16 +114,16 @@ module _ (T : List ℕ) (m : ℕ) where
   chain_marked [] e = refl
   chain_marked (t ∷ ts) e = ap (or_further t (target_in T m ts)) (row_marked (trees T) (field T t 0) (field T t 1) e) ∙ chain_marked ts e
 
-  pub owner_required : (t k : ℕ) → k ≡ mark T m → k ≡ 0 → NotFound ≡ found_of (target_row (target T t m))
+  pub owner_required : (t k : ℕ) → k ≡ mark T m → k ≡ 0 → None ≡ found_of (target_row (target T t m))
   unfolding target found_of target_row
   owner_required t k e z = sym (ap (λ (w : Option Target). found_of (target_row w)) (chain_marked (chain T t) (sym e ∙ z)))
 
-  module _ (o : ℕ) (whole : Found) (inv : whole ≡ found_of (target_row (target T o m))) (r : Bool) (er : r ≡ takes T o m) where
+  module _ (o : ℕ) (whole : Maybe ℕ) (inv : whole ≡ found_of (target_row (target T o m))) (r : Bool) (er : r ≡ takes T o m) where
     node : target T o m ≡ or_further o (target_in T m (upward (chain T) (base T o))) (optional_row m 0 (Table.optional_members T o))
     unfolding target target_in
     node = ap (target_in T m) (chain_row T o)
 
-    pub owner_here : (k : ℕ) → k ≡ mark T m → (k ≡ 0 → ⊥) → r ≡ true → FoundAt o ≡ whole
+    pub owner_here : (k : ℕ) → k ≡ mark T m → (k ≡ 0 → ⊥) → r ≡ true → Some o ≡ whole
     unfolding or_further found_of target_row takes Table.optional_members own_rows
     owner_here k e u q =
         let b = both_true (leb (field T o 0) m) (ltb m (field T o 0 + field T o 1)) (sym er ∙ q) in
@@ -139,7 +135,7 @@ module _ (T : List ℕ) (m : ℕ) where
     further q = node ∙ ap (or_further o (target_in T m (upward (chain T) (base T o)))) (row_out (trees T) (field T o 0) (field T o 1) (sym er ∙ q))
 
     module _ (q : r ≡ false) (b : ℕ) (eb : b ≡ base T o) where
-      pub owner_end : b ≡ 0 → NotFound ≡ whole
+      pub owner_end : b ≡ 0 → None ≡ whole
       unfolding found_of target_row upward target_in
       owner_end z = sym (inv ∙ ap (λ (w : Option Target). found_of (target_row w)) (further q ∙ ap (λ (i : ℕ). target_in T m (upward (chain T) i)) (sym eb ∙ z)))
 
@@ -172,7 +168,7 @@ module _ (nm m : List ℕ) (start : ℕ) (whole : Slot) (at : ℕ) (inv : Seeks 
       go (suc f) [] h = refl
       go (suc f) (x ∷ l) h = absurd (omega arith)
 
-  module _ (more : at < length m) (fr : Frame) (F : FrameIs m at fr) where
+  module _ (more : at < length m) (fr : Maybe Frame) (F : FrameIs m at fr) where
     -- one slice further
     abbrev then : ℕ → Option Seat
     then f = id_read nm at (drop (at + 1) m) (extent vsize (drop (at + 1) m)) (λ a ys. seek_slice nm f a ys)
@@ -191,121 +187,121 @@ module _ (nm m : List ℕ) (start : ℕ) (whole : Slot) (at : ℕ) (inv : Seeks 
         go zero h e = absurd (omega arith)
         go (suc f) h e = (f, h, e ∙ ap slot_of (head (drop at m) refl f))
 
-    pub seeks_none : fr ≡ NoFrame → Nothing ≡ whole
+    pub seeks_none : fr ≡ None → Nothing ≡ whole
     unfolding slot_of
     seeks_none q = sym (opened.2 ∙ ap slot_of (subst (FrameIs m at) q F nm (λ a ys. seek_slice nm opened.0 a ys)))
 
-    module _ (a s e : ℕ) (q : fr ≡ FrameAt a s e) where
-      framed : Framed m at a s e
+    module _ (x : Frame) (q : fr ≡ Some x) where
+      framed : Framed m at x.id x.size x.end
       framed = subst (FrameIs m at) q F
 
-      pub frame_order : a ≤ s
+      pub frame_order : x.id ≤ x.size
       frame_order = framed.id_order
 
-      pub frame_within : s ≤ length m
+      pub frame_within : x.size ≤ length m
       frame_within = omega (arith, framed.least, framed.fits)
 
-      pub seeks_less : length m - e < length m - at
+      pub seeks_less : length m - x.end < length m - at
       seeks_less = omega (arith, framed.least, framed.fits, framed.size_at_lem)
 
-      pub slot_inside : SlotInside start (length m) (At at s e)
+      pub slot_inside : SlotInside start (length m) (At at x.size x.end)
       slot_inside = (inv.begun, omega (arith, framed.size_at_lem), framed.least, framed.fits)
 
-      module _ (r : Bool) (er : r ≡ same_bytes (take (s - a) (drop a m)) nm) where
-        chosen : whole ≡ slot_of (pick r (some (record { flags = at; size = s; end = e })) (seek_slice nm opened.0 e (drop e m)))
+      module _ (r : Bool) (er : r ≡ same_bytes (take (x.size - x.id) (drop x.id m)) nm) where
+        chosen : whole ≡ slot_of (pick r (some (record { flags = at; size = x.size; end = x.end })) (seek_slice nm opened.0 x.end (drop x.end m)))
         unfolding id_read size_read
         chosen =
             let f : ℕ = opened.0 in
-            opened.2 ∙ ap (λ w. slot_of (id_read nm at (drop (at + 1) m) w (λ a ys. seek_slice nm f a ys))) framed.reads_id
-            ∙ ap₂ (λ (z : ℕ) (y : List ℕ). slot_of (size_read nm at z framed.id y (declared 4 4 y) (λ a ys. seek_slice nm f a ys))) (sym framed.size_at_lem) (drop-drop framed.taken (at + 1) m ∙ ap (λ (z : ℕ). drop z m) (sym framed.size_at_lem))
-            ∙ ap (λ w. slot_of (size_read nm at s framed.id (drop s m) w (λ a ys. seek_slice nm f a ys))) framed.reads_size
-            ∙ ap₂ (λ (w : Bool) (y : List ℕ). slot_of (pick w (some (record { flags = at; size = s; end = s + framed.sized })) (seek_slice nm f (s + framed.sized) y))) (sym (er ∙ ap (λ (z : List ℕ). same_bytes z nm) framed.id_is)) (drop-drop framed.sized s m)
-            ∙ ap (λ (z : ℕ). slot_of (pick r (some (record { flags = at; size = s; end = z })) (seek_slice nm f z (drop z m)))) (sym framed.ends)
+            opened.2 ∙ ap (λ w. slot_of (id_read nm at (drop (at + 1) m) w (λ i ys. seek_slice nm f i ys))) framed.reads_id
+            ∙ ap₂ (λ (z : ℕ) (y : List ℕ). slot_of (size_read nm at z framed.id y (declared 4 4 y) (λ i ys. seek_slice nm f i ys))) (sym framed.size_at_lem) (drop-drop framed.taken (at + 1) m ∙ ap (λ (z : ℕ). drop z m) (sym framed.size_at_lem))
+            ∙ ap (λ w. slot_of (size_read nm at x.size framed.id (drop x.size m) w (λ i ys. seek_slice nm f i ys))) framed.reads_size
+            ∙ ap₂ (λ (w : Bool) (y : List ℕ). slot_of (pick w (some (record { flags = at; size = x.size; end = x.size + framed.sized })) (seek_slice nm f (x.size + framed.sized) y))) (sym (er ∙ ap (λ (z : List ℕ). same_bytes z nm) framed.id_is)) (drop-drop framed.sized x.size m)
+            ∙ ap (λ (z : ℕ). slot_of (pick r (some (record { flags = at; size = x.size; end = z })) (seek_slice nm f z (drop z m)))) (sym framed.ends)
 
-        pub seeks_here : r ≡ true → At at s e ≡ whole
+        pub seeks_here : r ≡ true → At at x.size x.end ≡ whole
         unfolding slot_of
-        seeks_here h = sym (chosen ∙ ap (λ (w : Bool). slot_of (pick w (some (record { flags = at; size = s; end = e })) (seek_slice nm opened.0 e (drop e m)))) h)
+        seeks_here h = sym (chosen ∙ ap (λ (w : Bool). slot_of (pick w (some (record { flags = at; size = x.size; end = x.end })) (seek_slice nm opened.0 x.end (drop x.end m)))) h)
 
-        pub seeks_next : r ≡ false → Seeks nm m start whole e
+        pub seeks_next : r ≡ false → Seeks nm m start whole x.end
         seeks_next h = record {
           fuel = opened.0;
           enough = omega (arith, opened.1, framed.least, framed.size_at_lem);
           begun = omega (arith, inv.begun, framed.least, framed.size_at_lem);
-          rest = chosen ∙ ap (λ (w : Bool). slot_of (pick w (some (record { flags = at; size = s; end = e })) (seek_slice nm opened.0 e (drop e m)))) h;
+          rest = chosen ∙ ap (λ (w : Bool). slot_of (pick w (some (record { flags = at; size = x.size; end = x.end })) (seek_slice nm opened.0 x.end (drop x.end m)))) h;
         }
 
 -- ---- one slice
 
-module _ (m : List ℕ) (at : ℕ) (more : at < length m) (id : Sized) (ei : id ≡ bytes_of (extent vsize (take (length m - (at + 1)) (drop (at + 1) m)))) where
+module _ (m : List ℕ) (at : ℕ) (more : at < length m) (id : Result Counted Refusal) (ei : id ≡ bytes_of (extent vsize (take (length m - (at + 1)) (drop (at + 1) m)))) where
   id_reads : id ≡ bytes_of (extent vsize (drop (at + 1) m))
   id_reads = ei ∙ ap (λ (z : List ℕ). bytes_of (extent vsize z)) (rest_is m (at + 1))
 
-  pub frame_unnamed : (c p : ℕ) → id ≡ Isnt c p → FrameIs m at NoFrame
+  pub frame_unnamed : (x : Refusal) → id ≡ Err x → FrameIs m at None
   unfolding id_read
-  frame_unnamed c p q nm further = ap (λ w. id_read nm at (drop (at + 1) m) w further) (bytes_isnt (extent vsize (drop (at + 1) m)) c p (sym q ∙ id_reads))
+  frame_unnamed x q nm further = ap (λ w. id_read nm at (drop (at + 1) m) w further) (bytes_isnt (extent vsize (drop (at + 1) m)) x (sym q ∙ id_reads))
 
-  module _ (n k : ℕ) (q : id ≡ Is n k) where
-    id_read_lem : (d : List ℕ) × (extent vsize (drop (at + 1) m) ≡ ok d k) × (n ≡ length d)
-    id_read_lem = bytes_is (extent vsize (drop (at + 1) m)) n k (sym q ∙ id_reads)
+  module _ (x : Counted) (q : id ≡ Ok x) where
+    id_read_lem : (d : List ℕ) × (extent vsize (drop (at + 1) m) ≡ ok d x.bytes) × (x.number ≡ length d)
+    id_read_lem = bytes_is (extent vsize (drop (at + 1) m)) x (sym q ∙ id_reads)
 
-    pub id_fits : at + 1 + k ≤ length m
+    pub id_fits : at + 1 + x.bytes ≤ length m
     id_fits = omega (arith, held_took (extent vsize) (held_extent vsize) (drop (at + 1) m) id_read_lem.1, length-drop (at + 1) m)
 
-    id_shorter : n ≤ k
-    id_shorter = omega (arith, id_read_lem.2, (ends_extent vsize (drop (at + 1) m) id_read_lem.0 k id_read_lem.1).within)
+    id_shorter : x.number ≤ x.bytes
+    id_shorter = omega (arith, id_read_lem.2, (ends_extent vsize (drop (at + 1) m) id_read_lem.0 x.bytes id_read_lem.1).within)
 
-    pub id_sum : Fits w64 (length m) → Fits w64 (at + 1 + k)
+    pub id_sum : Fits w64 (length m) → Fits w64 (at + 1 + x.bytes)
     id_sum f = omega (arith, id_fits)
 
-    pub id_begins : n ≤ at + 1 + k
+    pub id_begins : x.number ≤ at + 1 + x.bytes
     id_begins = omega (arith, id_shorter)
 
-    module _ (step : Step) (es : step ≡ step_of (declared 4 4 (take (length m - (at + 1 + k)) (drop (at + 1 + k) m)))) where
-      size_reads : step ≡ step_of (declared 4 4 (drop (at + 1 + k) m))
-      size_reads = es ∙ ap (λ (z : List ℕ). step_of (declared 4 4 z)) (rest_is m (at + 1 + k))
+    module _ (step : Result ℕ Refusal) (es : step ≡ step_of (declared 4 4 (take (length m - (at + 1 + x.bytes)) (drop (at + 1 + x.bytes) m)))) where
+      size_reads : step ≡ step_of (declared 4 4 (drop (at + 1 + x.bytes) m))
+      size_reads = es ∙ ap (λ (z : List ℕ). step_of (declared 4 4 z)) (rest_is m (at + 1 + x.bytes))
 
-      pub frame_unsized : (c p : ℕ) → step ≡ Fault c p → FrameIs m at NoFrame
+      pub frame_unsized : (y : Refusal) → step ≡ Err y → FrameIs m at None
       unfolding id_read size_read
-      frame_unsized c p h nm further =
+      frame_unsized y h nm further =
           ap (λ w. id_read nm at (drop (at + 1) m) w further) id_read_lem.1
-          ∙ ap (λ (z : List ℕ). size_read nm at (at + 1 + k) id_read_lem.0 z (declared 4 4 z) further) (drop-drop k (at + 1) m)
-          ∙ ap (λ w. size_read nm at (at + 1 + k) id_read_lem.0 (drop (at + 1 + k) m) w further) (step_fault (declared 4 4 (drop (at + 1 + k) m)) c p (sym h ∙ size_reads))
+          ∙ ap (λ (z : List ℕ). size_read nm at (at + 1 + x.bytes) id_read_lem.0 z (declared 4 4 z) further) (drop-drop x.bytes (at + 1) m)
+          ∙ ap (λ w. size_read nm at (at + 1 + x.bytes) id_read_lem.0 (drop (at + 1 + x.bytes) m) w further) (step_fault (declared 4 4 (drop (at + 1 + x.bytes) m)) y (sym h ∙ size_reads))
 
-      module _ (l : ℕ) (ql : step ≡ Took l) where
-        size_read_lem : (d : List ℕ) × (declared 4 4 (drop (at + 1 + k) m) ≡ ok d l)
-        size_read_lem = step_took (declared 4 4 (drop (at + 1 + k) m)) l (sym ql ∙ size_reads)
+      module _ (l : ℕ) (ql : step ≡ Ok l) where
+        size_read_lem : (d : List ℕ) × (declared 4 4 (drop (at + 1 + x.bytes) m) ≡ ok d l)
+        size_read_lem = step_took (declared 4 4 (drop (at + 1 + x.bytes) m)) l (sym ql ∙ size_reads)
 
-        size_fits : at + 1 + k + l ≤ length m
-        size_fits = omega (arith, held_took (declared 4 4) (held_declared 4 4) (drop (at + 1 + k) m) size_read_lem.1, length-drop (at + 1 + k) m, id_fits)
+        size_fits : at + 1 + x.bytes + l ≤ length m
+        size_fits = omega (arith, held_took (declared 4 4) (held_declared 4 4) (drop (at + 1 + x.bytes) m) size_read_lem.1, length-drop (at + 1 + x.bytes) m, id_fits)
 
-        pub size_sum : Fits w64 (length m) → Fits w64 (at + 1 + k + l)
+        pub size_sum : Fits w64 (length m) → Fits w64 (at + 1 + x.bytes + l)
         size_sum f = omega (arith, size_fits)
 
-        pub frame_is : FrameIs m at (FrameAt (at + 1 + k - n) (at + 1 + k) (at + 1 + k + l))
+        pub frame_is : FrameIs m at (Some (record { id = at + 1 + x.bytes - x.number; size = at + 1 + x.bytes; end = at + 1 + x.bytes + l }))
         frame_is =
-            let E = ends_extent vsize (drop (at + 1) m) id_read_lem.0 k id_read_lem.1 in
-            let a : at + 1 + k - (at + 1 + k - n) ≡ length id_read_lem.0 = omega (arith, id_read_lem.2, id_shorter) in
-            let b : at + 1 + k - n ≡ at + 1 + (k - length id_read_lem.0) = omega (arith, id_read_lem.2, id_shorter) in
+            let E = ends_extent vsize (drop (at + 1) m) id_read_lem.0 x.bytes id_read_lem.1 in
+            let a : at + 1 + x.bytes - (at + 1 + x.bytes - x.number) ≡ length id_read_lem.0 = omega (arith, id_read_lem.2, id_shorter) in
+            let b : at + 1 + x.bytes - x.number ≡ at + 1 + (x.bytes - length id_read_lem.0) = omega (arith, id_read_lem.2, id_shorter) in
             record {
               id = id_read_lem.0;
-              taken = k;
+              taken = x.bytes;
               reads_id = id_read_lem.1;
               size_at_lem = refl;
               body = size_read_lem.0;
               sized = l;
               reads_size = size_read_lem.1;
               ends = refl;
-              id_is = ap₂ (λ (i j : ℕ). take i (drop j m)) a b ∙ ap (take (length id_read_lem.0)) (sym (drop-drop (k - length id_read_lem.0) (at + 1) m)) ∙ E.there;
+              id_is = ap₂ (λ (i j : ℕ). take i (drop j m)) a b ∙ ap (take (length id_read_lem.0)) (sym (drop-drop (x.bytes - length id_read_lem.0) (at + 1) m)) ∙ E.there;
               id_order = omega arith;
-              least = omega (arith, declared_weight 4 4 (drop (at + 1 + k) m) size_read_lem.1);
+              least = omega (arith, declared_weight 4 4 (drop (at + 1 + x.bytes) m) size_read_lem.1);
               fits = size_fits;
             }
 
 -- ---- the end of optionals
 
-pub end_past : (s : List ℕ) (at : ℕ) → length s ≤ at → true ≡ closed (drop at s)
+pub end_past : (s : List ℕ) (at : ℕ) → length s ≤ at → leb (length s) at ≡ closed (drop at s)
 unfolding closed
-end_past s at h = go (drop at s) (omega (arith, length-drop at s))
+end_past s at h = le-leb (length s) at h ∙ go (drop at s) (omega (arith, length-drop at s))
   where
     go : (l : List ℕ) → length l ≤ 0 → true ≡ closed l
     go [] h = refl
@@ -319,7 +315,7 @@ end_byte s i b h e = ap (λ (z : ℕ). eqb z 255) e ∙ go (drop i s) (omega (ar
     go [] h = absurd (omega arith)
     go (x ∷ l) h = let e : x + 256 * 0 ≡ x = omega arith in ap (λ (z : ℕ). eqb z 255) e
 
-pub other_before : (least : ℕ) (e : Bool) → 0 < least → true ≡ ltb 0 least || not e
+pub other_before : (least : ℕ) (e : Bool) → 0 < least → ltb 0 least ≡ ltb 0 least || not e
 other_before least e h = rw (lt-ltb 0 least h)
 
 pub other_after : (least : ℕ) (e : Bool) → least ≤ 0 → not e ≡ ltb 0 least || not e
@@ -337,12 +333,6 @@ pub tags_begin : (s : List ℕ) (k : ℕ) → Tags s k (seek_tag k (suc (length 
 tags_begin s k = record { fuel = suc (length s); inside = omega arith; enough = omega arith; rest = refl }
 
 module _ (T s : List ℕ) (k : ℕ) (whole : Gap) (at least : ℕ) (inv : Tags s k whole at least) where
-  pub tags_inside : at ≤ length s
-  tags_inside = inv.inside
-
-  pub spot_empty : (q : Bool) → SpotInside (length s) (record { from = at; to = at; others = q })
-  spot_empty q = record { order = omega arith; inside = inv.inside }
-
   module _ (r : Bool) (er : r ≡ closed (drop at s)) where
     pub tags_end : r ≡ true → record { from = at; to = at; others = ltb 0 least } ≡ whole
     unfolding seek_tag gap
@@ -352,7 +342,7 @@ module _ (T s : List ℕ) (k : ℕ) (whole : Gap) (at least : ℕ) (inv : Tags s
         go zero h = absurd (omega (arith, inv.inside))
         go (suc f) h = rw (sym er ∙ q)
 
-    module _ (q : r ≡ false) (o : Optional) (eo : o ≡ optional_answer (optional_from T 0 0) (next_optional (optional_from T 0 0) least (take (length s - at) (drop at s)))) where
+    module _ (q : r ≡ false) (o : Result Optional Refusal) (eo : o ≡ optional_answer (optional_from T 0 0) (next_optional (optional_from T 0 0) least (take (length s - at) (drop at s)))) where
       none_known : optional_from T 0 0 ≡ []
       unfolding optional_from range optionals_in
       none_known = refl
@@ -369,34 +359,31 @@ module _ (T s : List ℕ) (k : ℕ) (whole : Gap) (at least : ℕ) (inv : Tags s
           go zero h e = absurd (omega (arith, inv.inside))
           go (suc f) h e = (f, h, e ∙ ap (λ (w : Bool). pick w (gap at at (ltb 0 least)) (seek_next k at least (drop at s) (next_optional [] least (drop at s)) (λ u n. seek_tag k f (at + n) u (drop n (drop at s))))) (sym er ∙ q))
 
-      pub tags_wrong : (c p : ℕ) → o ≡ Wrong c p → record { from = at; to = at; others = true } ≡ whole
+      pub tags_wrong : (x : Refusal) → o ≡ Err x → record { from = at; to = at; others = true } ≡ whole
       unfolding seek_next gap
-      tags_wrong c p h = sym (opened_tag.2 ∙ ap (λ w. seek_next k at least (drop at s) w (λ u n. seek_tag k opened_tag.0 (at + n) u (drop n (drop at s)))) (wrong_read [] least (drop at s) o reads c p h))
+      tags_wrong x h = sym (opened_tag.2 ∙ ap (λ w. seek_next k at least (drop at s) w (λ u n. seek_tag k opened_tag.0 (at + n) u (drop n (drop at s)))) (wrong_read [] least (drop at s) o reads x h))
 
-      pub tags_known : (m t a n : ℕ) → o ≡ Known m t a n → record { from = at; to = at; others = true } ≡ whole
+      pub tags_known : (p : Optional) → o ≡ Ok p → (m t a n : ℕ) → p ≡ Known m t a n → record { from = at; to = at; others = true } ≡ whole
       unfolding seek_next seek_piece gap
-      tags_known m t a n h =
-          sym (opened_tag.2 ∙ ap (λ w. seek_next k at least (drop at s) w (λ u n. seek_tag k opened_tag.0 (at + n) u (drop n (drop at s)))) (known_read [] least (drop at s) o reads m t a n h).read)
+      tags_known p g m t a n h =
+          sym (opened_tag.2 ∙ ap (λ w. seek_next k at least (drop at s) w (λ u n. seek_tag k opened_tag.0 (at + n) u (drop n (drop at s)))) (known_read [] least (drop at s) o reads p g m t a n h).read)
 
-      module _ (t n : ℕ) (h : o ≡ Skipped t n) where
+      module _ (p : Optional) (g : o ≡ Ok p) (t n : ℕ) (h : p ≡ Skipped t n) where
         abbrev onward : Gap
         onward = seek_tag k opened_tag.0 (at + n) (suc t) (drop n (drop at s))
 
         skipped_here : whole ≡ seek_at k at least (drop at s) t n onward
         unfolding seek_next seek_piece
-        skipped_here = opened_tag.2 ∙ ap (λ w. seek_next k at least (drop at s) w (λ u n. seek_tag k opened_tag.0 (at + n) u (drop n (drop at s)))) (skipped_read [] least (drop at s) o reads t n h).read
+        skipped_here = opened_tag.2 ∙ ap (λ w. seek_next k at least (drop at s) w (λ u n. seek_tag k opened_tag.0 (at + n) u (drop n (drop at s)))) (skipped_read [] least (drop at s) o reads p g t n h).read
 
         within : at + n ≤ length s
-        within = omega (arith, skipped_within [] least (drop at s) o reads t n h, length-drop at s, inv.inside)
+        within = omega (arith, skipped_within [] least (drop at s) o reads p g t n h, length-drop at s, inv.inside)
 
         pub tags_fits : Fits w64 (length s) → Fits w64 (at + n)
         tags_fits f = omega (arith, within)
 
-        pub tags_tag : Fits w64 (t + 1)
-        tags_tag = omega (arith, skipped_tag [] least (drop at s) o reads t n h)
-
         pub tags_less : length s - (at + n) < length s - at
-        tags_less = omega (arith, within, skipped_some [] least (drop at s) o reads t n h)
+        tags_less = omega (arith, within, skipped_some [] least (drop at s) o reads p g t n h)
 
         pub tags_before : k < t → record { from = at; to = at; others = true } ≡ whole
         unfolding seek_at gap
@@ -416,41 +403,35 @@ module _ (T s : List ℕ) (k : ℕ) (whole : Gap) (at least : ℕ) (inv : Tags s
         tags_next l u = record {
           fuel = opened_tag.0;
           inside = within;
-          enough = omega (arith, opened_tag.1, skipped_some [] least (drop at s) o reads t n h);
+          enough = omega (arith, opened_tag.1, skipped_some [] least (drop at s) o reads p g t n h);
           rest = skipped_here ∙ ap₂ (λ (x y : Bool). pick x (gap at at true) (pick y (gap at (at + n) (ltb 0 least || not (closed (drop n (drop at s))))) onward)) (le-ltb k t l) (ne_eqb k t u)
               ∙ ap₂ (λ (i : ℕ) (z : List ℕ). seek_tag k opened_tag.0 (at + n) i z) (sym (add-one t)) (drop-drop n at s);
         }
 
 -- ---- after the required members
 
-module _ (T : List ℕ) (o k : ℕ) (s : List ℕ) (start : ℕ) (ms : Members) (e : ms ≡ members_of 0 start (requireds (Table.required_members T o) s)) where
-  pub members_none : (c p : ℕ) → ms ≡ Refused c p → record { from = 0; to = 0; others = true } ≡ gap_in T o k s
+module _ (T : List ℕ) (o k : ℕ) (s : List ℕ) (start : ℕ) (ms : Result Members Refusal) (e : ms ≡ members_of 0 start (requireds (Table.required_members T o) s)) where
+  pub members_none : (x : Refusal) → ms ≡ Err x → record { from = 0; to = 0; others = true } ≡ gap_in T o k s
   unfolding gap_in after_required gap
-  members_none c p q = sym (ap (after_required k s) (members_refused (Table.required_members T o) 0 start s ms e c p q))
+  members_none x q = sym (ap (after_required k s) (members_refused (Table.required_members T o) 0 start s ms e x q))
 
-  module _ (n j i : ℕ) (q : ms ≡ Read n j i) where
-    pub members_fit : n ≤ length s
-    members_fit = members_within (Table.required_members T o) 0 start s ms e n j i q
+  module _ (p : Members) (q : ms ≡ Ok p) where
+    pub members_fit : p.bytes ≤ length s
+    members_fit = members_within (Table.required_members T o) 0 start s ms e p q
 
-    module _ (x : Spot) (ex : as_gap x ≡ seek_tag k (suc (length (take (length s - n) (drop n s)))) 0 0 (take (length s - n) (drop n s))) where
-      pub members_gap : record { from = n + x.from; to = n + x.to; others = x.others } ≡ gap_in T o k s
+    module _ (x : Spot) (ex : as_gap x ≡ seek_tag k (suc (length (take (length s - p.bytes) (drop p.bytes s)))) 0 0 (take (length s - p.bytes) (drop p.bytes s))) where
+      pub members_gap : record { from = p.bytes + x.from; to = p.bytes + x.to; others = x.others } ≡ gap_in T o k s
       unfolding gap_in after_required moved_by gap
       members_gap =
-          sym (ap (after_required k s) (members_read (Table.required_members T o) 0 start s ms e n j i q).1
-          ∙ ap (moved_by n) (sym (ex ∙ ap (λ (z : List ℕ). seek_tag k (suc (length z)) 0 0 z) (rest_is s n))))
+          sym (ap (after_required k s) (members_read (Table.required_members T o) 0 start s ms e p q).1
+          ∙ ap (moved_by p.bytes) (sym (ex ∙ ap (λ (z : List ℕ). seek_tag k (suc (length z)) 0 0 z) (rest_is s p.bytes))))
 
-      module _ (I : SpotInside (length (take (length s - n) (drop n s))) x) where
-        inside_rest : n + x.to ≤ length s
-        inside_rest = omega (arith, I.inside, ap length (rest_is s n), length-drop n s, members_fit)
+      module _ (I : SpotInside (length (take (length s - p.bytes) (drop p.bytes s))) x) where
+        inside_rest : p.bytes + x.to ≤ length s
+        inside_rest = omega (arith, I.inside, ap length (rest_is s p.bytes), length-drop p.bytes s, members_fit)
 
-        pub members_spot : SpotInside (length s) (record { from = n + x.from; to = n + x.to; others = x.others })
+        pub members_spot : SpotInside (length s) (record { from = p.bytes + x.from; to = p.bytes + x.to; others = x.others })
         members_spot = record { order = omega (arith, I.order); inside = inside_rest }
-
-        pub members_from : Fits w64 (length s) → Fits w64 (n + x.from)
-        members_from f = omega (arith, inside_rest, I.order)
-
-        pub members_to : Fits w64 (length s) → Fits w64 (n + x.to)
-        members_to f = omega (arith, inside_rest)
 
 -- ---- by the top's kind
 
@@ -467,11 +448,3 @@ module _ (T : List ℕ) (k o : ℕ) (m : List ℕ) where
     pub slot_exception : (k ≡ 14 → ⊥) → r ≡ slot_of (seek_slice (Table.name_of T o) (suc (length m)) 6 (drop 6 m)) → r ≡ slot_in T k o m
     unfolding slot_in
     slot_exception v h = rw (ne_eqb k 15 u, ne_eqb k 14 v) h
-
-pub inside_later : (l : ℕ) (r : Slot) → SlotInside 7 l r → SlotInside 6 l r
-inside_later l InList I = tt
-inside_later l (At f s e) I = (omega (arith, I.0), I.1, I.2, I.3)
-inside_later l Nothing I = tt
-
-pub spot_none : (l : ℕ) → SpotInside l (record { from = 0; to = 0; others = true })
-spot_none l = record { order = omega arith; inside = omega arith }

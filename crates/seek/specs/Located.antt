@@ -6,6 +6,8 @@
 --   Framed, FrameIs m at r      a slice at a place; what is read there
 --   as_gap, SpotInside     a spot as a gap; within l bytes
 use Rattle.std.specs.Prelude.{◌≡◌, List, ℕ, suc, ◌+◌, ◌-◌, ◌≤◌, length, take, drop, eqb}
+use Rattle.std.specs.Prelude.{Some, None}
+use Rattle.std.specs.Prelude.{Option as Maybe}
 use Rattle.std.proofs.Math.Option.{Option, none, some}
 use Rattle.encoding.specs.Result.{ok, pick}
 use Rattle.encoding.specs.Number.{declared}
@@ -17,7 +19,6 @@ use Rattle.edit.specs.Place.{Gap, Seat, id_read, seek_slice}
 use Rattle.seek.specs.declared.Slot.{Slot}
 use Rattle.seek.specs.declared.Slot.TheVariants.{List as InList, At, Nothing}
 use Rattle.seek.specs.declared.Frame.{Frame}
-use Rattle.seek.specs.declared.Frame.TheVariants.{At as FrameAt, Nothing as NoFrame}
 use Rattle.seek.specs.declared.Spot.{Spot}
 
 unfoldable pub target_row : Option Target → Option ℕ
@@ -56,9 +57,9 @@ pub record Framed (m : List ℕ) (at a s e : ℕ) : Type 0 where
   pub fits : e ≤ length m
 
 -- or there is none: no search goes on from there
-abbrev pub FrameIs : List ℕ → ℕ → Frame → Type 0
-FrameIs m at (FrameAt a s e) = Framed m at a s e
-FrameIs m at NoFrame = (nm : List ℕ) (further : ℕ → List ℕ → Option Seat) → id_read nm at (drop (at + 1) m) (extent vsize (drop (at + 1) m)) further ≡ none
+abbrev pub FrameIs : List ℕ → ℕ → Maybe Frame → Type 0
+FrameIs m at (Some x) = Framed m at x.id x.size x.end
+FrameIs m at None = (nm : List ℕ) (further : ℕ → List ℕ → Option Seat) → id_read nm at (drop (at + 1) m) (extent vsize (drop (at + 1) m)) further ≡ none
 
 abbrev pub as_gap : Spot → Gap
 as_gap s = record { from = s.from; to = s.to; others = s.others }

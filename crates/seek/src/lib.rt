@@ -10,23 +10,26 @@ ghost use Rattle.edit.specs.Change.{target};
 ghost use Rattle.edit.specs.Place.{closed, seek_tag, gap_in, seek_slice};
 ghost use Rattle.seek.specs.Located.{target_row, slot_of, slot_in, SlotInside, FrameIs, as_gap, SpotInside};
 
-use level::{Members, Optional};
-use table::Found;
-use wire::{Sized, Step};
+use level::Optional;
 
 // Where an owner's members are: in a parameter list; in a slice, with the places of its flags and of its size, and its end; or nowhere.
 #[derive(Clone, Copy)]
 pub enum Slot {
     List,
-    At(usize, usize, usize),
+    At {
+        flags: usize,
+        size: usize,
+        end: usize,
+    },
     Nothing,
 }
 
-// A slice: where its type ID begins, where its size is, and its end; or none.
+// A slice: where its type ID begins, where its size is, and its end.
 #[derive(Clone, Copy)]
-pub enum Frame {
-    At(usize, usize, usize),
-    Nothing,
+pub struct Frame {
+    pub id: usize,
+    pub size: usize,
+    pub end: usize,
 }
 
 // Where a tag is among the optionals of an owner: from a place up to another, and whether there are other optionals.
@@ -43,51 +46,50 @@ fn is_of(table: &[u8], begin: usize, t: usize, m: usize) -> bool
     ensures { result ≡ takes table.now t m }
 {
     let row = table::type_row(table, begin, t);
-    if m < row.a {
-        return false;
-    }
-    m < row.a + row.b
+    row.a <= m && m < row.a + row.b
 }
 
 // The row of the chain of row t that has member row m as an optional.
-pub fn owner(table: &[u8], begin: usize, t: usize, m: usize) -> Found
+pub fn owner(table: &[u8], begin: usize, t: usize, m: usize) -> Option<usize>
     requires { begin ≡ types_at table.now }
     ensures { result ≡ found_of (target_row (target table.now t m)) }
 {
     let first = table::members_at(table, begin);
     let member = table::member_row(table, first, m);
     if member.mark == 0 {
-        return Found::Nothing;
+        return None;
     }
     let mut o = t;
     loop {
         if is_of(table, begin, o, m) {
-            return Found::At(o);
+            return Some(o);
         }
         let b = table::chain::base(table, begin, o);
         if b == 0 {
-            return Found::Nothing;
+            return None;
         }
         o = b - 1;
     }
 }
 
-// Flags, type ID and size of the slice at a place: where its type ID begins, where its size is, and its end.
-fn read_frame(m: &[u8], at: usize) -> Frame
+// The slice at a place, by its flags, type ID and size; none where these are refused.
+fn read_frame(m: &[u8], at: usize) -> Option<Frame>
     requires { at < length m.now }
     ensures { FrameIs m.now at result }
 {
-    let id = wire::read_counted(&m[at + 1..]);
-    match id {
-        Sized::Is(n, k) => {
-            let size = at + 1 + k;
-            let step = wire::read_declared(&m[size..], 4, 4);
-            match step {
-                Step::Took(l) => Frame::At(size - n, size, size + l),
-                Step::Fault(c, p) => Frame::Nothing,
+    match wire::read_counted(&m[at + 1..]) {
+        Ok(id) => {
+            let size = at + 1 + id.bytes;
+            match wire::read_declared(&m[size..], 4, 4) {
+                Ok(bytes) => Some(Frame {
+                    id: size - id.number,
+                    size,
+                    end: size + bytes,
+                }),
+                Err(_) => None,
             }
         }
-        Sized::Isnt(c, p) => Frame::Nothing,
+        Err(_) => None,
     }
 }
 
@@ -98,16 +100,20 @@ fn find_slice(table: &[u8], begin: usize, o: usize, m: &[u8], start: usize) -> S
     ensures slot_inside { SlotInside start (length m.now) result }
 {
     let mut at = start;
+    // Stays: no `for`, since the step depends on the size just read.
     while at < m.len() {
-        let f = read_frame(m, at);
-        match f {
-            Frame::At(a, size, end) => {
-                if table::naming::is_named(table, begin, o, &m[a..size]) {
-                    return Slot::At(at, size, end);
+        match read_frame(m, at) {
+            Some(frame) => {
+                if table::naming::is_named(table, begin, o, &m[frame.id..frame.size]) {
+                    return Slot::At {
+                        flags: at,
+                        size: frame.size,
+                        end: frame.end,
+                    };
                 }
-                at = end;
+                at = frame.end;
             }
-            Frame::Nothing => {
+            None => {
                 return Slot::Nothing;
             }
         }
@@ -134,20 +140,7 @@ pub fn members_in(table: &[u8], begin: usize, k: usize, o: usize, m: &[u8]) -> S
 fn is_end(s: &[u8], at: usize) -> bool
     ensures { result ≡ closed (drop at s.now) }
 {
-    if s.len() <= at {
-        return true;
-    }
-    wire::byte_at(s, at) == 255
-}
-
-// Whether there are other optionals: one came before if `least` is above 0, one follows unless `end`.
-fn any_other(least: usize, end: bool) -> bool
-    ensures { result ≡ ltb 0 least || not end }
-{
-    if 0 < least {
-        return true;
-    }
-    !end
+    s.len() <= at || wire::byte_at(s, at) == 255
 }
 
 // Where an optional of a tag is, or would be put: before the first with a greater tag, known or not. The optionals are the bytes given, up to the end marker or the end; each is passed by its declared bytes.
@@ -167,6 +160,7 @@ fn find_tag(
 {
     let mut at = 0;
     let mut least = 0;
+    // Stays: no `for`, since each step is as long as the optional just read.
     loop {
         if is_end(s, at) {
             return Spot {
@@ -175,36 +169,37 @@ fn find_tag(
                 others: 0 < least,
             };
         }
-        let o = level::optionals::optional(table, begin, first, shapes, 0, 0, least, &s[at..]);
-        match o {
-            Optional::Skipped(t, n) => {
-                if tag < t {
+        let answer = level::optionals::optional(table, begin, first, shapes, 0, 0, least, &s[at..]);
+        match answer {
+            Ok(next) => match next {
+                Optional::Skipped { tag: t, bytes } => {
+                    if tag < t {
+                        return Spot {
+                            from: at,
+                            to: at,
+                            others: true,
+                        };
+                    }
+                    if tag == t {
+                        let end = is_end(s, at + bytes);
+                        return Spot {
+                            from: at,
+                            to: at + bytes,
+                            others: 0 < least || !end,
+                        };
+                    }
+                    at += bytes;
+                    least = t + 1;
+                }
+                Optional::Known { .. } => {
                     return Spot {
                         from: at,
                         to: at,
                         others: true,
                     };
                 }
-                if tag == t {
-                    let end = is_end(s, at + n);
-                    let others = any_other(least, end);
-                    return Spot {
-                        from: at,
-                        to: at + n,
-                        others: others,
-                    };
-                }
-                at += n;
-                least = t + 1;
-            }
-            Optional::Known(member, t, a, n) => {
-                return Spot {
-                    from: at,
-                    to: at,
-                    others: true,
-                };
-            }
-            Optional::Wrong(c, p) => {
+            },
+            Err(_) => {
                 return Spot {
                     from: at,
                     to: at,
@@ -231,9 +226,9 @@ pub fn optional_in(
     ensures spot_inside { SpotInside (length s.now) result }
 {
     let mut none = [0u8; 12];
-    let members = level::required(table, begin, shapes, o, s, 0, 0, &mut none, false);
-    match members {
-        Members::Read(n, k, opt) => {
+    match level::required(table, begin, shapes, o, s, 0, 0, &mut none, false) {
+        Ok(members) => {
+            let n = members.bytes;
             let first = table::members_at(table, begin);
             let x = find_tag(table, begin, first, shapes, tag, &s[n..]);
             Spot {
@@ -242,7 +237,7 @@ pub fn optional_in(
                 others: x.others,
             }
         }
-        Members::Refused(c, p) => Spot {
+        Err(_) => Spot {
             from: 0,
             to: 0,
             others: true,

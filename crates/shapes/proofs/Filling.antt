@@ -1,7 +1,7 @@
 -- Shapes of rows, each from the shapes of the rows below. Assumes nothing.
 --
 --   code_..                                    the form that a shape says
---   plain_at, plain_none                       the shape of a row without parts
+--   plain_none                                 the shape of a row without parts
 --   width_none, width_number, width_struct     the width that a shape says
 --   shape_here, shape_past                     the shape of a row, in the array and past its end
 --   fixed_..                                   what the test of one row finds, by its shape and kind
@@ -51,9 +51,6 @@ module _ (x : ℕ) where
     pub code_struct : 18 ≤ x → (x ≡ 18 → ⊥) → 9 ≡ form_code x
     unfolding form_code
     code_struct l e = rw (le-ltb x 11 h, le-ltb x 18 l, ne_eqb x 18 e)
-
-pub plain_at : (n k : ℕ) → k ≡ n → plain_shape n ≡ plain_shape k
-plain_at n k e = ap plain_shape (sym e)
 
 plain_past : (k : ℕ) → 9 ≤ k → plain_shape k ≡ 10
 unfolding plain_shape
@@ -191,8 +188,8 @@ module _ (T : List ℕ) (t m left : ℕ) (inv : Members T t m left) where
       pub members_not : r ≡ false → false ≡ fixeds (member_tys T (tys T t) (own_rows T t))
       members_not q = sym (member_fixed false q)
 
-      pub members_next : r ≡ true → Members T t (m + 1) (left - 1)
-      members_next q = (omega arith, member_fixed true q)
+      pub members_next : r ≡ true → (k : ℕ) → k ≡ left - 1 → Members T t (m + 1) k
+      members_next q k z = (omega arith, rw z (member_fixed true q))
 
 -- ---- the width of a struct
 
@@ -246,8 +243,8 @@ module _ (T : List ℕ) (t m left sum : ℕ) (inv : Widths T t m left sum) where
       pub widths_not : r ≡ 0 → 0 ≡ width_of (struct (member_tys T (tys T t) (own_rows T t)))
       widths_not q = struct_width 0 (member_width ∙ rw q)
 
-      pub widths_next : r < 256 → (r ≡ 0 → ⊥) → Widths T t (m + 1) (left - 1) (sum + r)
-      widths_next k q = (omega arith, (omega arith, inv.1.1 ∙ member_width ∙ rw (ne_eqb r 0 q)))
+      pub widths_next : r < 256 → (r ≡ 0 → ⊥) → (k : ℕ) → k ≡ left - 1 → Widths T t (m + 1) k (sum + r)
+      widths_next b q k z = (omega arith, (omega arith, rw z (inv.1.1 ∙ member_width ∙ rw (ne_eqb r 0 q))))
 
 -- ---- structs and containers
 

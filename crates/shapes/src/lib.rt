@@ -1,5 +1,6 @@
 // The shape of each row, computed from the shapes of the rows below it, so that no type tree is walked.
 // A shape is a number that says two things of the row's type: the form of an optional and, if every string of n bytes is a value, that n, the width.
+// Stays: a shape is one byte and no enum: memory is fixed, a call has 256 of them on its stack, and form and width are read off by a comparison and a subtraction.
 #![tactic(auto)]
 
 ghost use Rattle.std.specs.Prelude.{◌≡◌, ◌≤◌, ◌<◌, replicate};
@@ -9,6 +10,7 @@ ghost use Rattle.encoding.specs.Table.{types_at, field, member_tys, own_rows, ty
 ghost use Rattle.shapes.specs.Shapes.{width_of, plain_shape, shape_of, shape_at, shapes_of, Shaped, form_code, width_code, shape_in, form_in, width_in, width_below, is_text_in, is_bool_in, is_enum_in};
 
 // The number of the optional's form that a shape says.
+#[tactic(auto, using(crate::proofs::Filling::code_own, crate::proofs::Filling::code_same, crate::proofs::Filling::code_number, crate::proofs::Filling::code_eight, crate::proofs::Filling::code_struct))]
 fn form_code(x: usize) -> usize
     ensures { result ≡ form_code x }
 {
@@ -22,6 +24,7 @@ fn form_code(x: usize) -> usize
 }
 
 // The width that a shape says, or 0 if it has none.
+#[tactic(auto, using(crate::proofs::Filling::width_none, crate::proofs::Filling::width_number, crate::proofs::Filling::width_struct))]
 fn width_code(x: usize) -> usize
     ensures { (result ≡ width_code x) × (result ≤ x) }
 {
@@ -56,6 +59,7 @@ pub fn width(shapes: &[u8; 256], t: usize) -> usize
 }
 
 // Row t is a string.
+// Stays: `is_bool` and `is_enum` differ from it by the number alone, but each is one comparison, and its name says more than the number as a parameter would.
 pub fn is_text(shapes: &[u8; 256], t: usize) -> bool
     ensures { result ≡ is_text_in shapes.now t }
 {
@@ -108,23 +112,16 @@ fn are_fixed(table: &[u8], begin: usize, shapes: &[u8; 256], t: usize) -> bool
 {
     let count = table::members(table);
     let first = table::members_at(table, begin);
-    let mut m = table::field(table, begin, t, 0);
-    let mut left = table::field(table, begin, t, 1);
-    while left > 0 {
+    let start = table::field(table, begin, t, 0);
+    let end = start + table::field(table, begin, t, 1);
+    for m in start..end {
         if count <= m {
             return false;
         }
-        if !is_fixed(
-            table,
-            begin,
-            shapes,
-            t,
-            table::member_row_from(table, first, m).of,
-        ) {
+        let of = table::member_row_from(table, first, m).of;
+        if !is_fixed(table, begin, shapes, t, of) {
             return false;
         }
-        m += 1;
-        left -= 1;
     }
     true
 }
@@ -149,10 +146,9 @@ fn struct_width(table: &[u8], begin: usize, shapes: &[u8; 256], t: usize) -> usi
     let count = table::members(table);
     let first = table::members_at(table, begin);
     let row = table::type_row(table, begin, t);
-    let mut m = row.a;
-    let mut left = row.b;
+    let end = row.a + row.b;
     let mut sum: usize = 0;
-    while left > 0 {
+    for m in row.a..end {
         if count <= m {
             return 0;
         }
@@ -161,13 +157,8 @@ fn struct_width(table: &[u8], begin: usize, shapes: &[u8; 256], t: usize) -> usi
             return 0;
         }
         sum += w;
-        m += 1;
-        left -= 1;
     }
-    if 237 < sum {
-        return 0;
-    }
-    sum
+    if sum <= 237 { sum } else { 0 }
 }
 
 // The shape of struct row t.
@@ -185,6 +176,7 @@ fn struct_shape(table: &[u8], begin: usize, shapes: &[u8; 256], t: usize) -> u8
 }
 
 // The shape of a row without parts, by its kind.
+#[tactic(auto, using(crate::proofs::Filling::plain_none), unfolding(crate::specs::Shapes::plain_shape))]
 pub fn plain(k: usize) -> u8
     ensures { result ≡ plain_shape k }
 {
@@ -265,11 +257,8 @@ pub fn fill(table: &[u8], begin: usize, shapes: &mut [u8; 256])
     requires shapes_value { shapes.old ≡ replicate 256 10 }
     ensures { shapes.new ≡ shapes_of table.now }
 {
-    let n = table::rows(table);
-    let mut t = 0;
-    while t < n {
+    for t in 0..table::rows(table) {
         let x = row_shape(table, begin, shapes, t);
         shapes[t] = x;
-        t += 1;
     }
 }

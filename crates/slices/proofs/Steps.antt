@@ -7,14 +7,14 @@ use mathlib.Core.Path.{◌≡◌, refl, sym, ap, ◌∙◌}
 use mathlib.Core.Bool.{Bool, true, false, ◌&&◌, not}
 use mathlib.Core.Option.{none, some}
 use mathlib.Core.List.{List, [], ◌∷◌}
-use Prim.Native.Nat.{ℕ, ◌+◌, ◌-◌, ◌≤◌}
+use Prim.Native.Nat.{ℕ, ◌+◌, ◌-◌, ◌^◌, ◌≤◌, ◌<◌}
 use native.Mathlib.Omega.{arith}
 use lib.ListN.{length, take, drop, length-drop}
 use lib.Dec.{eqb}
 use borrow.Author.Tests.{eq-eqb, ne_eqb}
 use mir.Syntax.{w64}
 use mir.Val.{Fits}
-use Rattle.encoding.specs.Result.{ok, bad, at_mark}
+use Rattle.encoding.specs.Result.{Res, ok, bad, shift, at_mark}
 use Rattle.encoding.proofs.ResultLaws.{held_took, held_refused}
 use Rattle.encoding.specs.Number.{declared}
 use Rattle.encoding.proofs.NumberLaws.{held_declared}
@@ -24,82 +24,93 @@ use Rattle.encoding.specs.Optional.{next_optional}
 use Rattle.encoding.proofs.WeightLaws.{declared_weight}
 use Rattle.encoding.specs.Slice
 use Rattle.wire.specs.At.{at_byte}
-use Rattle.wire.specs.declared.Step.{Step}
-use Rattle.wire.specs.declared.Step.TheVariants.{Took, Fault}
-use Rattle.wire.specs.Steps.{step_of}
-use Rattle.wire.specs.StepLaws.{rest_is, step_took, step_fault}
+use Rattle.std.specs.Prelude.{Result, Ok, Err, Some, None}
+use Rattle.std.specs.Prelude.{Option as Answer}
+use Rattle.wire.specs.declared.Refusal.{Refusal}
+use Rattle.wire.specs.Steps.{step_of, refused, behind, later, LaterFits}
+use Rattle.wire.specs.StepLaws.{rest_later}
+use Rattle.wire.proofs.Sums.{later_fits}
 use Rattle.table.specs.Tags.{optional_from}
 use Rattle.level.specs.declared.Optional.{Optional}
-use Rattle.level.specs.declared.Optional.TheVariants.{Known as KnownOptional, Skipped as SkippedOptional, Wrong as WrongOptional}
+use Rattle.level.specs.declared.Optional.TheVariants.{Known as KnownOptional}
 use Rattle.level.specs.Answers.{Headed, optional_answer}
 use Rattle.heads.specs.declared.Stage.{Stage}
 use Rattle.heads.specs.declared.Stage.TheVariants.{First, Seeking, Following}
 use Rattle.heads.specs.declared.Heading.{Heading}
-use Rattle.heads.specs.declared.Heading.TheVariants.{Skip as SkipHeading, Known as KnownHeading, Wrong as WrongHeading}
-use Rattle.slices.specs.declared.Opening.TheVariants.{Skip, Known, Wrong}
-use Rattle.slices.specs.declared.Turn.TheVariants.{End, Known as KnownTurn, Skipped as SkippedTurn, Wrong as WrongTurn}
-use Rattle.slices.specs.declared.Walk.TheVariants.{Stop}
+use Rattle.heads.specs.declared.Heading.TheVariants.{Skip as SkipHeading, Known as KnownHeading}
+use Rattle.slices.specs.declared.Opening.TheVariants.{Skip, Known}
 use Rattle.heads.specs.Stages.{stage_of, head_answer}
 use Rattle.slices.specs.Openings.{skip_opening, part_opening, head_opening, headed, opening, turn_answer, turn_by, turn_of, first_or}
 use Rattle.slices.specs.OpeningLaws.{skip_head_within, known_head_within}
-use Rattle.slices.specs.Left.{answer_of, recall_to, recalling}
+use Rattle.slices.specs.declared.Walk.TheVariants.{Stop}
+use Rattle.slices.specs.Left.{recall_to, stop_at}
 
 -- ---- a slice up to its data
 
--- the declared length after n bytes
-module _ (s : List ℕ) (n : ℕ) (l : n ≤ length s) (step : Step) (f : step ≡ step_of (declared 4 4 (take (length s - n) (drop n s)))) where
-  declares : step ≡ step_of (declared 4 4 (drop n s))
-  declares = f ∙ ap (λ (z : List ℕ). step_of (declared 4 4 z)) (rest_is s n)
+-- the end of declared bytes that begin after n bytes
+module _ (s : List ℕ) (n : ℕ) (l : n ≤ length s) (step : Result ℕ Refusal) (f : step ≡ step_of (declared 4 4 (take (length s - n) (drop n s)))) where
+  pub declared_fits : length s < 2 ^ 64 → LaterFits n step
+  declared_fits = later_fits (declared 4 4) (held_declared 4 4) s n step f l
 
-  took : (k : ℕ) → step ≡ Took k → (d : List ℕ) × (declared 4 4 (drop n s) ≡ ok d k)
-  took k q = step_took (declared 4 4 (drop n s)) k (sym q ∙ declares)
+  module _ (r : Result ℕ Refusal) (g : r ≡ later n step) where
+    ends_as : r ≡ step_of (shift n (declared 4 4 (drop n s)))
+    ends_as = g ∙ rest_later (declared 4 4) s n step f
 
-  fault : (c p : ℕ) → step ≡ Fault c p → declared 4 4 (drop n s) ≡ bad c p
-  fault c p q = step_fault (declared 4 4 (drop n s)) c p (sym q ∙ declares)
+    pub declared_ended : (e : ℕ) → r ≡ Ok e → (d : List ℕ) × (k : ℕ) × (declared 4 4 (drop n s) ≡ ok d k) × (e ≡ n + k)
+    unfolding step_of shift
+    declared_ended e q = go (declared 4 4 (drop n s)) refl (sym q ∙ ends_as)
+      where
+        go : (y : Res (List ℕ)) → declared 4 4 (drop n s) ≡ y → Ok e ≡ step_of (shift n y) → (d : List ℕ) × (k : ℕ) × (declared 4 4 (drop n s) ≡ ok d k) × (e ≡ n + k)
+        go (ok d k) i h = (d, k, i, cc)
+        go (bad c p) i h = let z : ◌≡◌ {A = ℕ} 0 1 = cc in absurd (omega arith)
 
-  pub took_fits : (k : ℕ) → step ≡ Took k → Fits w64 (length s) → Fits w64 (n + k)
-  took_fits k q b = omega (arith, held_took (declared 4 4) (held_declared 4 4) (drop n s) (took k q).1, length-drop n s)
+    pub declared_unended : (x : Refusal) → r ≡ Err x → (c : ℕ) × (p : ℕ) × (declared 4 4 (drop n s) ≡ bad c p) × (x ≡ record { number = c; place = n + p })
+    unfolding step_of shift
+    declared_unended x q = go (declared 4 4 (drop n s)) refl (sym q ∙ ends_as)
+      where
+        go : (y : Res (List ℕ)) → declared 4 4 (drop n s) ≡ y → Err x ≡ step_of (shift n y) → (c : ℕ) × (p : ℕ) × (declared 4 4 (drop n s) ≡ bad c p) × (x ≡ record { number = c; place = n + p })
+        go (ok d k) i h = let z : ◌≡◌ {A = ℕ} 0 1 = cc in absurd (omega arith)
+        go (bad c p) i h = (c, p, i, cc)
 
-  pub size_fits : (k : ℕ) → step ≡ Took k → Fits w64 (length s) → Fits w64 (n + 4)
-  size_fits k q b =
-      omega (arith, held_took (declared 4 4) (held_declared 4 4) (drop n s) (took k q).1, length-drop n s, declared_weight 4 4 (drop n s) (took k q).1)
+    pub size_fits : (e : ℕ) → r ≡ Ok e → length s < 2 ^ 64 → Fits w64 (n + 4)
+    size_fits e q b =
+        let E = declared_ended e q in
+        omega (arith, held_took (declared 4 4) (held_declared 4 4) (drop n s) E.2, length-drop n s, declared_weight 4 4 (drop n s) E.2)
 
-  pub fault_fits : (c p : ℕ) → step ≡ Fault c p → Fits w64 (length s) → Fits w64 (n + p)
-  fault_fits c p q b = omega (arith, held_refused (declared 4 4) (held_declared 4 4) (drop n s) (fault c p q), length-drop n s)
-
-module _ (T : List ℕ) (top : ℕ) (st : Slice.Stage) (s : List ℕ) (r : Heading) (e : r ≡ head_answer T top st (headed T top st s)) where
-  pub opening_wrong : (c p : ℕ) → r ≡ WrongHeading c p → Wrong c p ≡ opening T top st s
+module _ (T : List ℕ) (top : ℕ) (st : Slice.Stage) (s : List ℕ) (r : Result Heading Refusal) (e : r ≡ head_answer T top st (headed T top st s)) where
+  pub opening_wrong : (x : Refusal) → r ≡ Err x → Err x ≡ opening T top st s
   unfolding opening head_opening
-  opening_wrong c p q = rw (sym e ∙ q)
+  opening_wrong x q = rw (sym e ∙ q)
 
-  pub opening_compact : (t n : ℕ) (o z : Bool) → r ≡ KnownHeading t o z n → z ≡ false → Known t o false n (length s) ≡ opening T top st s
-  unfolding opening head_opening
-  opening_compact t n o z q f = rw (sym e ∙ q, f)
+  module _ (h : Heading) (g : r ≡ Ok h) where
+    pub opening_compact : (t n : ℕ) (o z : Bool) → h ≡ KnownHeading t o z n → z ≡ false → Ok (Known t o z n (length s)) ≡ opening T top st s
+    unfolding opening head_opening
+    opening_compact t n o z q f = rw (sym e ∙ g, q, f)
 
-  pub skip_within : (n : ℕ) → r ≡ SkipHeading n → n ≤ length s
-  skip_within n q = skip_head_within T top st s e q
+    pub skip_within : (n : ℕ) → h ≡ SkipHeading n → n ≤ length s
+    skip_within n q = skip_head_within T top st s e (g ∙ ap Ok q)
 
-  pub known_within : (t n : ℕ) (o z : Bool) → r ≡ KnownHeading t o z n → n ≤ length s
-  known_within t n o z q = known_head_within T top st s e q
+    pub known_within : (t n : ℕ) (o z : Bool) → h ≡ KnownHeading t o z n → n ≤ length s
+    known_within t n o z q = known_head_within T top st s e (g ∙ ap Ok q)
 
-  module _ (n : ℕ) (step : Step) (f : step ≡ step_of (declared 4 4 (take (length s - n) (drop n s)))) where
-    module _ (q : r ≡ SkipHeading n) where
-      pub opening_skip : (k : ℕ) → step ≡ Took k → Skip (n + k) ≡ opening T top st s
-      unfolding opening head_opening skip_opening
-      opening_skip k w = rw (sym e ∙ q, (took s n (skip_within n q) step f k w).1)
+    module _ (n : ℕ) (step : Result ℕ Refusal) (f : step ≡ step_of (declared 4 4 (take (length s - n) (drop n s)))) (i : Result ℕ Refusal) (ei : i ≡ later n step) where
+      module _ (q : h ≡ SkipHeading n) where
+        pub opening_skip : (b : ℕ) → i ≡ Ok b → Ok (Skip b) ≡ opening T top st s
+        unfolding opening head_opening skip_opening
+        opening_skip b w = let E = declared_ended s n (skip_within n q) step f i ei b w in simp (sym e ∙ g, q, E.2, E.3)
 
-      pub opening_unskipped : (c p : ℕ) → step ≡ Fault c p → Wrong c (n + p) ≡ opening T top st s
-      unfolding opening head_opening skip_opening
-      opening_unskipped c p w = rw (sym e ∙ q, fault s n (skip_within n q) step f c p w)
+        pub opening_unskipped : (x : Refusal) → i ≡ Err x → Err x ≡ opening T top st s
+        unfolding opening head_opening skip_opening
+        opening_unskipped x w = let E = declared_unended s n (skip_within n q) step f i ei x w in simp (sym e ∙ g, q, E.2, E.3)
 
-    module _ (t : ℕ) (o z : Bool) (q : r ≡ KnownHeading t o z n) (g : z ≡ true) where
-      pub opening_sliced : (k : ℕ) → step ≡ Took k → Known t o true (n + 4) (n + k) ≡ opening T top st s
-      unfolding opening head_opening part_opening
-      opening_sliced k w = rw (sym e ∙ q, g, (took s n (known_within t n o z q) step f k w).1)
+      module _ (t : ℕ) (o z : Bool) (q : h ≡ KnownHeading t o z n) (j : z ≡ true) where
+        pub opening_sliced : (b : ℕ) → i ≡ Ok b → Ok (Known t o z (n + 4) b) ≡ opening T top st s
+        unfolding opening head_opening part_opening
+        opening_sliced b w = let E = declared_ended s n (known_within t n o z q) step f i ei b w in simp (sym e ∙ g, q, j, E.2, E.3)
 
-      pub opening_unsized : (c p : ℕ) → step ≡ Fault c p → Wrong c (n + p) ≡ opening T top st s
-      unfolding opening head_opening part_opening
-      opening_unsized c p w = rw (sym e ∙ q, g, fault s n (known_within t n o z q) step f c p w)
+        pub opening_unsized : (x : Refusal) → i ≡ Err x → Err x ≡ opening T top st s
+        unfolding opening head_opening part_opening
+        opening_unsized x w = let E = declared_unended s n (known_within t n o z q) step f i ei x w in simp (sym e ∙ g, q, j, E.2, E.3)
 
 -- ---- the next optional
 
@@ -115,45 +126,41 @@ mark_none (x ∷ s) e = rw (ne_eqb x 255 (λ z. e (at_byte (x ∷ s) 0 ∙ z)))
 
 module _ (ms : List Member) (least : ℕ) (s : List ℕ) (b : ℕ) (e : b ≡ Table.at s 1 0) where
   module _ (q : b ≡ 255) where
-    pub next_early : least ≡ 0 → WrongTurn 14 0 ≡ turn_of ms least s
+    pub next_early : least ≡ 0 → refused 14 0 ≡ turn_of ms least s
     unfolding turn_of turn_by
     next_early z = rw (mark_here s (sym e ∙ q), eq-eqb least 0 z)
 
-    pub next_end : (least ≡ 0 → ⊥) → End ≡ turn_of ms least s
+    pub next_end : (least ≡ 0 → ⊥) → Ok None ≡ turn_of ms least s
     unfolding turn_of turn_by
     next_end z = rw (mark_here s (sym e ∙ q), ne_eqb least 0 z)
 
-  module _ (q : b ≡ 255 → ⊥) (o : Optional) (f : o ≡ optional_answer ms (next_optional ms least s)) where
+  module _ (q : b ≡ 255 → ⊥) (r : Result Optional Refusal) (f : r ≡ optional_answer ms (next_optional ms least s)) where
     unmarked : at_mark s ≡ none
     unmarked = mark_none s (λ z. q (e ∙ z))
 
-    pub next_known : (m k a n : ℕ) → o ≡ KnownOptional m k a n → KnownTurn m k a n ≡ turn_of ms least s
+    pub next_some : (o : Optional) → r ≡ Ok o → Ok (Some o) ≡ turn_of ms least s
     unfolding turn_of turn_by turn_answer
-    next_known m k a n w = rw (unmarked, sym f ∙ w)
+    next_some o w = rw (unmarked, sym f ∙ w)
 
-    pub next_skipped : (k n : ℕ) → o ≡ SkippedOptional k n → SkippedTurn k n ≡ turn_of ms least s
+    pub next_wrong : (x : Refusal) → r ≡ Err x → Err x ≡ turn_of ms least s
     unfolding turn_of turn_by turn_answer
-    next_skipped k n w = rw (unmarked, sym f ∙ w)
-
-    pub next_wrong : (c p : ℕ) → o ≡ WrongOptional c p → WrongTurn c p ≡ turn_of ms least s
-    unfolding turn_of turn_by turn_answer
-    next_wrong c p w = rw (unmarked, sym f ∙ w)
+    next_wrong x w = rw (unmarked, sym f ∙ w)
 
 -- an optional that was read without a call
 pub next_simple : (T : List ℕ) (stop row least : ℕ) (s : List ℕ) (b : ℕ) → b ≡ Table.at s 1 0 → (b ≡ 255 → ⊥) → (k h n : ℕ) → Headed T stop row least s k h n → (n ≡ 0 → ⊥)
-    → KnownTurn row k h n ≡ turn_of (optional_from T stop row) least s
-next_simple T stop row least s b e q k h n B z = next_known (optional_from T stop row) least s b e q (KnownOptional row k h n) (B.known (omega (arith, z))) row k h n refl
+    → Ok (Some (KnownOptional row k h n)) ≡ turn_of (optional_from T stop row) least s
+next_simple T stop row least s b e q k h n B z = next_some (optional_from T stop row) least s b e q (Ok (KnownOptional row k h n)) (B.known (omega (arith, z))) (KnownOptional row k h n) refl
 
 -- ---- small answers
 
-module _ (flags c place : ℕ) where
-  pub recall_flags : c ≡ 14 → Stop c flags ≡ answer_of (recalling flags c place)
-  unfolding answer_of recalling recall_to
-  recall_flags q = rw (eq-eqb c 14 q)
+module _ (flags n : ℕ) (x : Refusal) where
+  pub recall_flags : x.number ≡ 14 → Stop 14 flags ≡ stop_at flags n x
+  unfolding stop_at recall_to
+  recall_flags q = rw q
 
-  pub recall_place : (c ≡ 14 → ⊥) → Stop c place ≡ answer_of (recalling flags c place)
-  unfolding answer_of recalling recall_to
-  recall_place q = rw (ne_eqb c 14 q)
+  pub recall_place : (x.number ≡ 14 → ⊥) → Stop x.number (n + x.place) ≡ stop_at flags n x
+  unfolding stop_at recall_to
+  recall_place q = rw (ne_eqb x.number 14 q)
 
 pub over_sliced : (z : Bool) (at end : ℕ) → z ≡ true → not (eqb at end) ≡ z && not (eqb at end)
 over_sliced z at end q = rw q

@@ -20,6 +20,9 @@ use lib.Dec.{eqb}
 use borrow.Author.Tests.{ne_eqb}
 use mir.Syntax.{w64}
 use mir.Val.{Fits}
+use Rattle.std.specs.Prelude.{Result, Ok, Err, Some, None}
+use Rattle.std.specs.Prelude.{Option as Answer}
+use Rattle.wire.specs.declared.Refusal.{Refusal}
 use Rattle.encoding.specs.Result.{Res, ok, bad, pick, at_mark}
 use Rattle.encoding.proofs.ResultLaws.{both_true, held_took}
 use Rattle.encoding.specs.Table.{field, base}
@@ -40,19 +43,18 @@ use Rattle.level.specs.TagLaws.{member_tag, member_begun, member_within}
 use Rattle.level.specs.Answers.{members_of}
 use Rattle.level.specs.AnswersLaws.{KnownRead, SkippedRead, members_read, members_start, members_refused, members_within, refused_within}
 use Rattle.level.specs.declared.Members.{Members}
-use Rattle.level.specs.declared.Members.TheVariants.{Read, Refused}
+use Rattle.level.specs.declared.Optional.{Optional}
+use Rattle.level.specs.declared.Optional.TheVariants.{Known, Skipped as SkippedOptional}
 use Rattle.heads.specs.declared.Stage.{Stage}
 use Rattle.heads.specs.declared.Stage.TheVariants.{First, Seeking, Following}
 use Rattle.slices.specs.declared.Opening.{Opening}
-use Rattle.slices.specs.declared.Opening.TheVariants.{Skip, Known as KnownSlice, Wrong as WrongSlice}
-use Rattle.slices.specs.declared.Turn.{Turn}
-use Rattle.slices.specs.declared.Turn.TheVariants.{End, Known, Skipped as SkippedTurn, Wrong}
+use Rattle.slices.specs.declared.Opening.TheVariants.{Skip, Known as KnownSlice}
 use Rattle.slices.specs.declared.Walk.{Walk}
-use Rattle.slices.specs.declared.Walk.TheVariants.{Done, Stop}
 use Rattle.heads.specs.Stages.{stage_of}
 use Rattle.slices.specs.Openings.{opening, turn_of, first_or}
+use Rattle.slices.specs.declared.Walk.TheVariants.{Done, Stop}
 use Rattle.slices.specs.Walks.{chain_rows, slice_walk}
-use Rattle.slices.specs.Left.{WalkEnd, answer_of, recall_to, first_from, onward, rows_from, left, closing, recalling, optionals_from, finish, amid, Ends}
+use Rattle.slices.specs.Left.{WalkEnd, answer_of, recall_to, first_from, onward, rows_from, left, closing, recalling, stop_at, optionals_from, finish, amid, Ends}
 use Rattle.slices.specs.LeftLaws.{left_whole, left_listed, left_refused, left_skipped, left_known, onward_ended, fields_required, fields_refused, finish_end, finish_early, finish_wrong, finish_known, finish_skipped}
 use Rattle.slices.specs.OpeningLaws.{Opened, Skipped, opening_wrong, opening_place, opening_skip, opening_known, opened_eats, opened_sized, row_below, row_base, passed_never}
 use Rattle.slices.specs.MemberLaws.{required_few, optional_two, mark_byte}
@@ -108,24 +110,24 @@ module _ (T : List ℕ) (top : ℕ) (m : List ℕ) (at : ℕ) (out : List ℕ) w
   outer_begin S l h = record { small = S; room = l; inside = h; few = omega arith; fewer = omega arith; fewest = omega arith; on = refl; rest = refl }
 
 module _ {T : List ℕ} {top : ℕ} {m : List ℕ} {whole : WalkEnd} {stage : Stage} {pos k o s fst : ℕ} {out : List ℕ} (inv : Outer T top m whole stage pos k o s fst out)
-    {r : Opening} (e : r ≡ opening T top (stage_of stage) (take (length m - pos) (drop pos m))) where
+    {r : Result Opening Refusal} (e : r ≡ opening T top (stage_of stage) (take (length m - pos) (drop pos m))) where
   opens : r ≡ opening T top (stage_of stage) (drop pos m)
   opens = e ∙ ap (opening T top (stage_of stage)) (rest_is m pos)
 
   -- a refusal before the data
-  outer_wrong : {c p : ℕ} → r ≡ WrongSlice c p → {v : Walk} → v ≡ answer_of (recalling pos c (pos + p)) → Ends whole v out
-  unfolding answer_of recalling
-  outer_wrong {c} {p} q {v} h =
-      ends_refused whole c (recall_to c pos (pos + p)) v out
-      (inv.rest ∙ left_refused T top (drop pos m) pos k o s fst out (stage_of stage) inv.on c p (opening_wrong T top (stage_of stage) (drop pos m) r opens c p q)) h
+  outer_wrong : {x : Refusal} → r ≡ Err x → {w : Walk} → w ≡ stop_at pos pos x → Ends whole w out
+  unfolding stop_at
+  outer_wrong {x} q {w} h =
+      ends_refused whole x.number (recall_to x.number pos (pos + x.place)) w out
+      (inv.rest ∙ left_refused T top (drop pos m) pos k o s fst out (stage_of stage) inv.on x.number x.place (opening_wrong T top (stage_of stage) (drop pos m) r opens x q)) h
 
-  pub wrong_fits : {c p : ℕ} → r ≡ WrongSlice c p → Fits w64 (pos + p)
-  wrong_fits {c} {p} q = omega (arith, inv.room, opening_place T top (stage_of stage) (drop pos m) r opens c p q, length-drop pos m, inv.inside)
+  pub wrong_fits : {x : Refusal} → r ≡ Err x → pos + x.place < 2 ^ 64
+  wrong_fits {x} q = omega (arith, inv.room, opening_place T top (stage_of stage) (drop pos m) r opens x q, length-drop pos m, inv.inside)
 
   -- a skipped slice
-  module _ {n : ℕ} (q : r ≡ Skip n) where
+  module _ {sl : Opening} (g : r ≡ Ok sl) {n : ℕ} (q : sl ≡ Skip n) where
     skipped : Skipped T top (stage_of stage) (drop pos m) n
-    skipped = opening_skip T top (stage_of stage) (drop pos m) r opens n q
+    skipped = opening_skip T top (stage_of stage) (drop pos m) r opens n (g ∙ ap Ok q)
 
     skip_some : 1 ≤ n
     skip_some = eats_slice T top (stage_of stage) (drop pos m) _ n skipped.read
@@ -166,9 +168,9 @@ module _ {T : List ℕ} {top : ℕ} {m : List ℕ} {whole : WalkEnd} {stage : St
     }
 
   -- a slice of a known row
-  module _ {t : ℕ} {opt z : Bool} {a b : ℕ} (q : r ≡ KnownSlice t opt z a b) where
+  module _ {sl : Opening} (g : r ≡ Ok sl) {t : ℕ} {opt z : Bool} {a b : ℕ} (q : sl ≡ KnownSlice t opt z a b) where
     opened : Opened T top (stage_of stage) (drop pos m) t opt z a b
-    opened = opening_known T top (stage_of stage) (drop pos m) r opens t opt z a b q
+    opened = opening_known T top (stage_of stage) (drop pos m) r opens t opt z a b (g ∙ ap Ok q)
 
     pub known_order : pos + a ≤ pos + b
     known_order = omega (arith, opened.order)
@@ -212,20 +214,26 @@ module _ {T : List ℕ} {top : ℕ} {m : List ℕ} {whole : WalkEnd} {stage : St
         inv.rest ∙ left_known T top (stage_of stage) m pos t opt z a b opened inv.on k o s fst out
         ∙ ap (λ (l : List ℕ). finish T t close (recalling pos) false (pos + a) k o out (fields T t opt l)) same_part
 
-    module _ {ms : Members} (em : ms ≡ members_of k (optional_start T t) (requireds (Table.required_members T t) part)) where
-      known_refused : {c p : ℕ} → ms ≡ Refused c p → {v : Walk} → v ≡ answer_of (recalling pos c (pos + a + p)) → (out' : List ℕ) → Ends whole v out'
-      unfolding answer_of recalling
-      known_refused {c} {p} w {v} h out' =
-          ends_refused whole c (recall_to c pos (pos + a + p)) v out'
-          (by_members ∙ fields_refused T t close (recalling pos) part c p (members_refused (Table.required_members T t) k (optional_start T t) part ms em c p w) (pos + a) k o out opt) h
+    module _ {ms : Result Members Refusal} (em : ms ≡ members_of k (optional_start T t) (requireds (Table.required_members T t) part)) where
+      known_refused : {x : Refusal} → ms ≡ Err x → {v : Walk} → v ≡ stop_at pos (pos + a) x → (out' : List ℕ) → Ends whole v out'
+      unfolding stop_at recalling
+      known_refused {x} w {v} h out' =
+          ends_refused whole x.number (recall_to x.number pos (pos + a + x.place)) v out'
+          (by_members ∙ fields_refused T t close (recalling pos) part x.number x.place (members_refused (Table.required_members T t) k (optional_start T t) part ms em x w) (pos + a) k o out opt) h
 
-      pub refused_fits : {c p : ℕ} → ms ≡ Refused c p → Fits w64 (pos + a + p)
-      refused_fits {c} {p} w =
-          omega (arith, inv.room, refused_within (Table.required_members T t) k (optional_start T t) part ms em c p w, part_length m (pos + a) (pos + b) known_order known_within, known_order, known_within)
+      pub refused_fits : {x : Refusal} → ms ≡ Err x → pos + a + x.place < 2 ^ 64
+      refused_fits {x} w =
+          omega (arith, inv.room, refused_within (Table.required_members T t) k (optional_start T t) part ms em x w, part_length m (pos + a) (pos + b) known_order known_within, known_order, known_within)
 
-      module _ {n j i : ℕ} (w : ms ≡ Read n j i) where
+      module _ {x : Members} (w : ms ≡ Ok x) where
+        abbrev n : ℕ
+        n = x.bytes
+
+        abbrev j : ℕ
+        j = x.count
+
         at_within : pos + a + n ≤ pos + b
-        at_within = omega (arith, members_within (Table.required_members T t) k (optional_start T t) part ms em n j i w, part_length m (pos + a) (pos + b) known_order known_within, known_order)
+        at_within = omega (arith, members_within (Table.required_members T t) k (optional_start T t) part ms em x w, part_length m (pos + a) (pos + b) known_order known_within, known_order)
 
         pub at_fits : Fits w64 (pos + a + n)
         at_fits = omega (arith, inv.room, at_within, known_within)
@@ -234,7 +242,7 @@ module _ {T : List ℕ} {top : ℕ} {m : List ℕ} {whole : WalkEnd} {stage : St
           -- the members after the required ones decide the answer
           pub outer_same : whole ≡ amid T top m (stage_of stage) pos t z (pos + a) (pos + b) s fst (pos + a + n) 0 j o opt out'
           unfolding amid
-          outer_same = go (members_read (Table.required_members T t) k (optional_start T t) part ms em n j i w)
+          outer_same = go (members_read (Table.required_members T t) k (optional_start T t) part ms em x w)
             where
               go : (ps : List Piece) × (requireds (Table.required_members T t) part ≡ ok ps n) × (j ≡ k + length ps)
                   → whole ≡ amid T top m (stage_of stage) pos t z (pos + a) (pos + b) s fst (pos + a + n) 0 j o opt out'
@@ -245,9 +253,9 @@ module _ {T : List ℕ} {top : ℕ} {m : List ℕ} {whole : WalkEnd} {stage : St
                   ∙ ap (λ (l : List ℕ). pick opt (finish T t close (recalling pos) true (pos + a + n) j o out' (optionals_from at_mark (Table.optional_members T t) 0 l)) (close (pos + a + n) j o out')) (part_on m (pos + a) n (pos + b))
 
         pub outer_in : {stop : ℕ} → stop ≡ field T t 0 + field T t 1 → (out' : List ℕ)
-            → Inner T top m (amid T top m (stage_of stage) pos t z (pos + a) (pos + b) s fst (pos + a + n) 0 j o opt out') stage pos t z (pos + a) (pos + b) s fst stop (pos + a + n) 0 i j o opt out'
+            → Inner T top m (amid T top m (stage_of stage) pos t z (pos + a) (pos + b) s fst (pos + a + n) 0 j o opt out') stage pos t z (pos + a) (pos + b) s fst stop (pos + a + n) 0 x.optional j o opt out'
         outer_in {stop} e out' =
-            let R = members_read (Table.required_members T t) k (optional_start T t) part ms em n j i w in
+            let R = members_read (Table.required_members T t) k (optional_start T t) part ms em x w in
             let eats = opened_eats T top (stage_of stage) (drop pos m) t opt z a b opened in
             record {
               small = inv.small;
@@ -259,7 +267,7 @@ module _ {T : List ℕ} {top : ℕ} {m : List ℕ} {whole : WalkEnd} {stage : St
               fewer = omega (arith, inv.fewer);
               fewest = inv.fewest;
               sized = λ y. omega (arith, opened_sized T top (stage_of stage) (drop pos m) t opt z a b opened y);
-              passed = passed_none T t stop i e (members_start (Table.required_members T t) k (optional_start T t) part ms em n j i w);
+              passed = passed_none T t stop x.optional e (members_start (Table.required_members T t) k (optional_start T t) part ms em x w);
               rest = refl;
             }
 
@@ -277,7 +285,7 @@ module _ {T : List ℕ} {top : ℕ} {m : List ℕ} {whole : WalkEnd} {stage : St
   abbrev part_in : List ℕ
   part_in = take (end - at) (drop at m)
 
-  module _ (go_on : more ≡ true) {r : Turn} (e : r ≡ turn_of (optional_from T stop row) least part_in) where
+  module _ (go_on : more ≡ true) {r : Result (Answer Optional) Refusal} (e : r ≡ turn_of (optional_from T stop row) least part_in) where
     turns : r ≡ turn_of (Table.optional_members T t) least part_in
     turns = e ∙ passed_turn T t stop row least inv.passed part_in
 
@@ -289,9 +297,9 @@ module _ {T : List ℕ} {top : ℕ} {m : List ℕ} {whole : WalkEnd} {stage : St
     long = part_length m at end inv.inside inv.within
 
     -- the end marker
-    module _ (q : r ≡ End) where
+    module _ {next : Answer Optional} (g : r ≡ Ok next) (q : next ≡ None) where
       end_within : at + 1 ≤ end
-      end_within = omega (arith, (mark_byte part_in 1 (turn_end (Table.optional_members T t) least part_in r turns q).0).1, long)
+      end_within = omega (arith, (mark_byte part_in 1 (turn_end (Table.optional_members T t) least part_in r turns (g ∙ ap Ok q)).0).1, long)
 
       pub end_less : length m - (at + 1) < length m - at
       end_less = omega (arith, end_within, inv.within)
@@ -302,7 +310,7 @@ module _ {T : List ℕ} {top : ℕ} {m : List ℕ} {whole : WalkEnd} {stage : St
       pub inner_end : Inner T top m whole stage pos t z from end s fst stop (at + 1) least row k o false out
       unfolding amid
       inner_end =
-          let E = turn_end (Table.optional_members T t) least part_in r turns q in
+          let E = turn_end (Table.optional_members T t) least part_in r turns (g ∙ ap Ok q) in
           record {
             small = inv.small;
             room = inv.room;
@@ -318,9 +326,9 @@ module _ {T : List ℕ} {top : ℕ} {m : List ℕ} {whole : WalkEnd} {stage : St
           }
 
     -- a known optional
-    module _ {i tag a n : ℕ} (q : r ≡ Known i tag a n) where
+    module _ {next : Answer Optional} (g : r ≡ Ok next) {opt : Optional} (h : next ≡ Some opt) {i tag a n : ℕ} (q : opt ≡ Known i tag a n) where
       known_told : (at_mark part_in ≡ none) × KnownRead (Table.optional_members T t) least part_in i tag a n
-      known_told = turn_known (Table.optional_members T t) least part_in r turns i tag a n q
+      known_told = turn_known (Table.optional_members T t) least part_in r turns opt (g ∙ ap Ok h) i tag a n q
 
       known_two : 2 ≤ n
       known_two = optional_two (Table.optional_members T t) least part_in _ n known_told.1.read
@@ -369,9 +377,9 @@ module _ {T : List ℕ} {top : ℕ} {m : List ℕ} {whole : WalkEnd} {stage : St
       }
 
     -- a skipped one
-    module _ {tag n : ℕ} (q : r ≡ SkippedTurn tag n) where
+    module _ {next : Answer Optional} (g : r ≡ Ok next) {opt : Optional} (h : next ≡ Some opt) {tag n : ℕ} (q : opt ≡ SkippedOptional tag n) where
       skipped_told : (at_mark part_in ≡ none) × SkippedRead (Table.optional_members T t) least part_in tag n
-      skipped_told = turn_skipped (Table.optional_members T t) least part_in r turns tag n q
+      skipped_told = turn_skipped (Table.optional_members T t) least part_in r turns opt (g ∙ ap Ok h) tag n q
 
       skipped_some : 1 ≤ n
       skipped_some = eats_optional (Table.optional_members T t) least part_in _ n skipped_told.1.read
@@ -410,19 +418,19 @@ module _ {T : List ℕ} {top : ℕ} {m : List ℕ} {whole : WalkEnd} {stage : St
       }
 
     -- a refusal
-    module _ {c p : ℕ} (q : r ≡ Wrong c p) where
-      pub stop_fits : Fits w64 (at + p)
-      stop_fits = omega (arith, inv.room, turn_place (Table.optional_members T t) least part_in r turns c p q, long, inv.inside, inv.within)
+    module _ {x : Refusal} (q : r ≡ Err x) where
+      pub stop_fits : at + x.place < 2 ^ 64
+      stop_fits = omega (arith, inv.room, turn_place (Table.optional_members T t) least part_in r turns x q, long, inv.inside, inv.within)
 
-      inner_wrong : {v : Walk} → v ≡ answer_of (recalling pos c (at + p)) → Ends whole v out
-      unfolding answer_of recalling recall_to
-      inner_wrong {v} h = go (turn_wrong (Table.optional_members T t) least part_in r turns c p q)
+      inner_wrong : {w : Walk} → w ≡ stop_at pos at x → Ends whole w out
+      unfolding stop_at recall_to recalling
+      inner_wrong {w} h = go (turn_wrong (Table.optional_members T t) least part_in r turns x q)
         where
-          go : Early (Table.optional_members T t) least part_in r turns c p ⊎ ((at_mark part_in ≡ none) × (next_optional (Table.optional_members T t) least part_in ≡ bad c p)) → Ends whole v out
+          go : Early (Table.optional_members T t) least part_in r turns x.number x.place ⊎ ((at_mark part_in ≡ none) × (next_optional (Table.optional_members T t) least part_in ≡ bad x.number x.place)) → Ends whole w out
           go (inl E) =
-              ends_refused whole 14 pos v out (ahead ∙ finish_early T t close_in (recalling pos) at_mark (eqb least 0) least part_in at k o out 1 E.mark E.unmet) (h ∙ rw E.number)
+              ends_refused whole 14 pos w out (ahead ∙ finish_early T t close_in (recalling pos) at_mark (eqb least 0) least part_in at k o out 1 E.mark E.unmet) (h ∙ rw E.number)
           go (inr W) =
-              ends_refused whole c (recall_to c pos (at + p)) v out (ahead ∙ finish_wrong T t close_in (recalling pos) at_mark (eqb least 0) least part_in at k o out W.0 c p W.1) h
+              ends_refused whole x.number (recall_to x.number pos (at + x.place)) w out (ahead ∙ finish_wrong T t close_in (recalling pos) at_mark (eqb least 0) least part_in at k o out W.0 x.number x.place W.1) h
 
   -- after the members
   module _ (enough : more ≡ false) {b : Bool} (eb : b ≡ z && not (eqb at end)) where
@@ -487,47 +495,50 @@ outer_join e inv = record {
 
 module _ (T : List ℕ) (top : ℕ) (m : List ℕ) (start : ℕ) (out₀ : List ℕ) (stage : Stage) (pos k o s fst : ℕ) (out : List ℕ)
     (inv : Outer T top m (left T (seek first) start 0 0 0 0 out₀ (slices T top (drop start m))) stage pos k o s fst out)
-    (r : Opening) (e : r ≡ opening T top (stage_of stage) (take (length m - pos) (drop pos m))) where
+    (r : Result Opening Refusal) (e : r ≡ opening T top (stage_of stage) (take (length m - pos) (drop pos m))) where
   -- a slice is refused before its data
-  module _ (c p : ℕ) (q : r ≡ WrongSlice c p) (v : Walk) (h : v ≡ answer_of (recalling pos c (pos + p))) where
-    pub wrong_says : v ≡ slice_walk T start (slices T top (drop start m))
-    wrong_says = ends_says T start out₀ (slices T top (drop start m)) v out (outer_wrong inv e q h)
+  module _ (x : Refusal) (q : r ≡ Err x) (w : Walk) (h : w ≡ stop_at pos pos x) where
+    pub wrong_says : w ≡ slice_walk T start (slices T top (drop start m))
+    wrong_says = ends_says T start out₀ (slices T top (drop start m)) w out (outer_wrong inv e q h)
 
     pub wrong_gives : (c : Chain) (n : ℕ) → slices T top (drop start m) ≡ ok c n → out ≡ fill 0 (chain_rows T start c) out₀
-    wrong_gives = ends_gives T start out₀ (slices T top (drop start m)) v out (outer_wrong inv e q h)
+    wrong_gives = ends_gives T start out₀ (slices T top (drop start m)) w out (outer_wrong inv e q h)
 
-  module _ (t : ℕ) (opt z : Bool) (a b : ℕ) (q : r ≡ KnownSlice t opt z a b) (ms : Members) (em : ms ≡ members_of k (optional_start T t) (requireds (Table.required_members T t) (take (pos + b - (pos + a)) (drop (pos + a) m)))) where
+  module _ (sl : Opening) (g : r ≡ Ok sl) (t : ℕ) (opt z : Bool) (a b : ℕ) (q : sl ≡ KnownSlice t opt z a b) (ms : Result Members Refusal) (em : ms ≡ members_of k (optional_start T t) (requireds (Table.required_members T t) (take (pos + b - (pos + a)) (drop (pos + a) m)))) where
     -- a required member is refused
-    module _ (c p : ℕ) (w : ms ≡ Refused c p) (v : Walk) (h : v ≡ answer_of (recalling pos c (pos + a + p))) where
-      pub refused_says : v ≡ slice_walk T start (slices T top (drop start m))
-      refused_says = ends_says T start out₀ (slices T top (drop start m)) v out (known_refused inv e q em w h out)
+    module _ (y : Refusal) (w : ms ≡ Err y) (x : Walk) (h : x ≡ stop_at pos (pos + a) y) where
+      pub refused_says : x ≡ slice_walk T start (slices T top (drop start m))
+      refused_says = ends_says T start out₀ (slices T top (drop start m)) x out (known_refused inv e g q em w h out)
 
       pub refused_gives : (out' : List ℕ) (c : Chain) (n : ℕ) → slices T top (drop start m) ≡ ok c n → out' ≡ fill 0 (chain_rows T start c) out₀
-      refused_gives out' = ends_gives T start out₀ (slices T top (drop start m)) v out' (known_refused inv e q em w h out')
+      refused_gives out' = ends_gives T start out₀ (slices T top (drop start m)) x out' (known_refused inv e g q em w h out')
 
     -- the members after the required ones decide the answer
-    pub outer_answer : (n j i : ℕ) → ms ≡ Read n j i → (out' : List ℕ)
+    pub outer_answer : (x : Members) → ms ≡ Ok x → (out' : List ℕ)
         → ((ps : List Piece) (n : ℕ) → requireds (Table.required_members T t) (take (pos + b - (pos + a)) (drop (pos + a) m)) ≡ ok ps n → out' ≡ fill k (piece_rows T t (pos + a) ps) out)
-        → slice_walk T start (slices T top (drop start m)) ≡ answer_of (amid T top m (stage_of stage) pos t z (pos + a) (pos + b) s fst (pos + a + n) 0 j o opt out')
-    outer_answer n j i w out' fills = sym (left_whole T start out₀ (slices T top (drop start m))) ∙ ap answer_of (outer_same inv e q em w fills)
+        → slice_walk T start (slices T top (drop start m)) ≡ answer_of (amid T top m (stage_of stage) pos t z (pos + a) (pos + b) s fst (pos + a + x.bytes) 0 x.count o opt out')
+    outer_answer x w out' fills = sym (left_whole T start out₀ (slices T top (drop start m))) ∙ ap answer_of (outer_same inv e g q em w fills)
 
 -- a walk that stops accepts nothing
 stop_never : (T : List ℕ) (start : ℕ) (r : Res Chain) (c p : ℕ) → Stop c p ≡ slice_walk T start r → (x : Chain) (n : ℕ) → r ≡ ok x n → (out l : List ℕ) → out ≡ l
 unfolding slice_walk
-stop_never T start (ok y i) c p h x n e out l = let z : ◌≡◌ {A = ℕ} 0 1 = cc in absurd (omega arith)
+stop_never T start (ok d i) c p h x n e out l = let z : ◌≡◌ {A = ℕ} 0 1 = cc in absurd (omega arith)
 stop_never T start (bad d q) c p h x n e out l = let z : ◌≡◌ {A = ℕ} 0 1 = cc in absurd (omega arith)
 
 -- inside a slice, where the answer is known to be that of the outcome
 module _ (T : List ℕ) (top : ℕ) (m : List ℕ) (start : ℕ) (whole : WalkEnd) (stage : Stage) (pos t : ℕ) (z : Bool) (from end s fst stop : ℕ) (at least row k o : ℕ) (more : Bool) (out : List ℕ)
     (inv : Inner T top m whole stage pos t z from end s fst stop at least row k o more out) (answer : slice_walk T start (slices T top (drop start m)) ≡ answer_of whole) where
   -- an optional is refused
-  module _ (go_on : more ≡ true) (r : Turn) (e : r ≡ turn_of (optional_from T stop row) least (take (end - at) (drop at m))) (c p : ℕ) (q : r ≡ Wrong c p) (v : Walk) (h : v ≡ answer_of (recalling pos c (at + p))) where
-    pub stopped_says : v ≡ slice_walk T start (slices T top (drop start m))
+  module _ (go_on : more ≡ true) (r : Result (Answer Optional) Refusal) (e : r ≡ turn_of (optional_from T stop row) least (take (end - at) (drop at m))) (x : Refusal) (q : r ≡ Err x) (w : Walk) (h : w ≡ stop_at pos at x) where
+    pub stopped_says : w ≡ slice_walk T start (slices T top (drop start m))
     stopped_says = ends_answer (inner_wrong inv go_on e q h) ∙ sym answer
 
-    pub stopped_gives : (out₀ : List ℕ) (x : Chain) (n : ℕ) → slices T top (drop start m) ≡ ok x n → out ≡ fill 0 (chain_rows T start x) out₀
-    unfolding answer_of recalling
-    stopped_gives out₀ x n f = stop_never T start (slices T top (drop start m)) c (recall_to c pos (at + p)) (sym h ∙ stopped_says) x n f out _
+    told : Stop x.number (recall_to x.number pos (at + x.place)) ≡ w
+    unfolding stop_at
+    told = sym h
+
+    pub stopped_gives : (out₀ : List ℕ) (c : Chain) (n : ℕ) → slices T top (drop start m) ≡ ok c n → out ≡ fill 0 (chain_rows T start c) out₀
+    stopped_gives out₀ c n f = stop_never T start (slices T top (drop start m)) x.number (recall_to x.number pos (at + x.place)) (told ∙ stopped_says) c n f out _
 
   -- bytes are left over
   module _ (enough : more ≡ false) (b : Bool) (eb : b ≡ z && not (eqb at end)) (over : b ≡ true) where

@@ -8,7 +8,7 @@
 --   left                 the outcome, by the slices ahead
 --   optionals_from        the optionals ahead, their tags at least `least`
 --   finish               the outcome, by the optionals ahead: `go` the way on, `refuse` a refusal, `due` whether one has to be there
---   recalling            a refusal inside a slice
+--   recalling            a refusal inside a slice; stop_at of what comes n bytes on
 --   closing              the outcome after a known slice's members: 11 for bytes left over, else by the slices ahead
 --   amid                 the outcome inside a known slice
 --   list_close, listing   the outcome at the end of a parameter list, and at its optionals
@@ -20,6 +20,7 @@ use Rattle.encoding.specs.Optional.{Piece, next_optional}
 use Rattle.encoding.specs.Slice.{compact, sliced, format_number, Slice, Stage, seek, follow, stand_of, Chain, walk}
 use Rattle.encoding.specs.Message.{v11, Row, piece_rows, slice_rows, first_in, skipped_pieces, skipped_in, passed_in}
 use Rattle.level.specs.Fill.{fill}
+use Rattle.wire.specs.declared.Refusal.{Refusal}
 use Rattle.slices.specs.declared.Walk.{Walk}
 use Rattle.slices.specs.declared.Walk.TheVariants.{Done, Stop}
 use Rattle.slices.specs.Openings.{first_or}
@@ -74,6 +75,10 @@ closing T top m z b s first from end at k o out =
 -- a refusal inside a slice whose flags are at a place
 unfoldable pub recalling : ℕ → ℕ → ℕ → WalkEnd
 recalling flags c p = refused c (recall_to c flags p)
+
+-- a refusal of what comes n bytes on stops the walk
+unfoldable pub stop_at : ℕ → ℕ → Refusal → Walk
+stop_at flags n x = Stop x.number (recall_to x.number flags (n + x.place))
 
 -- ---- optionals
 

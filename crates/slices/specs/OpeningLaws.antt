@@ -11,7 +11,7 @@
 --   passed_end, passed_never              where a skipped slice ends; none comes after a known one
 use Rattle.std.proofs.Math.Path.{◌≡◌, refl, sym, ap}
 use Rattle.std.proofs.Common.{◌∙◌, subst, true≢false, length-append, drop-drop, eqb-true, eq-eqb, ne_eqb}
-use Rattle.std.specs.Prelude.{Bool, ◌&&◌, ◌||◌, take, drop}
+use Rattle.std.specs.Prelude.{Bool, ◌&&◌, ◌||◌, take, drop, Result, Ok, Err}
 use Rattle.std.proofs.Math.Bool.{true, false, not}
 use Rattle.std.proofs.Math.Option.{Option, none, some}
 use mathlib.Core.List.{List, [], ◌∷◌}
@@ -33,26 +33,34 @@ use Rattle.encoding.specs.Slice
 use Rattle.encoding.proofs.SliceLaws.{eats_head, Meant, meant_head, held_head}
 use Rattle.encoding.proofs.WalkLaws.{Heads, head_ok, heads_later, Sliced, slice_ok, Walk, done, next}
 use Rattle.encoding.specs.Message.{or_zero, first_in}
+use Rattle.wire.specs.declared.Refusal.{Refusal}
+use Rattle.wire.specs.Steps.{refused}
 use Rattle.wire.specs.StepLaws.{rest_is}
 use Rattle.heads.specs.declared.Stage.{Stage}
 use Rattle.heads.specs.declared.Stage.TheVariants.{First, Seeking, Following}
 use Rattle.heads.specs.declared.Heading.{Heading}
-use Rattle.heads.specs.declared.Heading.TheVariants.{Skip as SkipHeading, Known as KnownHeading, Wrong as WrongHeading}
+use Rattle.heads.specs.declared.Heading.TheVariants.{Skip as SkipHeading, Known as KnownHeading}
 use Rattle.slices.specs.declared.Opening.{Opening}
-use Rattle.slices.specs.declared.Opening.TheVariants.{Skip, Known, Wrong}
+use Rattle.slices.specs.declared.Opening.TheVariants.{Skip, Known}
 use Rattle.heads.specs.Stages.{stage_of, meaning_answer, head_answer}
 use Rattle.slices.specs.Openings.{skip_opening, part_opening, head_opening, headed, opening, ended, first_or}
 use Rattle.slices.specs.Left.{recall_to, owners, first_from}
+
+-- a refusal tells its number and its place
+refused_same : {A : Type 0} {c p d q : ℕ} → refused {T = A} c p ≡ refused d q → (d ≡ c) × (q ≡ p)
+refused_same {A} {c} {p} {d} {q} h =
+    let e : ◌≡◌ {A = Refusal} (record { number = c; place = p }) (record { number = d; place = q }) = cc in
+    (sym (ap (λ (x : Refusal). x.number) e), sym (ap (λ (x : Refusal). x.place) e))
 
 -- ---- flags and ID
 
 module _ (T : List ℕ) (top : ℕ) (st : Slice.Stage) (xs : List ℕ) where
   -- what the code's answer of a head says
-  data Headed : Heading → Type 0 where
-    skips : (h : Head) (n : ℕ) → head (stand_of st) (id_form T st) xs ≡ ok h n → meaning T top st h ≡ skip → headed T top st xs ≡ ok h n → Headed (SkipHeading n)
+  data Headed : Result Heading Refusal → Type 0 where
+    skips : (h : Head) (n : ℕ) → head (stand_of st) (id_form T st) xs ≡ ok h n → meaning T top st h ≡ skip → headed T top st xs ≡ ok h n → Headed (Ok (SkipHeading n))
     knows : (h : Head) (n t : ℕ) → head (stand_of st) (id_form T st) xs ≡ ok h n → meaning T top st h ≡ row t → headed T top st xs ≡ ok h n
-        → Headed (KnownHeading t h.optionals (is_sliced h.format) n)
-    wrongs : (c p : ℕ) → headed T top st xs ≡ bad c p → Headed (WrongHeading c p)
+        → Headed (Ok (KnownHeading t h.optionals (is_sliced h.format) n))
+    wrongs : (c p : ℕ) → headed T top st xs ≡ bad c p → Headed (refused c p)
 
   heading_told : Headed (head_answer T top st (headed T top st xs))
   unfolding head_answer meaning_answer meaning_form
@@ -68,19 +76,19 @@ module _ (T : List ℕ) (top : ℕ) (st : Slice.Stage) (xs : List ℕ) where
       go (bad c p) e = wrongs c p e
 
   -- flags and ID lie within the bytes at hand
-  module _ {r : Heading} (e : r ≡ head_answer T top st (headed T top st xs)) where
-    pub skip_head_within : {n : ℕ} → r ≡ SkipHeading n → n ≤ length xs
+  module _ {r : Result Heading Refusal} (e : r ≡ head_answer T top st (headed T top st xs)) where
+    pub skip_head_within : {n : ℕ} → r ≡ Ok (SkipHeading n) → n ≤ length xs
     skip_head_within {n} q = go (head_answer T top st (headed T top st xs)) heading_told (sym q ∙ e)
       where
-        go : (x : Heading) → Headed x → SkipHeading n ≡ x → n ≤ length xs
+        go : (x : Result Heading Refusal) → Headed x → Ok (SkipHeading n) ≡ x → n ≤ length xs
         go x (skips h k f i j) z = let s : n ≡ k = cc in omega (arith, held_took (head (stand_of st) (id_form T st)) (held_head T st) xs f)
         go x (knows h k t f i j) z = let y : ◌≡◌ {A = ℕ} 0 1 = cc in absurd (omega arith)
         go x (wrongs c p i) z = let y : ◌≡◌ {A = ℕ} 0 1 = cc in absurd (omega arith)
 
-    pub known_head_within : {t n : ℕ} {o z : Bool} → r ≡ KnownHeading t o z n → n ≤ length xs
+    pub known_head_within : {t n : ℕ} {o z : Bool} → r ≡ Ok (KnownHeading t o z n) → n ≤ length xs
     known_head_within {t} {n} {o} {z} q = go (head_answer T top st (headed T top st xs)) heading_told (sym q ∙ e)
       where
-        go : (x : Heading) → Headed x → KnownHeading t o z n ≡ x → n ≤ length xs
+        go : (x : Result Heading Refusal) → Headed x → Ok (KnownHeading t o z n) ≡ x → n ≤ length xs
         go x (skips h k f i j) z = let y : ◌≡◌ {A = ℕ} 0 1 = cc in absurd (omega arith)
         go x (knows h k u f i j) z = let s : n ≡ k = cc in omega (arith, held_took (head (stand_of st) (id_form T st)) (held_head T st) xs f)
         go x (wrongs c p i) z = let y : ◌≡◌ {A = ℕ} 0 1 = cc in absurd (omega arith)
@@ -192,9 +200,9 @@ module _ (T : List ℕ) (top : ℕ) (st : Slice.Stage) (xs : List ℕ) where
   head_end : (h : Head) (n : ℕ) → head (stand_of st) (id_form T st) xs ≡ ok h n → n ≤ length xs
   head_end h n e = held_took (head (stand_of st) (id_form T st)) (held_head T st) xs e
 
-  module _ (r : Opening) (q : r ≡ opening T top st xs) where
+  module _ (r : Result Opening Refusal) (q : r ≡ opening T top st xs) where
     -- a refusal before the data, and its place
-    opening_refused : (c p : ℕ) → r ≡ Wrong c p → (slice T top st xs ≡ bad c (recall_to c 0 p)) × (p ≤ length xs)
+    opening_refused : (c p : ℕ) → r ≡ refused c p → (slice T top st xs ≡ bad c (recall_to c 0 p)) × (p ≤ length xs)
     unfolding opening head_opening skip_opening part_opening enter_slice mapc made shift inside enter
     opening_refused c p w = go (head_answer T top st (headed T top st xs)) (heading_told T top st xs) (sym w ∙ q)
       where
@@ -202,11 +210,11 @@ module _ (T : List ℕ) (top : ℕ) (st : Slice.Stage) (xs : List ℕ) where
         place h n x c' p' g = omega (arith, head_end h n x, held_refused (declared 4 4) (held_declared 4 4) (drop n xs) g, length-drop n xs)
 
         skipped : (h : Head) (n : ℕ) → head (stand_of st) (id_form T st) xs ≡ ok h n → meaning T top st h ≡ skip → headed T top st xs ≡ ok h n
-            → (y : Res (List ℕ)) → declared 4 4 (drop n xs) ≡ y → Wrong c p ≡ skip_opening n y → (slice T top st xs ≡ bad c (recall_to c 0 p)) × (p ≤ length xs)
+            → (y : Res (List ℕ)) → declared 4 4 (drop n xs) ≡ y → refused c p ≡ skip_opening n y → (slice T top st xs ≡ bad c (recall_to c 0 p)) × (p ≤ length xs)
         skipped h n x f e (ok d k) g z = let x : ◌≡◌ {A = ℕ} 0 1 = cc in absurd (omega arith)
         skipped h n x f e (bad c' p') g z =
-            let ec : c' ≡ c = cc in
-            let ep : n + p' ≡ p = cc in (
+            let ec : c' ≡ c = (refused_same z).0 in
+            let ep : n + p' ≡ p = (refused_same z).1 in (
               slice_entered T top st xs h n skip e f
                   ∙ ap (λ (y : Res (List ℕ)). recalled 14 (shift n (made (λ d _. (passed h.optionals h.id d, seek (later sliced))) y))) g
                   ∙ recalled_bad T top st xs c' (n + p') ∙ rw (ec, ep),
@@ -214,39 +222,39 @@ module _ (T : List ℕ) (top : ℕ) (st : Slice.Stage) (xs : List ℕ) where
             )
 
         knew : (h : Head) (n t : ℕ) → head (stand_of st) (id_form T st) xs ≡ ok h n → meaning T top st h ≡ row t → headed T top st xs ≡ ok h n → is_sliced h.format ≡ true
-            → (y : Res (List ℕ)) → declared 4 4 (drop n xs) ≡ y → Wrong c p ≡ part_opening t h.optionals n y → (slice T top st xs ≡ bad c (recall_to c 0 p)) × (p ≤ length xs)
+            → (y : Res (List ℕ)) → declared 4 4 (drop n xs) ≡ y → refused c p ≡ part_opening t h.optionals n y → (slice T top st xs ≡ bad c (recall_to c 0 p)) × (p ≤ length xs)
         knew h n t x f e i (ok d k) g z = let x : ◌≡◌ {A = ℕ} 0 1 = cc in absurd (omega arith)
         knew h n t x f e i (bad c' p') g z =
-            let ec : c' ≡ c = cc in
-            let ep : n + p' ≡ p = cc in
+            let ec : c' ≡ c = (refused_same z).0 in
+            let ep : n + p' ≡ p = (refused_same z).1 in
             (slice_known h n t e f ∙ rw (i, g) (recalled_bad T top st xs c' (n + p') ∙ rw (ec, ep)), omega (arith, place h n x c' p' g))
 
-        go : (x : Heading) → Headed T top st xs x → Wrong c p ≡ head_opening xs x → (slice T top st xs ≡ bad c (recall_to c 0 p)) × (p ≤ length xs)
+        go : (x : Result Heading Refusal) → Headed T top st xs x → refused c p ≡ head_opening xs x → (slice T top st xs ≡ bad c (recall_to c 0 p)) × (p ≤ length xs)
         go x (skips h n e f i) z = skipped h n e f i (declared 4 4 (drop n xs)) refl z
         go x (knows h n t e f i) z = by (is_sliced h.format) refl z
           where
-            by : (b : Bool) → is_sliced h.format ≡ b → Wrong c p ≡ head_opening xs (KnownHeading t h.optionals b n) → (slice T top st xs ≡ bad c (recall_to c 0 p)) × (p ≤ length xs)
+            by : (b : Bool) → is_sliced h.format ≡ b → refused c p ≡ head_opening xs (Ok (KnownHeading t h.optionals b n)) → (slice T top st xs ≡ bad c (recall_to c 0 p)) × (p ≤ length xs)
             by true j z = knew h n t e f i j (declared 4 4 (drop n xs)) refl z
             by false j z = let y : ◌≡◌ {A = ℕ} 0 1 = cc in absurd (omega arith)
         go x (wrongs c' p' i) z =
-            let ec : c' ≡ c = cc in
-            let ep : p' ≡ p = cc in (
+            let ec : c' ≡ c = (refused_same z).0 in
+            let ep : p' ≡ p = (refused_same z).1 in (
               slice_refused T top st xs c' p' i ∙ rw (ec, ep),
               omega (arith, held_refused (λ (ys : List ℕ). headed T top st ys) (held_must (head (stand_of st) (id_form T st)) (held_head T st) (λ h. meaning_form (meaning T top st h))) xs i),
             )
 
-    pub opening_wrong : (c p : ℕ) → r ≡ Wrong c p → slice T top st xs ≡ bad c (recall_to c 0 p)
-    opening_wrong c p w = (opening_refused c p w).0
+    pub opening_wrong : (x : Refusal) → r ≡ Err x → slice T top st xs ≡ bad x.number (recall_to x.number 0 x.place)
+    opening_wrong x w = (opening_refused x.number x.place w).0
 
-    pub opening_place : (c p : ℕ) → r ≡ Wrong c p → p ≤ length xs
-    opening_place c p w = (opening_refused c p w).1
+    pub opening_place : (x : Refusal) → r ≡ Err x → x.place ≤ length xs
+    opening_place x w = (opening_refused x.number x.place w).1
 
-    pub opening_skip : (n : ℕ) → r ≡ Skip n → Skipped T top st xs n
+    pub opening_skip : (n : ℕ) → r ≡ Ok (Skip n) → Skipped T top st xs n
     unfolding opening head_opening skip_opening part_opening enter_slice mapc made shift recalled
     opening_skip m w = go (head_answer T top st (headed T top st xs)) (heading_told T top st xs) (sym w ∙ q)
       where
         skipped : (h : Head) (n : ℕ) → head (stand_of st) (id_form T st) xs ≡ ok h n → meaning T top st h ≡ skip → headed T top st xs ≡ ok h n
-            → (y : Res (List ℕ)) → declared 4 4 (drop n xs) ≡ y → Skip m ≡ skip_opening n y → Skipped T top st xs m
+            → (y : Res (List ℕ)) → declared 4 4 (drop n xs) ≡ y → Ok (Skip m) ≡ skip_opening n y → Skipped T top st xs m
         skipped h n e f i (ok d k) g z =
             let em : m ≡ n + k = cc in
             let ek : k ≡ 4 + length d = declared_weight 4 4 (drop n xs) g in
@@ -261,23 +269,23 @@ module _ (T : List ℕ) (top : ℕ) (st : Slice.Stage) (xs : List ℕ) where
             }
         skipped h n e f i (bad c p) g z = let x : ◌≡◌ {A = ℕ} 0 1 = cc in absurd (omega arith)
 
-        other : (t n : ℕ) (o z : Bool) → Skip m ≡ head_opening xs (KnownHeading t o z n) → (y : Res (List ℕ)) → declared 4 4 (drop n xs) ≡ y → ⊥
+        other : (t n : ℕ) (o z : Bool) → Ok (Skip m) ≡ head_opening xs (Ok (KnownHeading t o z n)) → (y : Res (List ℕ)) → declared 4 4 (drop n xs) ≡ y → ⊥
         other t n o true h (ok d k) g = let x : ◌≡◌ {A = ℕ} 0 1 = cc in omega arith
         other t n o true h (bad c p) g = let x : ◌≡◌ {A = ℕ} 0 1 = cc in omega arith
         other t n o false h y g = let x : ◌≡◌ {A = ℕ} 0 1 = cc in omega arith
 
-        go : (x : Heading) → Headed T top st xs x → Skip m ≡ head_opening xs x → Skipped T top st xs m
+        go : (x : Result Heading Refusal) → Headed T top st xs x → Ok (Skip m) ≡ head_opening xs x → Skipped T top st xs m
         go x (skips h n e f i) z = skipped h n e f i (declared 4 4 (drop n xs)) refl z
         go x (knows h n t e f i) z = absurd (other t n h.optionals (is_sliced h.format) z (declared 4 4 (drop n xs)) refl)
         go x (wrongs c p i) z = let y : ◌≡◌ {A = ℕ} 0 1 = cc in absurd (omega arith)
 
-    pub opening_known : (t : ℕ) (opt z : Bool) (a e : ℕ) → r ≡ Known t opt z a e → Opened T top st xs t opt z a e
+    pub opening_known : (t : ℕ) (opt z : Bool) (a e : ℕ) → r ≡ Ok (Known t opt z a e) → Opened T top st xs t opt z a e
     unfolding opening head_opening skip_opening part_opening inside enter
     opening_known t opt z a e w = go (head_answer T top st (headed T top st xs)) (heading_told T top st xs) (sym w ∙ q)
       where
         -- a known slice, by its format
         knew : (h : Head) (n t' : ℕ) → head (stand_of st) (id_form T st) xs ≡ ok h n → meaning T top st h ≡ row t' → headed T top st xs ≡ ok h n → (b : Bool) → is_sliced h.format ≡ b
-            → (y : Res (List ℕ)) → declared 4 4 (drop n xs) ≡ y → Known t opt z a e ≡ pick b (part_opening t' h.optionals n y) (Known t' h.optionals false n (length xs))
+            → (y : Res (List ℕ)) → declared 4 4 (drop n xs) ≡ y → Ok (Known t opt z a e) ≡ pick b (part_opening t' h.optionals n y) (Ok (Known t' h.optionals false n (length xs)))
             → Opened T top st xs t opt z a e
         knew h n t' x f i true j (ok d k) g u =
             let et : t' ≡ t = cc in
@@ -322,15 +330,15 @@ module _ (T : List ℕ) (top : ℕ) (st : Slice.Stage) (xs : List ℕ) where
                   (rw (j, eo, ez, ea, ee, rest_is xs n) (ended_compact n (length xs) (fields T t opt (drop n xs))));
             }
 
-        other : (n : ℕ) (y : Res (List ℕ)) → Known t opt z a e ≡ skip_opening n y → ⊥
+        other : (n : ℕ) (y : Res (List ℕ)) → Ok (Known t opt z a e) ≡ skip_opening n y → ⊥
         other n (ok d k) h = let x : ◌≡◌ {A = ℕ} 0 1 = cc in omega arith
         other n (bad c p) h = let x : ◌≡◌ {A = ℕ} 0 1 = cc in omega arith
 
-        by_format : (t' n : ℕ) (o b : Bool) → head_opening xs (KnownHeading t' o b n) ≡ pick b (part_opening t' o n (declared 4 4 (drop n xs))) (Known t' o false n (length xs))
+        by_format : (t' n : ℕ) (o b : Bool) → head_opening xs (Ok (KnownHeading t' o b n)) ≡ pick b (part_opening t' o n (declared 4 4 (drop n xs))) (Ok (Known t' o false n (length xs)))
         by_format t' n o true = refl
         by_format t' n o false = refl
 
-        go : (x : Heading) → Headed T top st xs x → Known t opt z a e ≡ head_opening xs x → Opened T top st xs t opt z a e
+        go : (x : Result Heading Refusal) → Headed T top st xs x → Ok (Known t opt z a e) ≡ head_opening xs x → Opened T top st xs t opt z a e
         go x (skips h n f i j) u = absurd (other n (declared 4 4 (drop n xs)) u)
         go x (knows h n t' f i j) u = knew h n t' f i j (is_sliced h.format) refl (declared 4 4 (drop n xs)) refl (u ∙ by_format t' n h.optionals (is_sliced h.format))
         go x (wrongs c p i) u = let y : ◌≡◌ {A = ℕ} 0 1 = cc in absurd (omega arith)

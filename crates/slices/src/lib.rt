@@ -4,21 +4,17 @@
 
 pub mod walks;
 
-// A slice: skipped whole, with the bytes taken; of a known row, with its bit 2, whether it is sliced, and the start and end of its data; or a refusal's number and place.
+// A slice: skipped whole, after so many bytes taken; or of a known row, with its bit 2, whether it is sliced, and the start and end of its data.
 #[derive(Clone, Copy)]
 pub enum Opening {
     Skip(usize),
-    Known(usize, bool, bool, usize, usize),
-    Wrong(usize, usize),
-}
-
-// What comes next among a slice's optionals: the end marker; a known one, with its member row, its tag, the start of its bytes, the bytes taken; a skipped one, with its tag, the bytes taken; or a refusal's number and place.
-#[derive(Clone, Copy)]
-pub enum Turn {
-    End,
-    Known(usize, usize, usize, usize),
-    Skipped(usize, usize),
-    Wrong(usize, usize),
+    Known {
+        row: usize,
+        optionals: bool,
+        sliced: bool,
+        start: usize,
+        end: usize,
+    },
 }
 
 // First known type, format, rows, optionals skipped, slices skipped, the end; or a refusal's number and place.

@@ -1,5 +1,5 @@
 // The walk over the slices of a record, and its steps.
-ghost use Rattle.std.specs.Prelude.{◌≡◌, ◌&&◌, not, ℕ, ◌≤◌, ◌<◌, eqb, length, drop};
+ghost use Rattle.std.specs.Prelude.{◌≡◌, ◌&&◌, not, ℕ, ◌+◌, ◌^◌, ◌≤◌, ◌<◌, eqb, length, drop};
 ghost use Rattle.encoding.specs.Result.{ok, pick};
 ghost use Rattle.encoding.specs.Table.{types_at, members_at};
 ghost use Rattle.encoding.specs.Slice.{sliced as in_slices, compact, format_number, Chain, slices};
@@ -9,44 +9,59 @@ ghost use Rattle.table.specs.Tags.{optional_from};
 ghost use Rattle.level.specs.Fill.{fill};
 ghost use Rattle.heads.specs.Stages.{stage_of};
 ghost use Rattle.slices.specs.Openings.{opening, turn_of, first_or};
-ghost use Rattle.slices.specs.Left.{answer_of, recalling};
+ghost use Rattle.slices.specs.Left.{stop_at};
 ghost use Rattle.slices.specs.Walks.{chain_rows, slice_walk};
 
-use crate::{Opening, Turn, Walk};
+use crate::{Opening, Walk};
 use heads::{Heading, Stage};
-use level::{Members, Optional};
-use wire::Step;
+use level::Optional;
+use wire::Refusal;
 
 // The next slice up to its data: skipped whole, or of a known row with the part that its data lie in. `begin` is where the type rows begin.
-fn opening(table: &[u8], begin: usize, top: usize, stage: Stage, s: &[u8]) -> Opening
+fn opening(
+    table: &[u8],
+    begin: usize,
+    top: usize,
+    stage: Stage,
+    s: &[u8],
+) -> Result<Opening, Refusal>
     requires { begin ≡ types_at table.now }
     ensures { result ≡ opening table.now top (stage_of stage) s.now }
 {
-    let head = heads::slice_head(table, begin, top, stage, s);
+    let head = heads::slice_head(table, begin, top, stage, s)?;
     match head {
         Heading::Skip(n) => {
-            let step = wire::read_declared(&s[n..], 4, 4);
-            match step {
-                Step::Took(k) => Opening::Skip(n + k),
-                Step::Fault(c, p) => Opening::Wrong(c, n + p),
-            }
+            let end = wire::later(n, wire::read_declared(&s[n..], 4, 4))?;
+            Ok(Opening::Skip(end))
         }
-        Heading::Known(t, optionals, sliced, n) => {
+        Heading::Known {
+            row,
+            optionals,
+            sliced,
+            bytes,
+        } => {
             if sliced {
-                let step = wire::read_declared(&s[n..], 4, 4);
-                match step {
-                    Step::Took(k) => Opening::Known(t, optionals, true, n + 4, n + k),
-                    Step::Fault(c, p) => Opening::Wrong(c, n + p),
-                }
-            } else {
-                Opening::Known(t, optionals, false, n, s.len())
+                let end = wire::later(bytes, wire::read_declared(&s[bytes..], 4, 4))?;
+                return Ok(Opening::Known {
+                    row,
+                    optionals,
+                    sliced,
+                    start: bytes + 4,
+                    end,
+                });
             }
+            Ok(Opening::Known {
+                row,
+                optionals,
+                sliced,
+                start: bytes,
+                end: s.len(),
+            })
         }
-        Heading::Wrong(c, p) => Opening::Wrong(c, p),
     }
 }
 
-// Reads the next optional, or the end marker (14 if no optional came before it). A tag is looked up among the member rows from `row` to `stop`; `begin` is where the type rows begin, `first` where the member rows do.
+// Reads the next optional; none is left at the end marker (14 if no optional came before it). A tag is looked up among the member rows from `row` to `stop`; `begin` is where the type rows begin, `first` where the member rows do.
 fn next(
     table: &[u8],
     begin: usize,
@@ -56,7 +71,7 @@ fn next(
     row: usize,
     least: usize,
     s: &[u8],
-) -> Turn
+) -> Result<Option<Optional>, Refusal>
     requires begin_value { begin ≡ types_at table.now }
     requires first_value { (first ≡ members_at table.now) × (first < 1048576) }
     requires shapes_value { shapes.now ≡ shapes_of table.now }
@@ -65,16 +80,15 @@ fn next(
 {
     if wire::byte_at(s, 0) == 255 {
         if least == 0 {
-            return Turn::Wrong(14, 0);
+            return Err(Refusal {
+                number: 14,
+                place: 0,
+            });
         }
-        return Turn::End;
+        return Ok(None);
     }
-    let o = level::optionals::optional(table, begin, first, shapes, stop, row, least, s);
-    match o {
-        Optional::Known(m, tag, a, n) => Turn::Known(m, tag, a, n),
-        Optional::Skipped(tag, n) => Turn::Skipped(tag, n),
-        Optional::Wrong(c, p) => Turn::Wrong(c, p),
-    }
+    let optional = level::optionals::optional(table, begin, first, shapes, stop, row, least, s)?;
+    Ok(Some(optional))
 }
 
 // The same; a simple optional is read without a call. The member rows before `limit` lie inside the table.
@@ -88,7 +102,7 @@ fn quick_next(
     row: usize,
     least: usize,
     s: &[u8],
-) -> Turn
+) -> Result<Option<Optional>, Refusal>
     requires begin_value { begin ≡ types_at table.now }
     requires first_value { (first ≡ members_at table.now) × (first < 1048576) }
     requires whole { (0 < limit → Whole table.now limit) × (limit ≤ stop) }
@@ -99,20 +113,27 @@ fn quick_next(
     if wire::byte_at(s, 0) != 255 {
         let p = level::optionals::any_simple(table, first, limit, shapes, stop, row, least, s);
         if p.bytes != 0 {
-            return Turn::Known(row, p.tag, p.head, p.bytes);
+            return Ok(Some(Optional::Known {
+                member: row,
+                tag: p.tag,
+                start: p.head,
+                bytes: p.bytes,
+            }));
         }
     }
     next(table, begin, first, shapes, stop, row, least, s)
 }
 
-// A refusal inside a slice: 14 is at its flags.
-fn refusal(flags: usize, c: usize, place: usize) -> Walk
-    ensures { result ≡ answer_of (recalling flags c place) }
+// A refusal of what comes n bytes on stops the walk, inside a slice whose flags are at a place: 14 is at its flags.
+#[tactic(auto, using(crate::proofs::Steps::recall_flags, crate::proofs::Steps::recall_place))]
+fn stopped(flags: usize, refusal: Refusal, n: usize) -> Walk
+    requires { n + refusal.place < 2 ^ 64 }
+    ensures { result ≡ stop_at flags n refusal }
 {
-    if c == 14 {
-        return Walk::Stop(c, flags);
+    if refusal.number == 14 {
+        return Walk::Stop(14, flags);
     }
-    Walk::Stop(c, place)
+    Walk::Stop(refusal.number, n + refusal.place)
 }
 
 // A sliced slice has bytes left over.
@@ -167,19 +188,27 @@ pub fn slices(
     let mut optionals = 0;
     let mut skipped = 0;
     let mut first = 0;
-    let mut answer = Walk::Stop(4, start);
     'slices: loop {
-        let o = opening(table, begin, top, stage, &m[pos..]);
+        let o = match opening(table, begin, top, stage, &m[pos..]) {
+            Ok(o) => o,
+            Err(refusal) => return stopped(pos, refusal, pos),
+        };
         match o {
             Opening::Skip(n) => {
                 stage = Stage::Seeking;
                 pos += n;
                 skipped += 1;
             }
-            Opening::Known(t, has, sliced, a, e) => {
+            Opening::Known {
+                row: t,
+                optionals: has,
+                sliced,
+                start: a,
+                end: e,
+            } => {
                 let from = pos + a;
                 let end = pos + e;
-                let members = level::required(
+                let members = match level::required(
                     table,
                     begin,
                     shapes,
@@ -189,82 +218,69 @@ pub fn slices(
                     count,
                     out,
                     false,
-                );
-                match members {
-                    Members::Read(n, k, opt) => {
-                        let stop = table::chain::member_end(table, begin, t);
-                        let limit = table::chain::whole(table, place, stop);
-                        count = k;
-                        let mut at = from + n;
-                        let mut least = 0;
-                        let mut row = opt;
-                        let mut more = has;
-                        while more {
-                            let x = quick_next(
-                                table,
-                                begin,
-                                place,
-                                limit,
-                                shapes,
-                                stop,
-                                row,
-                                least,
-                                &m[at..end],
-                            );
-                            match x {
-                                Turn::End => {
-                                    at += 1;
-                                    more = false;
-                                }
-                                Turn::Known(member, tag, b, l) => {
-                                    wire::rows::put_row(out, count, member, at + b, l - b);
-                                    count += 1;
-                                    at += l;
-                                    least = tag + 1;
-                                    row = table::chain::behind(table, place, row, member, tag);
-                                }
-                                Turn::Skipped(tag, l) => {
-                                    optionals += 1;
-                                    at += l;
-                                    least = tag + 1;
-                                }
-                                Turn::Wrong(c, p) => {
-                                    answer = refusal(pos, c, at + p);
-                                    break 'slices;
-                                }
+                ) {
+                    Ok(members) => members,
+                    Err(refusal) => return stopped(pos, refusal, from),
+                };
+                let stop = table::chain::member_end(table, begin, t);
+                let limit = table::chain::whole(table, place, stop);
+                count = members.count;
+                let mut at = from + members.bytes;
+                let mut least = 0;
+                let mut row = members.optional;
+                let mut more = has;
+                while more {
+                    let next = match quick_next(
+                        table,
+                        begin,
+                        place,
+                        limit,
+                        shapes,
+                        stop,
+                        row,
+                        least,
+                        &m[at..end],
+                    ) {
+                        Ok(next) => next,
+                        Err(refusal) => return stopped(pos, refusal, at),
+                    };
+                    match next {
+                        None => {
+                            at += 1;
+                            more = false;
+                        }
+                        Some(optional) => match optional {
+                            Optional::Known {
+                                member,
+                                tag,
+                                start: b,
+                                bytes,
+                            } => {
+                                wire::rows::put_row(out, count, member, at + b, bytes - b);
+                                count += 1;
+                                at += bytes;
+                                least = tag + 1;
+                                row = table::chain::behind(table, place, row, member, tag);
                             }
-                        }
-                        if left_over(sliced, at, end) {
-                            answer = Walk::Stop(11, from - 4);
-                            break 'slices;
-                        }
-                        first = first_of(stage, first, t);
-                        let b = table::chain::base(table, begin, t);
-                        if b == 0 {
-                            answer = Walk::Done(
-                                first,
-                                format_number(sliced),
-                                count,
-                                optionals,
-                                skipped,
-                                at,
-                            );
-                            break 'slices;
-                        }
-                        stage = Stage::Following(sliced, b);
-                        pos = at;
-                    }
-                    Members::Refused(c, p) => {
-                        answer = refusal(pos, c, from + p);
-                        break 'slices;
+                            Optional::Skipped { tag, bytes } => {
+                                optionals += 1;
+                                at += bytes;
+                                least = tag + 1;
+                            }
+                        },
                     }
                 }
-            }
-            Opening::Wrong(c, p) => {
-                answer = refusal(pos, c, pos + p);
-                break 'slices;
+                if left_over(sliced, at, end) {
+                    return Walk::Stop(11, from - 4);
+                }
+                first = first_of(stage, first, t);
+                let b = table::chain::base(table, begin, t);
+                if b == 0 {
+                    return Walk::Done(first, format_number(sliced), count, optionals, skipped, at);
+                }
+                stage = Stage::Following(sliced, b);
+                pos = at;
             }
         }
     }
-    answer
 }

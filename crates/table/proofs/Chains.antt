@@ -27,8 +27,8 @@ use Rattle.table.specs.Found.{member_found}
 use Rattle.table.specs.Rows.{IsMemberRow}
 use Rattle.table.specs.Tags.{optional_from, first_required, has_optional, is_above, first_above, behind}
 use Rattle.table.specs.declared.MemberRow.{MemberRow}
-use Rattle.table.specs.declared.FoundMember.{FoundMember}
-use Rattle.table.specs.declared.FoundMember.TheVariants.{At, Nothing}
+use Rattle.table.specs.declared.TaggedMember.{TaggedMember}
+use Rattle.std.specs.Prelude.{Option, Some, None}
 use Rattle.table.proofs.Ranges.{range_more, range_none, any_here, any_next, any_none}
 
 -- ---- bases
@@ -117,15 +117,15 @@ unfolding optional_from
 optionals_begin T end from key = refl
 
 module _ (T : List ℕ) (end from key m : ℕ) (inv : Optionals T end from key m) where
-  pub optionals_end : end ≤ m → Nothing ≡ member_found T (lookup key (optional_from T end from))
+  pub optionals_end : end ≤ m → None ≡ member_found T (lookup key (optional_from T end from))
   unfolding optionals_in lookup member_found
   optionals_end h = sym (inv ∙ rw (range_none m end h))
 
   module _ (h : m < end) (r : MemberRow) (is : IsMemberRow T m r) where
-    rest : FoundMember
+    rest : Option TaggedMember
     rest = member_found T (lookup key (optionals_in T (trees T) (range (m + 1) (end - (m + 1)))))
 
-    optionals_more : member_found T (lookup key (optional_from T end from)) ≡ pick (eqb r.mark 0) rest (pick (eqb key r.tag) (At m r.of) rest)
+    optionals_more : member_found T (lookup key (optional_from T end from)) ≡ pick (eqb r.mark 0) rest (pick (eqb key r.tag) (Some (record { member = m; of = r.of })) rest)
     unfolding optionals_in lookup member_found rest
     optionals_more = inv ∙ rw (range_more m end h, is.mark_is, is.tag_is, is.of_is) (go (eqb (mark T m) 0) (eqb key (tag T m)) refl)
       where
@@ -133,7 +133,7 @@ module _ (T : List ℕ) (end from key m : ℕ) (inv : Optionals T end from key m
         ahead = optionals_in T (trees T) (range (m + 1) (end - (m + 1)))
 
         go : (a b : Bool) → eqb key (tag T m) ≡ b → member_found T (lookup key (pick a ahead (record { row = m; key = tag T m; ty = member_ty T (trees T) m } ∷ ahead)))
-            ≡ pick a (member_found T (lookup key ahead)) (pick b (At m (member_type T m)) (member_found T (lookup key ahead)))
+            ≡ pick a (member_found T (lookup key ahead)) (pick b (Some (record { member = m; of = member_type T m })) (member_found T (lookup key ahead)))
         go true b e = refl
         go false true e = rw e
         go false false e = rw e
@@ -143,7 +143,7 @@ module _ (T : List ℕ) (end from key m : ℕ) (inv : Optionals T end from key m
     optionals_required z = optionals_more ∙ rw (eq-eqb r.mark 0 z)
 
     module _ (o : r.mark ≡ 0 → ⊥) where
-      pub optionals_here : key ≡ r.tag → At m r.of ≡ member_found T (lookup key (optional_from T end from))
+      pub optionals_here : key ≡ r.tag → Some (record { member = m; of = r.of }) ≡ member_found T (lookup key (optional_from T end from))
       optionals_here e = sym (optionals_more ∙ rw (ne_eqb r.mark 0 o, eq-eqb key r.tag e))
 
       pub optionals_other : (key ≡ r.tag → ⊥) → Optionals T end from key (m + 1)
@@ -270,10 +270,10 @@ four_marks T i p e Q S step q₀ q₁ q₂ q₃ start =
     subst S z d
 
 pub skipping_four : (T : List ℕ) (m end i : ℕ) → Skipping T m end i → 4 ≤ end - i → (p : ℕ) → p ≡ member_at T i
-    → (bit_and (bit_and (bit_and (get_or T (p + 2) 0) (get_or T (p + 2 + 8) 0)) (get_or T (p + 2 + 16) 0)) (get_or T (p + 2 + 24) 0) ≡ 0 → ⊥) → Skipping T m end (i + 4)
-skipping_four T m end i inv h p e n =
+    → (bit_and (bit_and (bit_and (get_or T (p + 2) 0) (get_or T (p + 2 + 8) 0)) (get_or T (p + 2 + 16) 0)) (get_or T (p + 2 + 24) 0) ≡ 0 → ⊥) → {j : ℕ} → j ≡ i + 4 → Skipping T m end j
+skipping_four T m end i inv h p e n z =
     let M = some_mark (get_or T (p + 2) 0) (get_or T (p + 2 + 8) 0) (get_or T (p + 2 + 16) 0) (get_or T (p + 2 + 24) 0) n in
-    four_marks T i p e (λ k. k ≡ 0 → ⊥) (Skipping T m end) (λ j l q s. skipping_next T m end j s (omega arith) (mark T j) refl q) M.0 M.1 M.2 M.3 inv
+    rw z (four_marks T i p e (λ k. k ≡ 0 → ⊥) (Skipping T m end) (λ j l q s. skipping_next T m end j s (omega arith) (mark T j) refl q) M.0 M.1 M.2 M.3 inv)
 
 -- ---- an optional row that is looked for
 
@@ -322,7 +322,7 @@ no_mark a b c d h =
     none a b h = (omega (arith, or_add_and a b, and_le_r a b), omega (arith, or_add_and a b, and_le_l a b))
 
 pub searching_four : (T : List ℕ) (m end i : ℕ) → Searching T m end i → 4 ≤ end - i → (p : ℕ) → p ≡ member_at T i
-    → bit_or (bit_or (bit_or (get_or T (p + 2) 0) (get_or T (p + 2 + 8) 0)) (get_or T (p + 2 + 16) 0)) (get_or T (p + 2 + 24) 0) ≡ 0 → Searching T m end (i + 4)
-searching_four T m end i inv h p e n =
+    → bit_or (bit_or (bit_or (get_or T (p + 2) 0) (get_or T (p + 2 + 8) 0)) (get_or T (p + 2 + 16) 0)) (get_or T (p + 2 + 24) 0) ≡ 0 → {j : ℕ} → j ≡ i + 4 → Searching T m end j
+searching_four T m end i inv h p e n z =
     let M = no_mark (get_or T (p + 2) 0) (get_or T (p + 2 + 8) 0) (get_or T (p + 2 + 16) 0) (get_or T (p + 2 + 24) 0) n in
-    four_marks T i p e (λ k. k ≡ 0) (Searching T m end) (λ j l q s. searching_next T m end j s (omega arith) (mark T j) refl q) M.0 M.1 M.2 M.3 inv
+    rw z (four_marks T i p e (λ k. k ≡ 0) (Searching T m end) (λ j l q s. searching_next T m end j s (omega arith) (mark T j) refl q) M.0 M.1 M.2 M.3 inv)

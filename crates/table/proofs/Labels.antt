@@ -1,32 +1,27 @@
 -- Names as parts of the table, and their comparison. Assumes nothing.
 --
---   Same, same_.., long_stop   the loops that compare two strings, eight bytes at a time, then the last eight or single ones
+--   same_lengths, same_pointwise   strings of different lengths differ; the comparison of their bytes in turn
 --   name_least, name_long      where a name begins, and how many bytes it has; name_inside they lie within the table
 --   named_part                 the part of the table that is compared is the name
---   whole_begin, whole_named   lent from the first byte on
 --   record_named ..            a row is a record of a name
---   Naming, naming_..          the loop that looks for the record of a name
-use Prim.Native.Nat.{ℕ, zero, suc, ◌+◌, ◌-◌, ◌≤◌, ◌<◌, min}
-use mathlib.Core.Path.{◌≡◌, refl, sym, ap, ap₂, ◌∙◌}
+--   named_first                the row that a name finds is the first of this name
+use Prim.Native.Nat.{ℕ, ◌+◌, ◌-◌, ◌≤◌, ◌<◌, min}
+use mathlib.Core.Path.{◌≡◌, refl, sym, ap, ◌∙◌}
 use mathlib.Core.Bool.{Bool, true, false, ◌&&◌}
-use mathlib.Core.List.{List}
-use native.Mathlib.Nat.{add-zero}
-use native.Mathlib.Numerals.{add-one}
+use mathlib.Core.List.{List, [], ◌∷◌}
 use native.Mathlib.Omega.{arith}
-use lib.ListN.{length, take, drop, get_or, drop_of_length-le}
-use lib.Seq.{drop-cons}
+use lib.ListN.{length, take, drop}
 use lib.Dec.{eqb, leb}
-use borrow.Author.Tests.{leb-true, leb-false, eqb-true, eqb-false, eq-eqb}
+use lib.Pointwise.{pointwise}
+use borrow.Author.Tests.{leb-true, leb-false}
 use Rattle.encoding.specs.Result.{pick, same_bytes}
 use Rattle.encoding.proofs.ResultLaws.{same_bytes_ok}
-use Rattle.encoding.specs.Table.{at, types, types_at, names_at, kind, field, is_record, name_of, range, search as find, named}
-use Rattle.wire.specs.At.{at_more}
-use Rattle.wire.specs.StepLaws.{rest_is}
+use Rattle.encoding.specs.Table.{types, names_at, kind, field, is_record, name_of, named}
 use Rattle.table.specs.Names.{name_start, is_named}
 use Rattle.table.specs.NamesLaws.{name_part, length_name}
 use Rattle.table.specs.Found.{found_of}
-use Rattle.table.specs.declared.Found.TheVariants.{At, Nothing}
-use Rattle.table.proofs.Ranges.{find_here, find_next, find_none}
+use Rattle.std.specs.Prelude.{Option, Some, None, MatchOption}
+use Rattle.table.proofs.Ranges.{find_never, find_first}
 
 -- ---- comparison
 
@@ -37,65 +32,15 @@ differ a b h = go (same_bytes a b) refl
     go true e = absurd (h (same_bytes_ok a b e))
     go false e = refl
 
-module _ (a b : List ℕ) where
-  pub same_lengths : (length a ≡ length b → ⊥) → false ≡ same_bytes a b
-  same_lengths h = differ a b (λ e. h (ap length e))
+pub same_lengths : (a b : List ℕ) → (length a ≡ length b → ⊥) → false ≡ same_bytes a b
+same_lengths a b h = differ a b (λ e. h (ap length e))
 
-  pub same_stop : (i : ℕ) → (get_or a i 0 ≡ get_or b i 0 → ⊥) → false ≡ same_bytes a b
-  same_stop i h = differ a b (λ e. h (ap (λ (l : List ℕ). get_or l i 0) e))
-
-  pub long_stop : (i x y : ℕ) → x ≡ at a 8 i → y ≡ at b 8 i → (x ≡ y → ⊥) → false ≡ same_bytes a b
-  long_stop i x y ex ey h = differ a b (λ e. h (ex ∙ ap (λ (l : List ℕ). at l 8 i) e ∙ sym ey))
-
--- what is left to compare decides the answer
-abbrev pub Same : List ℕ → List ℕ → ℕ → Type 0
-Same a b i = (i ≤ length a) × (length a ≡ length b) × (same_bytes a b ≡ same_bytes (drop i a) (drop i b))
-
-module _ (a b : List ℕ) (i : ℕ) (inv : Same a b i) where
-  same_more : i < length a → same_bytes (drop i a) (drop i b) ≡ eqb (get_or a i 0) (get_or b i 0) && same_bytes (drop (i + 1) a) (drop (i + 1) b)
-  unfolding same_bytes
-  same_more h = let k : i < length b = omega (arith, inv.1) in rw (drop-cons a i 0 h, drop-cons b i 0 k, add-one)
-
-  pub same_turn : i < length a → get_or a i 0 ≡ get_or b i 0 → Same a b (i + 1)
-  same_turn h e = (omega arith, inv.1, inv.2 ∙ same_more h ∙ rw (eq-eqb _ _ e))
-
-  pub same_end : length a ≤ i → true ≡ same_bytes a b
-  unfolding same_bytes
-  same_end h = sym (inv.2 ∙ rw (drop_of_length-le a h, drop_of_length-le b {i = i} (omega (arith, inv.1))))
-
--- bytes are the same where their numbers are
-module _ (a b : List ℕ) (sa : (j : ℕ) → get_or a j 0 < 256) (sb : (j : ℕ) → get_or b j 0 < 256) where
-  number_bytes : (k i : ℕ) → at a k i ≡ at b k i → (j : ℕ) → i ≤ j → j < i + k → get_or a j 0 ≡ get_or b j 0
-  number_bytes zero i e j h l = absurd (omega arith)
-  number_bytes (suc k) i e j h l =
-      let x = at_more a k i in
-      let y = at_more b k i in
-      let p : get_or a i 0 ≡ get_or b i 0 = omega (arith, sa i, sb i) in
-      let q : at a k (suc i) ≡ at b k (suc i) = omega (arith, sa i, sb i) in
-      go (eqb i j) refl p (number_bytes k (suc i) q)
-    where
-      go : (t : Bool) → eqb i j ≡ t → get_or a i 0 ≡ get_or b i 0 → ((j : ℕ) → suc i ≤ j → j < suc i + k → get_or a j 0 ≡ get_or b j 0) → get_or a j 0 ≡ get_or b j 0
-      go true z p again = let y : i ≡ j = eqb-true i j z in rw y at p
-      go false z p again = let y = eqb-false i j z in again j (omega arith) (omega arith)
-
-  same_run : (k i : ℕ) → Same a b i → i + k ≤ length a → ((j : ℕ) → i ≤ j → j < i + k → get_or a j 0 ≡ get_or b j 0) → Same a b (i + k)
-  same_run zero i inv h e = rw (add-zero i) inv
-  same_run (suc k) i inv h e =
-      let z : i + suc k ≡ suc i + k = omega arith in
-      rw z (same_run k (suc i) (rw add-one at (same_turn a b i inv (omega arith) (e i (omega arith) (omega arith)))) (omega arith) (λ j m l. e j (omega arith) (omega arith)))
-
-  pub same_long : (i : ℕ) → Same a b i → 8 ≤ length a - i → (x y : ℕ) → x ≡ at a 8 i → y ≡ at b 8 i → x ≡ y → Same a b (i + 8)
-  same_long i inv h x y ex ey e = same_run 8 i inv (omega arith) (number_bytes 8 i (sym ex ∙ e ∙ ey))
-
-  -- the last eight, where fewer are left
-  pub same_last : (i : ℕ) → Same a b i → length a - i < 8 → (k : ℕ) → k ≡ length a - 8 → 8 ≤ length a → (x y : ℕ) → x ≡ at a 8 k → y ≡ at b 8 k → eqb x y ≡ same_bytes a b
-  same_last i inv h k ek l x y ex ey = go (eqb x y) refl
-    where
-      go : (t : Bool) → eqb x y ≡ t → t ≡ same_bytes a b
-      go true e =
-          let r = same_run (length a - i) i inv (omega (arith, inv.0)) (λ j m o. number_bytes 8 k (sym ex ∙ eqb-true x y e ∙ ey) j (omega arith) (omega (arith, inv.0))) in
-          same_end a b (i + (length a - i)) r (omega (arith, inv.0))
-      go false e = long_stop a b k x y ex ey (eqb-false x y e)
+pub same_pointwise : (a b : List ℕ) → pointwise eqb a b ≡ same_bytes a b
+unfolding same_bytes
+same_pointwise [] [] = refl
+same_pointwise [] (y ∷ b) = refl
+same_pointwise (x ∷ a) [] = refl
+same_pointwise (x ∷ a) (y ∷ b) = ap (λ (z : Bool). eqb x y && z) (same_pointwise a b)
 
 -- ---- the part of the table that a name is
 
@@ -121,13 +66,6 @@ module _ (T : List ℕ) (t : ℕ) where
       let z : a + l - a ≡ length (name_of T t) = omega arith in
       h ∙ rw (z, s, name_part T t)
 
--- a table and a name that are lent from their first byte on are lent whole
-pub whole_begin : (T : List ℕ) (n : ℕ) → n ≡ types_at T → n ≡ types_at (take (length T - 0) (drop 0 T))
-whole_begin T n e = e ∙ ap types_at (sym (rest_is T 0))
-
-pub whole_named : (T nm : List ℕ) (t : ℕ) (r : Bool) → r ≡ same_bytes (take (length nm - 0) (drop 0 nm)) (name_of (take (length T - 0) (drop 0 T)) t) → r ≡ same_bytes nm (name_of T t)
-whole_named T nm t r e = e ∙ ap₂ (λ (x y : List ℕ). same_bytes x (name_of y t)) (rest_is nm 0) (rest_is T 0)
-
 -- ---- the search for a name
 
 module _ (T nm : List ℕ) (t : ℕ) (k : ℕ) (ek : k ≡ kind T t) (b : Bool) (eb : b ≡ is_record k) where
@@ -140,22 +78,10 @@ module _ (T nm : List ℕ) (t : ℕ) (k : ℕ) (ek : k ≡ kind T t) (b : Bool) 
   pub record_none : b ≡ false → false ≡ is_named T nm t
   record_none q = sym (ap (λ (z : Bool). z && same_bytes nm (name_of T t)) (ap is_record (sym ek) ∙ sym eb ∙ q))
 
--- what is left to look at decides the answer
-abbrev pub Naming : List ℕ → List ℕ → ℕ → ℕ → Type 0
-Naming T nm n t = (t ≤ n) × (found_of (named T nm) ≡ found_of (find (is_named T nm) (range t (n - t))))
-
-pub naming_begin : (T nm : List ℕ) (n : ℕ) → n ≡ types T → Naming T nm n 0
-unfolding named
-naming_begin T nm n e = let z : n - 0 ≡ types T = omega arith in (omega arith, rw z)
-
-module _ (T nm : List ℕ) (n t : ℕ) (inv : Naming T nm n t) where
-  pub naming_here : (r : Bool) → t < n → r ≡ is_named T nm t → r ≡ true → At t ≡ found_of (named T nm)
-  unfolding found_of
-  naming_here r h e q = sym (inv.1 ∙ ap found_of (find_here (is_named T nm) t n h (sym e ∙ q)))
-
-  pub naming_next : (r : Bool) → t < n → r ≡ is_named T nm t → r ≡ false → Naming T nm n (t + 1)
-  naming_next r h e q = (omega arith, inv.1 ∙ ap found_of (find_next (is_named T nm) t n h (sym e ∙ q)))
-
-  pub naming_end : n ≤ t → Nothing ≡ found_of (named T nm)
-  unfolding found_of
-  naming_end h = sym (inv.1 ∙ ap found_of (find_none (is_named T nm) t n h))
+-- the first row that is a record of the name, among all rows
+pub named_first : (T nm : List ℕ) (n : ℕ) → n ≡ types T → (r : Option ℕ)
+    → MatchOption r ((k : ℕ) → 0 ≤ k → k < n → is_named T nm k ≡ false) (λ i. (0 ≤ i) × (i < n) × (is_named T nm i ≡ true) × ((k : ℕ) → 0 ≤ k → k < i → is_named T nm k ≡ false))
+    → r ≡ found_of (named T nm)
+unfolding named found_of
+named_first T nm n e None h = rw (find_never (is_named T nm) (types T) 0 (λ k a b. h k a (omega arith)))
+named_first T nm n e (Some i) h = rw (find_first (is_named T nm) (types T) 0 i h.0 (omega (arith, h.1)) h.2 h.3)

@@ -11,9 +11,9 @@
 --   kind_direct, kind_byte, field_direct   a kind, a field read at its place
 --   kind_is .. field_within                a field of a type row, read from a part that shows the row; field_past past the table's end
 --   member_type_is .. tag_is               the same of a member row; type_here .. tag_here: read at its place in the table
---   rows_few, rows_many                    how many rows have a tree
+--   rows_least                             how many rows have a tree
 --   member_row, no_member                  the row of a member's type
-use Prim.Native.Nat.{ℕ, ◌+◌, ◌-◌, ◌*◌, ◌/◌, ◌≤◌, ◌<◌}
+use Prim.Native.Nat.{ℕ, ◌+◌, ◌-◌, ◌*◌, ◌/◌, ◌≤◌, ◌<◌, min}
 use mathlib.Core.Path.{◌≡◌, refl, sym, ap, ◌∙◌}
 use mathlib.Core.Bool.{Bool, true, false}
 use mathlib.Core.List.{List}
@@ -21,8 +21,8 @@ use native.Mathlib.Nat.{add-zero}
 use native.Mathlib.Omega.{arith}
 use lib.ListN.{length, take, drop, get_or, drop_of_length-le}
 use lib.Seq.{drop-drop}
-use lib.Dec.{eqb}
-use borrow.Author.Tests.{le-leb, lt-leb, ne_eqb}
+use lib.Dec.{eqb, leb}
+use borrow.Author.Tests.{leb-true, leb-false, ne_eqb}
 use Rattle.encoding.specs.Result.{pick}
 use Rattle.encoding.specs.Table.{at, version, with_lists, types, members, entries, types_at, row_at, member_at, entries_at, field_at, list_entry, kind, spare, field, member_type, mark, member_spare, tag, type_rows, trees, ty_of, member_ty}
 use Rattle.encoding.proofs.TableLaws.{header_most, rows_below, ty_past, member_past as member_none, member_whole}
@@ -175,14 +175,13 @@ module _ (T s : List ℕ) (m : ℕ) (shows : Shows T s (member_at T m) 8) (r : �
 
 -- ---- rows that have a tree
 
-module _ (T : List ℕ) (n : ℕ) (e : n ≡ types T) where
-  pub rows_few : n ≤ 256 → n ≡ type_rows T
-  unfolding type_rows
-  rows_few h = let l : types T ≤ 256 = omega arith in rw (le-leb _ _ l) e
-
-  pub rows_many : 256 < n → 256 ≡ type_rows T
-  unfolding type_rows
-  rows_many h = let l : 256 < types T = omega arith in rw (lt-leb _ _ l)
+pub rows_least : (T : List ℕ) (n : ℕ) → n ≡ types T → (r : ℕ) → r ≡ min n 256 → r ≡ type_rows T
+unfolding type_rows
+rows_least T n e r h = go (leb (types T) 256) refl
+  where
+    go : (b : Bool) → leb (types T) 256 ≡ b → r ≡ pick b (types T) 256
+    go true q = omega (arith, leb-true)
+    go false q = omega (arith, leb-false)
 
 pub member_row : (T : List ℕ) (m n r : ℕ) → n ≡ members T → m < n → r ≡ member_type T m → ty_of T r ≡ member_ty T (trees T) m
 member_row T m n r e h q = ap (ty_of T) q ∙ sym (member_whole T m (omega arith))

@@ -30,6 +30,7 @@ pub fn searched(table: &[u8], first: usize, c: usize, d: usize, n: usize) -> boo
     requires first_bound { (first < 4194304) × (c < 65536) × (d < 65536) }
     ensures { result ≡ searched d (map (list_entry table.now) (range c d)) n 0 d }
 {
+    // Stays: the definition is this halving itself, which fixes the answer of a list that is not in order, and entries are bytes of the table, no slice of numbers that `binary_search` takes.
     let mut lo = 0;
     let mut hi = d;
     while lo < hi {

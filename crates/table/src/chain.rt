@@ -5,17 +5,15 @@ ghost use Rattle.table.specs.Found.{member_found};
 ghost use Rattle.table.specs.Rows.{IsTypeRow, Whole};
 ghost use Rattle.table.specs.Tags.{optional_from, first_required, has_optional, behind};
 
-use crate::{FoundMember, TypeRow};
+use crate::{TaggedMember, TypeRow};
 
 // The base row + 1, or 0 if row t has no base; a base that is not a smaller row is none.
 pub fn base_of(table: &[u8], row: TypeRow, t: usize) -> usize
     requires { IsTypeRow table.now t row }
     ensures { (result ≡ base table.now t) × (result ≤ t) }
 {
-    if crate::is_record(row.kind) {
-        if row.c <= t {
-            return row.c;
-        }
+    if crate::is_record(row.kind) && row.c <= t {
+        return row.c;
     }
     0
 }
@@ -34,6 +32,7 @@ pub fn in_chain(table: &[u8], t: usize, top: usize) -> bool
 {
     let begin = crate::types_at(table);
     let mut o = t;
+    // Stays: the next row is read from the table, and a row without a base ends the line: that is no `for`.
     loop {
         if o == top {
             return true;
@@ -52,10 +51,7 @@ fn takes(table: &[u8], begin: usize, t: usize, m: usize) -> bool
     ensures { result ≡ takes table.now t m }
 {
     let row = crate::type_row(table, begin, t);
-    if m < row.a {
-        return false;
-    }
-    m < row.a + row.b
+    row.a <= m && m < row.a + row.b
 }
 
 // Member row m is one of row t or of its bases.
@@ -64,6 +60,7 @@ pub fn of_chain(table: &[u8], t: usize, m: usize) -> bool
 {
     let begin = crate::types_at(table);
     let mut o = t;
+    // Stays: the next row is read from the table, and a row without a base ends the line: that is no `for`.
     loop {
         if takes(table, begin, o, m) {
             return true;
@@ -86,26 +83,38 @@ pub fn member_end(table: &[u8], begin: usize, t: usize) -> usize
 }
 
 // The optional member with this tag, and the row of its type. Looks at the member rows `from` to `end` - 1, which lie inside the table; `first` is where the member rows begin.
-fn tag_member_in(table: &[u8], first: usize, end: usize, from: usize, tag: usize) -> FoundMember
+fn tag_member_in(
+    table: &[u8],
+    first: usize,
+    end: usize,
+    from: usize,
+    tag: usize,
+) -> Option<TaggedMember>
     requires first_value { first ≡ members_at table.now }
     requires end_in_bounds { member_at table.now end ≤ length table.now }
     ensures { result ≡ member_found table.now (lookup tag (optional_from table.now end from)) }
 {
-    let mut m = from;
-    while m < end {
-        let member = crate::member_row_in(table, first, m);
-        if member.mark != 0 {
-            if tag == member.tag {
-                return FoundMember::At(m, member.of);
-            }
+    for m in from..end {
+        let row = crate::member_row_in(table, first, m);
+        if row.mark != 0 && tag == row.tag {
+            return Some(TaggedMember {
+                member: m,
+                of: row.of,
+            });
         }
-        m += 1;
     }
-    FoundMember::Nothing
+    None
 }
 
 // The same for any table: the missing bytes of a row outside are 0.
-pub fn tag_member(table: &[u8], first: usize, end: usize, from: usize, tag: usize) -> FoundMember
+// Stays: the two loops differ in how a row is read; of rows inside none is tested against the table's end.
+pub fn tag_member(
+    table: &[u8],
+    first: usize,
+    end: usize,
+    from: usize,
+    tag: usize,
+) -> Option<TaggedMember>
     requires first_value { (first ≡ members_at table.now) × (first < 1048576) }
     requires end_bound { end ≤ 131072 }
     ensures { result ≡ member_found table.now (lookup tag (optional_from table.now end from)) }
@@ -113,17 +122,16 @@ pub fn tag_member(table: &[u8], first: usize, end: usize, from: usize, tag: usiz
     if crate::member_at(table, first, end) <= table.len() {
         return tag_member_in(table, first, end, from, tag);
     }
-    let mut m = from;
-    while m < end {
-        let member = crate::member_row_from(table, first, m);
-        if member.mark != 0 {
-            if tag == member.tag {
-                return FoundMember::At(m, member.of);
-            }
+    for m in from..end {
+        let row = crate::member_row_from(table, first, m);
+        if row.mark != 0 && tag == row.tag {
+            return Some(TaggedMember {
+                member: m,
+                of: row.of,
+            });
         }
-        m += 1;
     }
-    FoundMember::Nothing
+    None
 }
 
 // Row m, or a later one with the same first required row: four rows are passed at a time, as long as all four are optional. Rows m to `end` - 1 lie inside the table; `first` is where the member rows begin.
@@ -135,15 +143,14 @@ fn past_fours(table: &[u8], first: usize, m: usize, end: usize) -> usize
     ensures result_value { first_required table.now result (end - result) ≡ first_required table.now m (end - m) }
     ensures lower_bound { (m ≤ result) × (result ≤ end) }
 {
-    let mut i = m;
-    while 4 <= end - i {
-        let a = crate::member_at(table, first, i) + 2;
+    let fours = (end - m) / 4;
+    for k in 0..fours {
+        let a = crate::member_at(table, first, m + 4 * k) + 2;
         if table[a] & table[a + 8] & table[a + 16] & table[a + 24] == 0 {
-            return i;
+            return m + 4 * k;
         }
-        i += 4;
     }
-    i
+    m + 4 * fours
 }
 
 // The first required row of member rows m to `end` - 1, or `end`; `first` is where the member rows begin.
@@ -152,15 +159,16 @@ pub fn required_from(table: &[u8], first: usize, m: usize, end: usize) -> usize
     requires m_le_end { (m ≤ end) × (end ≤ 131072) }
     ensures { (result ≡ first_required table.now m (end - m)) × ((m ≤ result) × (result ≤ end)) }
 {
-    let mut i = m;
-    if crate::member_at(table, first, end) <= table.len() {
-        i = past_fours(table, first, m, end);
-    }
-    while i < end {
+    let inside = crate::member_at(table, first, end) <= table.len();
+    let start = if inside {
+        past_fours(table, first, m, end)
+    } else {
+        m
+    };
+    for i in start..end {
         if crate::mark_from(table, first, i) == 0 {
             return i;
         }
-        i += 1;
     }
     end
 }
@@ -171,6 +179,7 @@ pub fn bare_from(table: &[u8], first: usize, m: usize, end: usize) -> usize
     requires m_le_end { (m ≤ end) × (end ≤ 131072) }
     ensures { (first_required table.now result (end - result) ≡ end) × (result ≤ end) }
 {
+    // Stays: each turn goes on after the required row that was found: a step that depends on the bytes read is no `for`.
     let mut from = m;
     let mut i = required_from(table, first, m, end);
     while i < end {
@@ -196,6 +205,7 @@ pub fn whole(table: &[u8], first: usize, end: usize) -> usize
 }
 
 // Row m, or a later one after which the same optional rows are left: four rows are passed at a time, as long as all four are required. Rows m to `end` - 1 lie inside the table; the marks are joined in the same way.
+// Stays: it differs from `past_fours` by operator, comparison and what it promises, so that one function for both would take three parameters.
 fn past_requireds(table: &[u8], first: usize, m: usize, end: usize) -> usize
     requires first_value { first ≡ members_at table.now }
     requires end_in_bounds { member_at table.now end ≤ length table.now }
@@ -203,15 +213,14 @@ fn past_requireds(table: &[u8], first: usize, m: usize, end: usize) -> usize
     ensures result_value { has_optional table.now result (end - result) ≡ has_optional table.now m (end - m) }
     ensures upper_bound { result ≤ end }
 {
-    let mut i = m;
-    while 4 <= end - i {
-        let a = crate::member_at(table, first, i) + 2;
+    let fours = (end - m) / 4;
+    for k in 0..fours {
+        let a = crate::member_at(table, first, m + 4 * k) + 2;
         if table[a] | table[a + 8] | table[a + 16] | table[a + 24] != 0 {
-            return i;
+            return m + 4 * k;
         }
-        i += 4;
     }
-    i
+    m + 4 * fours
 }
 
 // Some of member rows m to `end` - 1 is optional; `first` is where the member rows begin.
@@ -220,15 +229,16 @@ pub fn has_optional(table: &[u8], first: usize, m: usize, end: usize) -> bool
     requires m_le_end { (m ≤ end) × (end ≤ 131072) }
     ensures { result ≡ has_optional table.now m (end - m) }
 {
-    let mut i = m;
-    if crate::member_at(table, first, end) <= table.len() {
-        i = past_requireds(table, first, m, end);
-    }
-    while i < end {
+    let inside = crate::member_at(table, first, end) <= table.len();
+    let start = if inside {
+        past_requireds(table, first, m, end)
+    } else {
+        m
+    };
+    for i in start..end {
         if crate::mark_from(table, first, i) != 0 {
             return true;
         }
-        i += 1;
     }
     false
 }
@@ -239,15 +249,11 @@ pub fn behind(table: &[u8], first: usize, from: usize, m: usize, tag: usize) -> 
     requires m_bound { m < 131072 }
     ensures { result ≡ behind table.now from m tag }
 {
-    let mut i = from;
-    while i < m {
+    for i in from..m {
         let row = crate::member_row_from(table, first, i);
-        if row.mark != 0 {
-            if tag < row.tag {
-                return i;
-            }
+        if row.mark != 0 && tag < row.tag {
+            return i;
         }
-        i += 1;
     }
     m + 1
 }

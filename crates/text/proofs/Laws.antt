@@ -34,10 +34,10 @@ use Rattle.encoding.specs.Table.{at}
 use Rattle.encoding.specs.Utf8.{Bounds, in_bounds, any_later, characters, following, advance, advance_all, at_boundary, is_utf8}
 use Rattle.encoding.proofs.Utf8Laws.{below_or, none_stays, first_one, first_early, first_two, first_three_least, first_three_low, first_three_middle, first_three_high, first_four_least, first_four_low, first_four_most, first_late}
 use Rattle.wire.specs.At.{at_more}
-use Rattle.wire.specs.declared.Step.TheVariants.{Took, Fault}
-use Rattle.wire.specs.declared.Sized.{Sized}
-use Rattle.wire.specs.declared.Sized.TheVariants.{Is, Isnt}
-use Rattle.wire.specs.Steps.{step_of, bytes_of}
+use Rattle.std.specs.Prelude.{Result, Ok, Err}
+use Rattle.wire.specs.declared.Counted.{Counted}
+use Rattle.wire.specs.declared.Refusal.{Refusal}
+use Rattle.wire.specs.Steps.{step_of, bytes_of, refused, counted}
 use Rattle.wire.specs.StepLaws.{bytes_is, bytes_isnt}
 use Rattle.wire.proofs.Laws.{size_short, counted_whole}
 use Rattle.text.specs.Characters.{in_all, second_bounds, character_bytes, first_character, Ascii, Tested, Crossed}
@@ -410,13 +410,13 @@ module _ (s : List ℕ) where
   tested_none from to h l =
       record { onward = omega arith; inside = h; low = record { there = omega arith; below = λ j a b. absurd (omega arith) } }
 
-  pub tested_turn : (from to i k : ℕ) → Tested s from to i → k < to - i → (r : Bool) → (r ≡ true → Ascii s i k) → r ≡ true → Tested s from to (i + k)
+  pub tested_turn : (from to i k : ℕ) → Tested s from to i → i < to - k → (r : Bool) → (r ≡ true → Ascii s i k) → r ≡ true → Tested s from to (i + k)
   tested_turn from to i k inv h r p t =
       let z : i + k - from ≡ i - from + k = omega (arith, inv.onward) in
       let e : i ≡ from + (i - from) = omega (arith, inv.onward) in
       record { onward = omega (arith, inv.onward); inside = omega arith; low = rw z (joined e inv.low (p t)) }
 
-  pub tested_last : (from to i k : ℕ) → Tested s from to i → to - i ≤ k → from + k ≤ to → (r : Bool) → (r ≡ true → Ascii s (to - k) k) → r ≡ true → Ascii s from (to - from)
+  pub tested_last : (from to i k : ℕ) → Tested s from to i → to - k ≤ i → from + k ≤ to → (r : Bool) → (r ≡ true → Ascii s (to - k) k) → r ≡ true → Ascii s from (to - from)
   tested_last from to i k inv h l r p t =
       let q = p t in
       record {
@@ -447,72 +447,72 @@ ends_counted : Ends (extent vsize)
 unfolding extent
 ends_counted = ends_item _ (ends_bind _ _ (λ n. ends_chunk n))
 
-module _ (s : List ℕ) (r : Sized) (e : r ≡ bytes_of (extent vsize s)) where
-  pub string_bad : (f p : ℕ) → r ≡ Isnt f p → Isnt f p ≡ bytes_of (string s)
+module _ (s : List ℕ) (r : Result Counted Refusal) (e : r ≡ bytes_of (extent vsize s)) where
+  pub string_bad : (x : Refusal) → r ≡ Err x → Err x ≡ bytes_of (string s)
   unfolding judged bytes_of
-  string_bad f p q = sym (ap bytes_of (string_counted s) ∙ rw (bytes_isnt (extent vsize s) f p (sym q ∙ e)))
+  string_bad x q = sym (ap bytes_of (string_counted s) ∙ rw (bytes_isnt (extent vsize s) x (sym q ∙ e)))
 
-  module _ (n k : ℕ) (q : r ≡ Is n k) where
+  module _ (x : Counted) (q : r ≡ Ok x) where
     -- the bytes
-    counted_bytes : (d : List ℕ) × (extent vsize s ≡ ok d k) × (n ≡ length d)
-    counted_bytes = bytes_is (extent vsize s) n k (sym q ∙ e)
+    counted_bytes : (d : List ℕ) × (extent vsize s ≡ ok d x.bytes) × (x.number ≡ length d)
+    counted_bytes = bytes_is (extent vsize s) x (sym q ∙ e)
 
-    pub string_size : n ≤ k
-    string_size = omega (arith, counted_bytes.2, (ends_counted s counted_bytes.0 k counted_bytes.1).within)
+    pub string_size : x.number ≤ x.bytes
+    string_size = omega (arith, counted_bytes.2, (ends_counted s counted_bytes.0 x.bytes counted_bytes.1).within)
 
-    pub string_within : k ≤ length s
+    pub string_within : x.bytes ≤ length s
     string_within = held_took (extent vsize) (held_extent vsize) s counted_bytes.1
 
     -- they end what is taken
-    counted_there : take (k - (k - n)) (drop (k - n) s) ≡ counted_bytes.0
+    counted_there : take (x.bytes - (x.bytes - x.number)) (drop (x.bytes - x.number) s) ≡ counted_bytes.0
     counted_there =
-        let l : length counted_bytes.0 ≡ n = sym counted_bytes.2 in
-        let z : k - (k - n) ≡ n = omega (arith, string_size) in
-        rw z (rw l at (ends_counted s counted_bytes.0 k counted_bytes.1).there)
+        let l : length counted_bytes.0 ≡ x.number = sym counted_bytes.2 in
+        let z : x.bytes - (x.bytes - x.number) ≡ x.number = omega (arith, string_size) in
+        rw z (rw l at (ends_counted s counted_bytes.0 x.bytes counted_bytes.1).there)
 
-    module _ (t : Bool) (g : t ≡ is_utf8 (take (k - (k - n)) (drop (k - n) s))) where
+    module _ (t : Bool) (g : t ≡ is_utf8 (take (x.bytes - (x.bytes - x.number)) (drop (x.bytes - x.number) s))) where
       is_text : is_utf8 counted_bytes.0 ≡ t
       is_text = sym (g ∙ ap is_utf8 counted_there)
 
-      pub string_is : t ≡ true → Is n k ≡ bytes_of (string s)
+      pub string_is : t ≡ true → Ok x ≡ bytes_of (string s)
       unfolding judged Content bytes_of
       string_is u = sym (ap bytes_of (string_counted s) ∙ rw (counted_bytes.1, is_text, u, ← counted_bytes.2))
 
-      pub string_isnt : t ≡ false → Isnt 24 0 ≡ bytes_of (string s)
+      pub string_isnt : t ≡ false → refused 24 0 ≡ bytes_of (string s)
       unfolding judged Content bytes_of
       string_isnt u = sym (ap bytes_of (string_counted s) ∙ rw (counted_bytes.1, is_text, u))
 
 -- a size of one byte, and its bytes
-short_counted : (s : List ℕ) (n : ℕ) → n ≡ at s 1 0 → n < 255 → n < length s → Is n (1 + n) ≡ bytes_of (extent vsize s)
-short_counted s n e l h = counted_whole s (Is n 1) (size_short s n e (omega arith) l) n 1 refl (omega arith)
+short_counted : (s : List ℕ) (n : ℕ) → n ≡ at s 1 0 → n < 255 → n < length s → counted n (1 + n) ≡ bytes_of (extent vsize s)
+short_counted s n e l h = counted_whole s (counted n 1) (size_short s n e (omega arith) l) _ refl (omega arith)
 
 -- a size below 8 and its bytes, all below 128
-pub string_few : (s : List ℕ) → 8 ≤ length s → (n : ℕ) → n ≡ at s 1 0 → n < 8 → (t : Bool) → (t ≡ true → Ascii s 0 (1 + n)) → t ≡ true → Is n (1 + n) ≡ bytes_of (string s)
+pub string_few : (s : List ℕ) → 8 ≤ length s → (n : ℕ) → n ≡ at s 1 0 → n < 8 → (t : Bool) → (t ≡ true → Ascii s 0 (1 + n)) → t ≡ true → counted n (1 + n) ≡ bytes_of (string s)
 string_few s h n e l t p u =
     let k : ℕ = 1 + n in
     let low : Ascii s (k - n) (k - (k - n)) = record { there = omega arith; below = λ j a b. (p u).below j (omega arith) (omega arith) } in
-    string_is s (Is n k) (short_counted s n e (omega arith) (omega arith)) n k refl t (u ∙ text_low s (k - n) k (omega arith) (omega arith) t (λ v. low) u) u
+    string_is s (counted n k) (short_counted s n e (omega arith) (omega arith)) _ refl t (u ∙ text_low s (k - n) k (omega arith) (omega arith) t (λ v. low) u) u
 
 -- its content left out
-module _ (s : List ℕ) (r : Sized) (e : r ≡ bytes_of (string s)) where
-  pub dropped_took : (n k : ℕ) → r ≡ Is n k → Took k ≡ step_of (text s)
+module _ (s : List ℕ) (r : Result Counted Refusal) (e : r ≡ bytes_of (string s)) where
+  pub dropped_took : (x : Counted) → r ≡ Ok x → Ok x.bytes ≡ step_of (text s)
   unfolding text mapc made step_of
-  dropped_took n k q = rw (bytes_is (string s) n k (sym q ∙ e)).1
+  dropped_took x q = rw (bytes_is (string s) x (sym q ∙ e)).1
 
-  pub dropped_bad : (f p : ℕ) → r ≡ Isnt f p → Fault f p ≡ step_of (text s)
+  pub dropped_bad : (x : Refusal) → r ≡ Err x → Err x ≡ step_of (text s)
   unfolding text mapc made step_of
-  dropped_bad f p q = rw (bytes_isnt (string s) f p (sym q ∙ e))
+  dropped_bad x q = rw (bytes_isnt (string s) x (sym q ∙ e))
 
 -- a string with a size of one byte, by its bytes
 module _ (s : List ℕ) (n : ℕ) (e : n ≡ at s 1 0) (small : n < 256) (more : n ≡ 255 → ⊥) (h : n < length s) (t : Bool) where
-  pub short_is : t ≡ is_utf8 (take (1 + n - 1) (drop 1 s)) → t ≡ true → Took (1 + n) ≡ step_of (text s)
+  pub short_is : t ≡ is_utf8 (take (1 + n - 1) (drop 1 s)) → t ≡ true → Ok (1 + n) ≡ step_of (text s)
   short_is g u =
       let k : ℕ = 1 + n in
       let z : 1 ≡ k - n = omega arith in
       let judged_there : t ≡ is_utf8 (take (k - (k - n)) (drop (k - n) s)) = g ∙ ap (λ (i : ℕ). is_utf8 (take (k - i) (drop i s))) z in
-      dropped_took s (Is n k) (string_is s (Is n k) (short_counted s n e (omega arith) h) n k refl t judged_there u) n k refl
+      dropped_took s (counted n k) (string_is s (counted n k) (short_counted s n e (omega arith) h) _ refl t judged_there u) _ refl
 
-  pub short_low : (t ≡ true → Ascii s 1 n) → t ≡ true → Took (1 + n) ≡ step_of (text s)
+  pub short_low : (t ≡ true → Ascii s 1 n) → t ≡ true → Ok (1 + n) ≡ step_of (text s)
   short_low p u =
       let low : Ascii s 1 (1 + n - 1) = record { there = omega arith; below = λ j a b. (p u).below j a (omega arith) } in
       short_is (u ∙ text_low s 1 (1 + n) (omega arith) (omega arith) t (λ v. low) u) u

@@ -1,15 +1,14 @@
 // Text, which is well-formed UTF-8, and the one reader of strings. Bytes below 128 are passed many at a time, other characters one by one.
 #![tactic(auto)]
 
-ghost use Rattle.std.specs.Prelude.{◌≡◌, true, [], ◌∷◌, ◌+◌, ◌-◌, ◌≤◌, ◌<◌, length, take, drop};
+ghost use Rattle.std.specs.Prelude.{◌≡◌, Ok, true, [], ◌∷◌, ◌+◌, ◌-◌, ◌≤◌, ◌<◌, length, take, drop};
 ghost use Rattle.encoding.specs.Utf8.{is_utf8};
 ghost use Rattle.encoding.specs.Number.{string};
 ghost use Rattle.encoding.specs.Proxy.{text};
 ghost use Rattle.wire.specs.Steps.{step_of, bytes_of};
-ghost use Rattle.wire.specs.declared.Step.TheVariants.{Took};
 ghost use Rattle.text.specs.Characters.{in_all, second_bounds, first_character, Ascii, Crossed};
 
-use wire::{Sized, Step};
+use wire::{Counted, Refusal};
 
 // The highest bit of each of eight bytes.
 const MARKS: usize = 0x8080808080808080;
@@ -191,11 +190,8 @@ fn are_ascii_blocks(s: &[u8], from: usize, to: usize) -> bool
     requires to_in_bounds { to ≤ length s.now }
     ensures { result ≡ true → Ascii s.now from (to - from) }
 {
-    let mut i = from;
-    while 32 < to - i {
-        if are_four_ascii(s, i, 32) {
-            i += 32;
-        } else {
+    for i in (from..to - 32).step_by(32) {
+        if !are_four_ascii(s, i, 32) {
             return false;
         }
     }
@@ -248,39 +244,36 @@ pub fn is_utf8(s: &[u8], from: usize, to: usize) -> bool
 
 // A string: 4 or 7 at its size, then 24 there if its bytes are no text. Every string is read here: of values, type IDs, identities, facets, adapters and optionals.
 // A size below 8 and its bytes are judged together, by one long.
-pub fn read_string(s: &[u8]) -> Sized
+pub fn read_string(s: &[u8]) -> Result<Counted, Refusal>
     ensures { result ≡ bytes_of (string s.now) }
 {
     if 8 <= s.len() {
         let few = wire::byte_at(s, 0);
         if few < 8 {
             if are_few_ascii(s, 0, 1 + few) {
-                return Sized::Is(few, 1 + few);
+                return Ok(Counted {
+                    number: few,
+                    bytes: 1 + few,
+                });
             }
         }
     }
-    let z = wire::read_counted(s);
-    match z {
-        Sized::Is(n, k) => {
-            if is_utf8(s, k - n, k) {
-                Sized::Is(n, k)
-            } else {
-                Sized::Isnt(24, 0)
-            }
-        }
-        Sized::Isnt(e, p) => Sized::Isnt(e, p),
+    let read = wire::read_counted(s)?;
+    if !is_utf8(s, read.bytes - read.number, read.bytes) {
+        return Err(Refusal {
+            number: 24,
+            place: 0,
+        });
     }
+    Ok(read)
 }
 
 // A string, of which only the bytes taken are wanted.
-pub fn read_text(s: &[u8]) -> Step
+pub fn read_text(s: &[u8]) -> Result<usize, Refusal>
     ensures { result ≡ step_of (text s.now) }
 {
-    let z = read_string(s);
-    match z {
-        Sized::Is(n, k) => Step::Took(k),
-        Sized::Isnt(e, p) => Step::Fault(e, p),
-    }
+    let read = read_string(s)?;
+    Ok(read.bytes)
 }
 
 // Up to thirty-two bytes at a place are below 128; no where there are more, or fewer than eight and the slice ends within eight.
@@ -302,7 +295,7 @@ fn are_some_ascii(s: &[u8], i: usize, n: usize) -> bool
 
 // How many bytes a string takes, if its size is one byte; 0 if it has a longer size or is refused. A number, so that the answer stays in a register.
 pub fn short_text(s: &[u8]) -> usize
-    ensures { 0 < result → Took result ≡ step_of (text s.now) }
+    ensures { 0 < result → Ok result ≡ step_of (text s.now) }
 {
     if s.len() < 1 {
         return 0;

@@ -2,10 +2,10 @@
 --
 --   aboves                    the bits above the lowest of each of k bytes; lows: none of them is set, so each byte is 0 or 1
 --   bools_eight, bools_block  eight bytes by one long, thirty-two by four
---   bools_none, bools_turn    the loops over blocks and eights
+--   bools_none, bools_turn, blocks_turn, eights_turn, bools_end   the loops over blocks and eights
 --   bools_begin               bools that were judged together are read, and the others are left
 use mathlib.Core.Path.{◌≡◌, refl, sym, ap, ap₂, ◌∙◌}
-use mathlib.Core.Bool.{Bool, true}
+use mathlib.Core.Bool.{Bool, true, false, not}
 use mathlib.Core.List.{List}
 use Prim.Native.Nat.{ℕ, zero, suc, ◌+◌, ◌-◌, ◌*◌, ◌/◌, ◌%◌, ◌^◌, ◌≤◌, ◌<◌}
 use native.Mathlib.Nat.{add-zero, zero-add}
@@ -13,15 +13,15 @@ use native.Mathlib.Omega.{arith}
 use lib.ListN.{length, take, drop, get_or, length-drop}
 use lib.Dec.{eqb}
 use lib.Bits.{bit_and, bit_or, and_block, and_high}
-use borrow.Author.Tests.{eqb-true}
+use borrow.Author.Tests.{eqb-true, not-false}
 use Rattle.encoding.specs.Result.{times}
 use Rattle.encoding.specs.Number.{bool}
 use Rattle.encoding.proofs.NumberLaws.{held_bool}
 use Rattle.encoding.proofs.Utf8Laws.{below_or}
 use Rattle.encoding.specs.Table.{at}
 use Rattle.wire.specs.At.{at_more, at_byte, at_rest}
-use Rattle.wire.specs.declared.Step.{Step}
-use Rattle.wire.specs.declared.Step.TheVariants.{Took}
+use Rattle.std.specs.Prelude.{Result, Ok}
+use Rattle.wire.specs.declared.Refusal.{Refusal}
 use Rattle.wire.specs.Steps.{step_of}
 use Rattle.wire.specs.StepLaws.{rest_is, Left, turns_begin, turns_next}
 use Rattle.text.proofs.Laws.{no_bits}
@@ -82,19 +82,29 @@ module _ (s : List ℕ) where
   bools_turn i k p r q t =
       record { there = omega (arith, (q t).there); below = λ j h l. below_or j i (λ b. p.below j h (omega arith)) (λ b. (q t).below j b (omega arith)) }
 
+  pub bools_end : (i j : ℕ) → AreBools s 0 i → i ≡ j → AreBools s 0 j
+  bools_end i j p e = rw e at p
+
+  -- the same of k turns of a loop over blocks, and over eights that begin at i
+  pub blocks_turn : (k : ℕ) → AreBools s 0 (32 * k) → (r : Bool) → (r ≡ true → AreBools s (32 * k) 32) → not r ≡ false → AreBools s 0 (32 * (k + 1))
+  blocks_turn k p r q t = let z : 32 * (k + 1) ≡ 32 * k + 32 = omega arith in rw z (bools_turn (32 * k) 32 p r q (not-false r t))
+
+  pub eights_turn : (i k : ℕ) → AreBools s 0 (i + 8 * k) → (r : Bool) → (r ≡ true → AreBools s (i + 8 * k) 8) → not r ≡ false → AreBools s 0 (i + 8 * (k + 1))
+  eights_turn i k p r q t = let z : i + 8 * (k + 1) ≡ i + 8 * k + 8 = omega arith in rw z (bools_turn (i + 8 * k) 8 p r q (not-false r t))
+
   -- ---- those left
 
-  bool_at : (i : ℕ) → i < length s → get_or s i 0 < 2 → Took 1 ≡ step_of (bool (take (length s - i) (drop i s)))
+  bool_at : (i : ℕ) → i < length s → get_or s i 0 < 2 → Ok 1 ≡ step_of (bool (take (length s - i) (drop i s)))
   bool_at i h l =
       bool_whole _ (get_or s i 0) (sym (at_rest s i 1 0 ∙ ap (at s 1) (add-zero i) ∙ at_byte s i)) (rw rest_is (omega (arith, length-drop i s))) l
 
-  bools_left : (whole : Step) (k left i : ℕ) → k ≤ left → Left s whole (times left bool) i → AreBools s i k → Left s whole (times (left - k) bool) (i + k)
+  bools_left : (whole : Result ℕ Refusal) (k left i : ℕ) → k ≤ left → Left s whole (times left bool) i → AreBools s i k → Left s whole (times (left - k) bool) (i + k)
   bools_left whole zero left i h inv p = let z : left - 0 ≡ left = omega arith in rw (z, add-zero) inv
   bools_left whole (suc k) left i h inv p =
       let z : left - suc k ≡ left - 1 - k = omega arith in
       let y : i + suc k ≡ i + 1 + k = omega arith in
       let first = bool_at i (omega (arith, p.there)) (p.below i (omega arith) (omega arith)) in
-      rw (z, y) (bools_left whole k (left - 1) (i + 1) (omega arith) (turns_next bool held_bool s whole left i inv (omega arith) (Took 1) first 1 refl)
+      rw (z, y) (bools_left whole k (left - 1) (i + 1) (omega arith) (turns_next bool held_bool s whole left i inv (omega arith) (Ok 1) first 1 refl)
       (record { there = omega (arith, p.there); below = λ j a b. p.below j (omega arith) (omega arith) }))
 
   pub bools_begin : (n k : ℕ) → k ≤ n → AreBools s 0 k → Left s (step_of (times n bool s)) (times (n - k) bool) k

@@ -17,33 +17,33 @@ use Rattle.encoding.specs.Table.{at}
 use Rattle.encoding.specs.Types.{Allowed, upto, allows, most, enum}
 use Rattle.encoding.specs.Value.{enum_form, enum_width, value}
 use Rattle.encoding.specs.Old.{as_old, type_as}
-use Rattle.wire.specs.declared.Step.TheVariants.{Took, Fault}
-use Rattle.wire.specs.declared.Sized.{Sized}
-use Rattle.wire.specs.declared.Sized.TheVariants.{Is, Isnt}
-use Rattle.wire.specs.Steps.{step_of, sized_of}
+use Rattle.std.specs.Prelude.{Result, Ok, Err}
+use Rattle.wire.specs.declared.Counted.{Counted}
+use Rattle.wire.specs.declared.Refusal.{Refusal}
+use Rattle.wire.specs.Steps.{step_of, sized_of, refused, counted}
 use Rattle.wire.specs.StepLaws.{sized_is, sized_isnt}
 use Rattle.value.specs.Parts.{enum_number}
 
 module _ (s : List ℕ) (k : ℕ) where
-  pub skip_cut : length s < k → Fault 4 0 ≡ step_of (skip k s)
+  pub skip_cut : length s < k → refused 4 0 ≡ step_of (skip k s)
   unfolding skip chunk step_of
   skip_cut h = rw (lt-leb k (length s) h)
 
-  pub skip_whole : k ≤ length s → Took k ≡ step_of (skip k s)
+  pub skip_whole : k ≤ length s → Ok k ≡ step_of (skip k s)
   unfolding skip chunk step_of
   skip_whole h = rw (le-leb k (length s) h)
 
 module _ (s : List ℕ) where
-  pub bool_none : length s < 1 → Fault 4 0 ≡ step_of (bool s)
+  pub bool_none : length s < 1 → refused 4 0 ≡ step_of (bool s)
   unfolding bool mapc made must judged byte number chunk step_of
   bool_none h = rw (lt-leb 1 (length s) h)
 
   module _ (b : ℕ) (e : b ≡ at s 1 0) (h : 1 ≤ length s) where
-    pub bool_high : 2 ≤ b → Fault 8 0 ≡ step_of (bool s)
+    pub bool_high : 2 ≤ b → refused 8 0 ≡ step_of (bool s)
     unfolding bool mapc made must judged byte number chunk bool_form step_of at
     bool_high l = rw (le-leb 1 (length s) h, ← e, le-ltb b 2 l)
 
-    pub bool_whole : b < 2 → Took 1 ≡ step_of (bool s)
+    pub bool_whole : b < 2 → Ok 1 ≡ step_of (bool s)
     unfolding bool mapc made must judged byte number chunk bool_form step_of at
     bool_whole l = rw (le-leb 1 (length s) h, ← e, lt-ltb b 2 l)
 
@@ -51,19 +51,19 @@ module _ (s : List ℕ) where
 abbrev chosen : Allowed → Parser ℕ → Parser (Unit {0})
 chosen a num = mapc (λ _ _. tt) (must (enum_form a) num)
 
-module _ (num : Parser ℕ) (s : List ℕ) (a : Allowed) (r : Sized) (e : r ≡ sized_of (num s)) where
-  judged_none : (f p : ℕ) → r ≡ Isnt f p → Fault f p ≡ step_of (chosen a num s)
+module _ (num : Parser ℕ) (s : List ℕ) (a : Allowed) (r : Result Counted Refusal) (e : r ≡ sized_of (num s)) where
+  judged_none : (x : Refusal) → r ≡ Err x → Err x ≡ step_of (chosen a num s)
   unfolding mapc made must judged step_of
-  judged_none f p q = rw (sized_isnt (num s) f p (sym q ∙ e))
+  judged_none x q = rw (sized_isnt (num s) x (sym q ∙ e))
 
-  module _ (n k : ℕ) (q : r ≡ Is n k) (b : Bool) (eb : b ≡ allows a n) where
-    judged_allowed : b ≡ true → Took k ≡ step_of (chosen a num s)
+  module _ (x : Counted) (q : r ≡ Ok x) (b : Bool) (eb : b ≡ allows a x.number) where
+    judged_allowed : b ≡ true → Ok x.bytes ≡ step_of (chosen a num s)
     unfolding mapc made must judged enum_form step_of
-    judged_allowed h = rw (sized_is (num s) n k (sym q ∙ e), ← eb, h)
+    judged_allowed h = rw (sized_is (num s) x (sym q ∙ e), ← eb, h)
 
-    judged_other : b ≡ false → Fault 9 0 ≡ step_of (chosen a num s)
+    judged_other : b ≡ false → refused 9 0 ≡ step_of (chosen a num s)
     unfolding mapc made must judged enum_form step_of
-    judged_other h = rw (sized_is (num s) n k (sym q ∙ e), ← eb, h)
+    judged_other h = rw (sized_is (num s) x (sym q ∙ e), ← eb, h)
 
 -- an enum in either encoding
 enum_as : (old : Bool) (a : Allowed) (s : List ℕ) → value (type_as old (enum a)) s ≡ chosen a (enum_number old a) s
@@ -71,74 +71,74 @@ unfolding value as_old enum_number
 enum_as true a s = refl
 enum_as false a s = refl
 
-module _ (old : Bool) (s : List ℕ) (a : Allowed) (r : Sized) (e : r ≡ sized_of (enum_number old a s)) where
-  pub enum_none : (f p : ℕ) → r ≡ Isnt f p → Fault f p ≡ step_of (value (type_as old (enum a)) s)
-  enum_none f p q = rw (enum_as old a s) (judged_none (enum_number old a) s a r e f p q)
+module _ (old : Bool) (s : List ℕ) (a : Allowed) (r : Result Counted Refusal) (e : r ≡ sized_of (enum_number old a s)) where
+  pub enum_none : (x : Refusal) → r ≡ Err x → Err x ≡ step_of (value (type_as old (enum a)) s)
+  enum_none x q = rw (enum_as old a s) (judged_none (enum_number old a) s a r e x q)
 
-  module _ (n k : ℕ) (q : r ≡ Is n k) (b : Bool) (eb : b ≡ allows a n) where
-    pub enum_allowed : b ≡ true → Took k ≡ step_of (value (type_as old (enum a)) s)
-    enum_allowed h = rw (enum_as old a s) (judged_allowed (enum_number old a) s a r e n k q b eb h)
+  module _ (x : Counted) (q : r ≡ Ok x) (b : Bool) (eb : b ≡ allows a x.number) where
+    pub enum_allowed : b ≡ true → Ok x.bytes ≡ step_of (value (type_as old (enum a)) s)
+    enum_allowed h = rw (enum_as old a s) (judged_allowed (enum_number old a) s a r e x q b eb h)
 
-    pub enum_other : b ≡ false → Fault 9 0 ≡ step_of (value (type_as old (enum a)) s)
-    enum_other h = rw (enum_as old a s) (judged_other (enum_number old a) s a r e n k q b eb h)
+    pub enum_other : b ≡ false → refused 9 0 ≡ step_of (value (type_as old (enum a)) s)
+    enum_other h = rw (enum_as old a s) (judged_other (enum_number old a) s a r e x q b eb h)
 
-module _ (old : Bool) (s : List ℕ) (g : ℕ) (r : Sized) (e : r ≡ sized_of (enum_number old (upto g) s)) where
-  pub upto_none : (f p : ℕ) → r ≡ Isnt f p → Fault f p ≡ step_of (value (type_as old (enum (upto g))) s)
-  upto_none f p q = enum_none old s (upto g) r e f p q
+module _ (old : Bool) (s : List ℕ) (g : ℕ) (r : Result Counted Refusal) (e : r ≡ sized_of (enum_number old (upto g) s)) where
+  pub upto_none : (x : Refusal) → r ≡ Err x → Err x ≡ step_of (value (type_as old (enum (upto g))) s)
+  upto_none x q = enum_none old s (upto g) r e x q
 
-  module _ (n k : ℕ) (q : r ≡ Is n k) where
-    pub upto_allowed : n ≤ g → Took k ≡ step_of (value (type_as old (enum (upto g))) s)
+  module _ (x : Counted) (q : r ≡ Ok x) where
+    pub upto_allowed : x.number ≤ g → Ok x.bytes ≡ step_of (value (type_as old (enum (upto g))) s)
     unfolding allows
-    upto_allowed h = enum_allowed old s (upto g) r e n k q true (sym (le-leb n g h)) refl
+    upto_allowed h = enum_allowed old s (upto g) r e x q true (sym (le-leb x.number g h)) refl
 
-    pub upto_above : g < n → Fault 9 0 ≡ step_of (value (type_as old (enum (upto g))) s)
+    pub upto_above : g < x.number → refused 9 0 ≡ step_of (value (type_as old (enum (upto g))) s)
     unfolding allows
-    upto_above h = enum_other old s (upto g) r e n k q false (sym (lt-leb n g h)) refl
+    upto_above h = enum_other old s (upto g) r e x q false (sym (lt-leb x.number g h)) refl
 
 -- ---- encoding 1.0
 
 -- a number of k bytes
 module _ (s : List ℕ) (k : ℕ) where
-  number_cut : length s < k → Isnt 4 0 ≡ sized_of (number k s)
+  number_cut : length s < k → refused 4 0 ≡ sized_of (number k s)
   unfolding number chunk sized_of
   number_cut h = rw (lt-leb k (length s) h)
 
-  number_whole : (n : ℕ) → n ≡ at s k 0 → k ≤ length s → Is n k ≡ sized_of (number k s)
+  number_whole : (n : ℕ) → n ≡ at s k 0 → k ≤ length s → counted n k ≡ sized_of (number k s)
   unfolding number chunk sized_of at
   number_whole n e h = rw (le-leb k (length s) h, e)
 
 -- by the greatest
 module _ (g : ℕ) (s : List ℕ) where
   module _ (h : g ≤ 126) where
-    pub byte_cut : length s < 1 → Isnt 4 0 ≡ sized_of (number (enum_width g) s)
+    pub byte_cut : length s < 1 → refused 4 0 ≡ sized_of (number (enum_width g) s)
     unfolding enum_width
     byte_cut l = rw (le-leb g 126 h) (number_cut s 1 l)
 
-    pub byte_whole : (n : ℕ) → n ≡ at s 1 0 → 1 ≤ length s → Is n 1 ≡ sized_of (number (enum_width g) s)
+    pub byte_whole : (n : ℕ) → n ≡ at s 1 0 → 1 ≤ length s → counted n 1 ≡ sized_of (number (enum_width g) s)
     unfolding enum_width
     byte_whole n e l = rw (le-leb g 126 h) (number_whole s 1 n e l)
 
   module _ (h : 126 < g) where
     module _ (k : g ≤ 32766) where
-      pub short_cut : length s < 2 → Isnt 4 0 ≡ sized_of (number (enum_width g) s)
+      pub short_cut : length s < 2 → refused 4 0 ≡ sized_of (number (enum_width g) s)
       unfolding enum_width
       short_cut l = rw (lt-leb g 126 h, le-leb g 32766 k) (number_cut s 2 l)
 
-      pub short_whole : (n : ℕ) → n ≡ at s 2 0 → 2 ≤ length s → Is n 2 ≡ sized_of (number (enum_width g) s)
+      pub short_whole : (n : ℕ) → n ≡ at s 2 0 → 2 ≤ length s → counted n 2 ≡ sized_of (number (enum_width g) s)
       unfolding enum_width
       short_whole n e l = rw (lt-leb g 126 h, le-leb g 32766 k) (number_whole s 2 n e l)
 
     module _ (k : 32766 < g) where
-      pub int_cut : length s < 4 → Isnt 4 0 ≡ sized_of (number (enum_width g) s)
+      pub int_cut : length s < 4 → refused 4 0 ≡ sized_of (number (enum_width g) s)
       unfolding enum_width
       int_cut l = rw (lt-leb g 126 h, lt-leb g 32766 k) (number_cut s 4 l)
 
-      pub int_whole : (n : ℕ) → n ≡ at s 4 0 → 4 ≤ length s → Is n 4 ≡ sized_of (number (enum_width g) s)
+      pub int_whole : (n : ℕ) → n ≡ at s 4 0 → 4 ≤ length s → counted n 4 ≡ sized_of (number (enum_width g) s)
       unfolding enum_width
       int_whole n e l = rw (lt-leb g 126 h, lt-leb g 32766 k) (number_whole s 4 n e l)
 
 -- in either encoding
-module _ (old : Bool) (s : List ℕ) (a : Allowed) (r : Sized) where
+module _ (old : Bool) (s : List ℕ) (a : Allowed) (r : Result Counted Refusal) where
   pub number_old : old ≡ true → (g : ℕ) → g ≡ most a → r ≡ sized_of (number (enum_width g) s) → r ≡ sized_of (enum_number old a s)
   unfolding enum_number
   number_old h g eg e = rw h (e ∙ ap (λ (i : ℕ). sized_of (number (enum_width i) s)) eg)
@@ -148,7 +148,7 @@ module _ (old : Bool) (s : List ℕ) (a : Allowed) (r : Sized) where
   number_new h e = rw h e
 
 -- the number of an enum up to a greatest
-module _ (old : Bool) (g : ℕ) (s : List ℕ) (r : Sized) where
+module _ (old : Bool) (g : ℕ) (s : List ℕ) (r : Result Counted Refusal) where
   pub upto_old : old ≡ true → r ≡ sized_of (number (enum_width g) s) → r ≡ sized_of (enum_number old (upto g) s)
   unfolding most
   upto_old h e = number_old old s (upto g) r h g refl e

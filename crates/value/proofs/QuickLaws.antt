@@ -6,7 +6,6 @@
 --   row_there, row_inside             a row that is there
 --   wide_seq, dict_wide               a sequence and a dictionary by their row
 --   quick_took                        what a quick reader took
---   taken_is                          a reader's answer as a number
 --   text_taken, bool_taken, enum_taken   a member that is read without a call of the cycle
 use mathlib.Core.Path.{◌≡◌, refl, sym, ap, ◌∙◌}
 use mathlib.Core.Bool.{Bool, true, false, not}
@@ -27,12 +26,12 @@ use Rattle.encoding.specs.Table.{at, row_at, part_ty, type_rows, ty_of, with_lis
 use Rattle.encoding.specs.Value.{value}
 use Rattle.encoding.proofs.ValueLaws.{held_text}
 use Rattle.encoding.specs.Old.{type_as}
-use Rattle.wire.specs.declared.Step.{Step}
-use Rattle.wire.specs.declared.Step.TheVariants.{Took}
-use Rattle.wire.specs.declared.Sized.{Sized}
-use Rattle.wire.specs.declared.Sized.TheVariants.{Is}
-use Rattle.wire.specs.Steps.{step_of, sized_of}
-use Rattle.wire.specs.StepLaws.{step_took, took_held, then_took, with_took, Left, turns_begin, turns_next, turns_done}
+use Rattle.std.specs.Prelude.{Result, Ok, Err}
+use Rattle.std.specs.Result.{result_unwrap_or}
+use Rattle.wire.specs.declared.Counted.{Counted}
+use Rattle.wire.specs.declared.Refusal.{Refusal}
+use Rattle.wire.specs.Steps.{step_of, sized_of, counted}
+use Rattle.wire.specs.StepLaws.{step_took, took_held, then_took, with_took, Left, each_begin, each_next, each_done}
 use Rattle.wire.proofs.Laws.{size_short}
 use Rattle.wire.proofs.Sums.{took_fits}
 use Rattle.table.specs.Rows.{IsTypeRow, greatest_of}
@@ -48,45 +47,45 @@ held_pair : (w : ℕ) → Held (text_entry w)
 unfolding text_entry
 held_pair w = held_bind text (λ _. skip w) held_text (λ _. held_skip w)
 
-pub pairs_begin : (w : ℕ) (s : List ℕ) (n : ℕ) → Left s (step_of (times n (text_entry w) s)) (times n (text_entry w)) 0
-pairs_begin w = turns_begin (text_entry w) (held_pair w)
+pub pairs_begin : (w : ℕ) (s : List ℕ) (n : ℕ) → Left s (step_of (times n (text_entry w) s)) (times (n - 0) (text_entry w)) 0
+pairs_begin w = each_begin (text_entry w) (held_pair w)
 
 -- a string by its number of bytes, then w bytes
-module _ (s : List ℕ) (k : ℕ) (p : 0 < k → Took k ≡ step_of (text s)) (h : k ≡ 0 → ⊥) where
-  there : Took k ≡ step_of (text s)
+module _ (s : List ℕ) (k : ℕ) (p : 0 < k → Ok k ≡ step_of (text s)) (h : k ≡ 0 → ⊥) where
+  there : Ok k ≡ step_of (text s)
   there = p (omega (arith, h))
 
   pub text_fits : k ≤ length s
-  text_fits = took_held text held_text s (Took k) there k refl
+  text_fits = took_held text held_text s (Ok k) there k refl
 
-  pub pair_there : (w : ℕ) → w ≤ length s - k → Took (k + w) ≡ step_of (text_entry w s)
+  pub pair_there : (w : ℕ) → w ≤ length s - k → Ok (k + w) ≡ step_of (text_entry w s)
   unfolding text_entry
-  pair_there w l = then_took text (skip w) s (Took k) there k refl (Took w) (skip_whole (take (length s - k) (drop k s)) w (after_those s k w l)) w refl
+  pair_there w l = then_took text (skip w) s (Ok k) there k refl (Ok w) (skip_whole (take (length s - k) (drop k s)) w (after_those s k w l)) w refl
 
 -- the loop over pairs
-module _ (w : ℕ) (s : List ℕ) (whole : Step) (left pos : ℕ) (inv : Left s whole (times left (text_entry w)) pos) where
-  pub pairs_done : left ≤ 0 → Took (1 + pos - 1) ≡ whole
+module _ (w : ℕ) (s : List ℕ) (whole : Result ℕ Refusal) (n i pos : ℕ) (inv : Left s whole (times (n - i) (text_entry w)) pos) where
+  pub pairs_done : n ≤ i → Ok (1 + pos - 1) ≡ whole
   pairs_done h =
       let z : 1 + pos - 1 ≡ pos = omega arith in
-      rw z (turns_done (text_entry w) (held_pair w) s whole left pos inv h)
+      rw z (each_done (text_entry w) (held_pair w) s whole n i pos inv h)
 
-  module _ (k : ℕ) (p : 0 < k → Took k ≡ step_of (text_entry w (take (length s - pos) (drop pos s)))) (h : k ≡ 0 → ⊥) where
-    pair : Took k ≡ step_of (text_entry w (take (length s - pos) (drop pos s)))
+  module _ (k : ℕ) (p : 0 < k → Ok k ≡ step_of (text_entry w (take (length s - pos) (drop pos s)))) (h : k ≡ 0 → ⊥) where
+    pair : Ok k ≡ step_of (text_entry w (take (length s - pos) (drop pos s)))
     pair = p (omega (arith, h))
 
     pub pairs_fits : length s < 2 ^ 64 → Fits w64 (pos + k)
-    pairs_fits b = took_fits (text_entry w) (held_pair w) s pos (Took k) pair k refl inv.inside b
+    pairs_fits b = took_fits (text_entry w) (held_pair w) s pos (Ok k) pair k refl inv.inside b
 
-    pub pairs_next : 0 < left → Left s whole (times (left - 1) (text_entry w)) (pos + k)
-    pairs_next l = turns_next (text_entry w) (held_pair w) s whole left pos inv l (Took k) pair k refl
+    pub pairs_next : i < n → Left s whole (times (n - (i + 1)) (text_entry w)) (pos + k)
+    pairs_next l = each_next (text_entry w) (held_pair w) s whole n i pos inv l (Ok k) pair k refl
 
 -- a size of one byte, then so many pairs
 pub dict_there : (w : ℕ) (s : List ℕ) (n : ℕ) → n ≡ at s 1 0 → n < 256 → (n ≡ 255 → ⊥) → 1 ≤ length s
-    → (r : ℕ) → (0 < r → Took (r - 1) ≡ step_of (times n (text_entry w) (take (length s - 1) (drop 1 s)))) → 0 < r → Took r ≡ step_of (text_dict w s)
+    → (r : ℕ) → (0 < r → Ok (r - 1) ≡ step_of (times n (text_entry w) (take (length s - 1) (drop 1 s)))) → 0 < r → Ok r ≡ step_of (text_dict w s)
 unfolding text_dict
 dict_there w s n e small more some r p h =
     let z : r ≡ 1 + (r - 1) = omega arith in
-    rw z (with_took size (λ n. times n (text_entry w)) s (Is n 1) (size_short s n e some (omega (arith, more))) n 1 refl (Took (r - 1)) (p h) (r - 1) refl)
+    rw z (with_took size (λ n. times n (text_entry w)) s (counted n 1) (size_short s n e some (omega (arith, more))) _ refl (Ok (r - 1)) (p h) (r - 1) refl)
 
 -- ---- what one reader takes, another takes
 
@@ -105,13 +104,13 @@ module _ (old : Bool) (T shapes : List ℕ) (f : shapes ≡ shapes_of T) (t k v 
   pair_follows xs m e =
       let B = bind_ok text (λ _. skip w) xs e in
       let C = chunk_ok w (λ _. tt) (drop B.n xs) B.next in
-      let first : Took B.n ≡ step_of (text xs) = rw B.first in
+      let first : Ok B.n ≡ step_of (text xs) = rw B.first in
       bind_step (value (type_as old (part_ty T t k))) (λ _. value (type_as old (part_ty T t v))) xs
-      (step_took _ B.n (text_value old T shapes f t k true (sym x) refl xs (Took B.n) first)).1
+      (step_took _ B.n (text_value old T shapes f t k true (sym x) refl xs (Ok B.n) first)).1
       (below_takes old T shapes f t v w ew h (drop B.n xs) C.0)
       ∙ ap (ok tt) (omega (arith, B.sum, C.2))
 
-  dict_follows : (s : List ℕ) (m : ℕ) → Took m ≡ step_of (text_dict w s) → Took m ≡ step_of (value (type_as old (dict (part_ty T t k) (part_ty T t v))) s)
+  dict_follows : (s : List ℕ) (m : ℕ) → Ok m ≡ step_of (text_dict w s) → Ok m ≡ step_of (value (type_as old (dict (part_ty T t k) (part_ty T t v))) s)
   unfolding step_of text_dict
   dict_follows s m e =
       let B = bind_ok size (λ n. times n (text_entry w)) s (step_took (text_dict w s) m e).1 in
@@ -135,36 +134,40 @@ module _ (T shapes : List ℕ) (f : shapes ≡ shapes_of T) (rows t : ℕ) (er :
   row_inside = inside_table.1
 
   pub wide_seq : (row : TypeRow) → IsTypeRow T t row → row.kind ≡ 10 → (w : ℕ) → w ≡ width_below shapes t row.a → (w ≡ 0 → ⊥)
-      → (s : List ℕ) (z : Sized) → z ≡ sized_of (size s) → (n k : ℕ) → z ≡ Is n k → n * w ≤ length s - k → (old : Bool) → Took (k + n * w) ≡ step_of (value (type_as old (ty_of T t)) s)
-  wide_seq row i e w ew h s z ez n k q l old =
-      value_row old T rows t s (Took (k + n * w)) er
-      (as_seq old T rows t s inside_table.0 row.kind i.kind_is (Took (k + n * w)) e (seq_wide old s z ez n k q T shapes f t row.a i.a_is w ew (omega (arith, h)) l))
+      → (s : List ℕ) (z : Result Counted Refusal) → z ≡ sized_of (size s) → (x : Counted) → z ≡ Ok x → x.number * w ≤ length s - x.bytes → (old : Bool) → Ok (x.bytes + x.number * w) ≡ step_of (value (type_as old (ty_of T t)) s)
+  wide_seq row i e w ew h s z ez x q l old =
+      value_row old T rows t s (Ok (x.bytes + x.number * w)) er
+      (as_seq old T rows t s inside_table.0 row.kind i.kind_is (Ok (x.bytes + x.number * w)) e (seq_wide old s z ez x q T shapes f t row.a i.a_is w ew (omega (arith, h)) l))
 
   pub dict_wide : (row : TypeRow) → IsTypeRow T t row → row.kind ≡ 11 → (x : Bool) → x ≡ is_text_below shapes t row.a → not x ≡ false
-      → (w : ℕ) → w ≡ width_below shapes t row.b → (w ≡ 0 → ⊥) → (s : List ℕ) (r : ℕ) → (0 < r → Took r ≡ step_of (text_dict w s)) → 0 < r
-      → (old : Bool) → Took r ≡ step_of (value (type_as old (ty_of T t)) s)
+      → (w : ℕ) → w ≡ width_below shapes t row.b → (w ≡ 0 → ⊥) → (s : List ℕ) (r : ℕ) → (0 < r → Ok r ≡ step_of (text_dict w s)) → 0 < r
+      → (old : Bool) → Ok r ≡ step_of (value (type_as old (ty_of T t)) s)
   dict_wide row i k x ex hx w ew h s r p g old =
-      value_row old T rows t s (Took r) er
-      (as_dict old T rows t s inside_table.0 row.kind i.kind_is (Took r) k
+      value_row old T rows t s (Ok r) er
+      (as_dict old T rows t s inside_table.0 row.kind i.kind_is (Ok r) k
       (rw (← i.a_is, ← i.b_is) (dict_follows old T shapes f t row.a row.b (sym ex ∙ not-false x hx) w ew (omega (arith, h)) s r (p g))))
 
 -- what a quick reader took, of any encoding
-pub quick_took : (old : Bool) (T : List ℕ) (t : ℕ) (s : List ℕ) (r : ℕ) → (0 < r → (old : Bool) → Took r ≡ step_of (value (type_as old (ty_of T t)) s)) → 0 < r
-    → Took r ≡ step_of (value (type_as old (ty_of T t)) s)
+pub quick_took : (old : Bool) (T : List ℕ) (t : ℕ) (s : List ℕ) (r : ℕ) → (0 < r → (old : Bool) → Ok r ≡ step_of (value (type_as old (ty_of T t)) s)) → 0 < r
+    → Ok r ≡ step_of (value (type_as old (ty_of T t)) s)
 quick_took old T t s r p h = p h old
 
--- a reader's answer as a number, which is 0 where it refused
-pub taken_is : (r : Step) (n : ℕ) → r ≡ Took n → 0 < n → Took n ≡ r
-taken_is r n e h = sym e
+-- the bytes that a reader took, 0 where it refused
+given : (x : Result ℕ Refusal) → 0 < result_unwrap_or x 0 → Ok (result_unwrap_or x 0) ≡ x
+given (Ok n) h = refl
+given (Err y) h = absurd (omega arith)
 
 module _ (old : Bool) (T shapes : List ℕ) (f : shapes ≡ shapes_of T) (t : ℕ) (s : List ℕ) (r : ℕ) (b : Bool) where
-  pub text_taken : b ≡ is_text_in shapes t → b ≡ true → (0 < r → Took r ≡ step_of (text s)) → 0 < r → Took r ≡ step_of (value (type_as old (ty_of T t)) s)
-  text_taken g q p h = row_text old T shapes f t s (Took r) b g q (p h)
+  pub text_taken : b ≡ is_text_in shapes t → b ≡ true → (0 < r → Ok r ≡ step_of (text s)) → 0 < r → Ok r ≡ step_of (value (type_as old (ty_of T t)) s)
+  text_taken g q p h = row_text old T shapes f t s (Ok r) b g q (p h)
 
-  module _ (x : Step) (p : 0 < r → Took r ≡ x) where
-    pub bool_taken : b ≡ is_bool_in shapes t → b ≡ true → x ≡ step_of (bool s) → 0 < r → Took r ≡ step_of (value (type_as old (ty_of T t)) s)
-    bool_taken g q e h = row_bool old T shapes f t s (Took r) b g q (p h ∙ e)
+  module _ (x : Result ℕ Refusal) (p : r ≡ result_unwrap_or x 0) where
+    given_is : 0 < r → Ok r ≡ x
+    given_is h = ap Ok p ∙ given x (rw p at h)
+
+    pub bool_taken : b ≡ is_bool_in shapes t → b ≡ true → x ≡ step_of (bool s) → 0 < r → Ok r ≡ step_of (value (type_as old (ty_of T t)) s)
+    bool_taken g q e h = row_bool old T shapes f t s (Ok r) b g q (given_is h ∙ e)
 
     pub enum_taken : b ≡ is_enum_in shapes t → b ≡ true → (w : Bool) → w ≡ with_lists T → not w ≡ true → (row : TypeRow) → IsTypeRow T t row
-        → (n : ℕ) → n ≡ greatest_of row → x ≡ step_of (value (type_as old (enum (upto n))) s) → 0 < r → Took r ≡ step_of (value (type_as old (ty_of T t)) s)
-    enum_taken g q w ew none row i n en e h = row_enum old T shapes f t s (Took r) b g q w ew none row i n en (p h ∙ e)
+        → (n : ℕ) → n ≡ greatest_of row → x ≡ step_of (value (type_as old (enum (upto n))) s) → 0 < r → Ok r ≡ step_of (value (type_as old (ty_of T t)) s)
+    enum_taken g q w ew none row i n en e h = row_enum old T shapes f t s (Ok r) b g q w ew none row i n en (given_is h ∙ e)

@@ -12,21 +12,22 @@ use mir.Syntax.{w64}
 use mir.Val.{Fits}
 use Rattle.encoding.specs.Number.{size}
 use Rattle.encoding.proofs.NumberLaws.{held_size}
-use Rattle.wire.specs.declared.Sized.{Sized}
-use Rattle.wire.specs.declared.Sized.TheVariants.{Is}
+use Rattle.std.specs.Prelude.{Result, Ok}
+use Rattle.wire.specs.declared.Counted.{Counted}
+use Rattle.wire.specs.declared.Refusal.{Refusal}
 use Rattle.wire.specs.Steps.{sized_of}
 use Rattle.wire.specs.StepLaws.{sized_is, sized_held}
 use Rattle.wire.specs.SizeLaws.{size_below}
 
-module _ (s : List ℕ) (r : Sized) (e : r ≡ sized_of (size s)) (n k : ℕ) (q : r ≡ Is n k) (w : ℕ) (h : w < 256) where
-  items_below : n * w < 2 ^ 39
+module _ (s : List ℕ) (r : Result Counted Refusal) (e : r ≡ sized_of (size s)) (x : Counted) (q : r ≡ Ok x) (w : ℕ) (h : w < 256) where
+  items_below : x.number * w < 2 ^ 39
   items_below =
-      let l = size_below s (sized_is (size s) n k (sym q ∙ e)) in
-      let most : n * w ≤ 2 ^ 31 * w = mul-le-mul_right w (omega arith) in
+      let l = size_below s (sized_is (size s) x (sym q ∙ e)) in
+      let most : x.number * w ≤ 2 ^ 31 * w = mul-le-mul_right w (omega arith) in
       omega arith
 
-  pub items_fits : Fits w64 (n * w)
+  pub items_fits : Fits w64 (x.number * w)
   items_fits = record { fits = omega (arith, items_below) }
 
-  pub sized_items_fits : length s * 1 < 2 ^ 63 → Fits w64 (k + n * w)
-  sized_items_fits b = record { fits = omega (arith, items_below, sized_held size held_size s r e n k q) }
+  pub sized_items_fits : length s * 1 < 2 ^ 63 → Fits w64 (x.bytes + x.number * w)
+  sized_items_fits b = record { fits = omega (arith, items_below, sized_held size held_size s r e x q) }

@@ -9,26 +9,25 @@
 mod plain;
 pub mod quick;
 
-ghost use Rattle.std.specs.Prelude.{◌≡◌, ◌<◌};
+ghost use Rattle.std.specs.Prelude.{◌≡◌, ◌<◌, Ok};
 ghost use Rattle.encoding.specs.Result.{times};
 ghost use Rattle.encoding.specs.Types.{struct, seq, dict};
 ghost use Rattle.encoding.specs.Table.{types_at, field, tys, part_ty, ty_of, member_tys, own_rows};
 ghost use Rattle.encoding.specs.Value.{value, exact};
 ghost use Rattle.encoding.specs.Old.{type_as};
 ghost use Rattle.wire.specs.Steps.{step_of};
-ghost use Rattle.wire.specs.declared.Step.TheVariants.{Took};
 ghost use Rattle.shapes.specs.Shapes.{shapes_of, width_below};
 ghost use Rattle.value.specs.Parts.{entry, is_text_below};
 
-use wire::{Sized, Step};
+use wire::Refusal;
 
 // The same answer, taken apart and put together again, so that its numbers stay in registers: a copy of the whole waits for its last write.
-fn same(step: Step) -> Step
-    ensures { result ≡ step }
+fn same(answer: Result<usize, Refusal>) -> Result<usize, Refusal>
+    ensures { result ≡ answer }
 {
-    match step {
-        Step::Took(n) => Step::Took(n),
-        Step::Fault(f, p) => Step::Fault(f, p),
+    match answer {
+        Ok(taken) => Ok(taken),
+        Err(Refusal { number, place }) => Err(Refusal { number, place }),
     }
 }
 
@@ -42,13 +41,16 @@ fn value(
     e: usize,
     s: &[u8],
     old: bool,
-) -> Step
+) -> Result<usize, Refusal>
     requires begin_value { begin ≡ types_at table.now }
     requires shapes_value { shapes.now ≡ shapes_of table.now }
     ensures { result ≡ step_of (value (type_as old (part_ty table.now t e)) s.now) }
 {
     if t <= e {
-        return Step::Fault(4, 0);
+        return Err(Refusal {
+            number: 4,
+            place: 0,
+        });
     }
     let kind = table::kind(table, begin, e);
     match kind {
@@ -65,7 +67,10 @@ fn value(
         10 => sequence(table, begin, shapes, e, s, old),
         11 => dictionary(table, begin, shapes, e, s, old),
         12 => same(proxy::proxy(old, &s[0..])),
-        _ => Step::Fault(4, 0),
+        _ => Err(Refusal {
+            number: 4,
+            place: 0,
+        }),
     }
 }
 
@@ -79,7 +84,7 @@ fn part(
     e: usize,
     s: &[u8],
     old: bool,
-) -> Step
+) -> Result<usize, Refusal>
     requires begin_value { begin ≡ types_at table.now }
     requires shapes_value { shapes.now ≡ shapes_of table.now }
     ensures { result ≡ step_of (value (type_as old (part_ty table.now t e)) s.now) }
@@ -88,15 +93,11 @@ fn part(
         let w = shapes::width(shapes, e);
         if 0 < w {
             if w <= s.len() {
-                return Step::Took(w);
+                return Ok(w);
             }
         }
     }
-    let step = value(table, begin, shapes, t, e, s, old);
-    match step {
-        Step::Took(n) => Step::Took(n),
-        Step::Fault(f, p) => Step::Fault(f, p),
-    }
+    same(value(table, begin, shapes, t, e, s, old))
 }
 
 // The members of struct row t, one after another.
@@ -108,7 +109,7 @@ fn struct_value(
     t: usize,
     s: &[u8],
     old: bool,
-) -> Step
+) -> Result<usize, Refusal>
     requires begin_value { begin ≡ types_at table.now }
     requires shapes_value { shapes.now ≡ shapes_of table.now }
     ensures { result ≡ step_of (value (type_as old (struct (member_tys table.now (tys table.now t) (own_rows table.now t)))) s.now) }
@@ -116,27 +117,18 @@ fn struct_value(
     let all = table::members(table);
     let first = table::members_at(table, begin);
     let owner = table::type_row(table, begin, t);
-    let mut m = owner.a;
-    let mut left = owner.b;
     let mut at: usize = 0;
-    while left > 0 {
+    for m in owner.a..owner.a + owner.b {
         if all <= m {
-            return Step::Fault(4, at);
+            return Err(Refusal {
+                number: 4,
+                place: at,
+            });
         }
         let row = table::member_row_from(table, first, m);
-        let step = part(table, begin, shapes, t, row.of, &s[at..], old);
-        match step {
-            Step::Took(n) => {
-                at += n;
-            }
-            Step::Fault(f, p) => {
-                return Step::Fault(f, at + p);
-            }
-        }
-        m += 1;
-        left -= 1;
+        at = wire::later(at, part(table, begin, shapes, t, row.of, &s[at..], old))?;
     }
-    Step::Took(at)
+    Ok(at)
 }
 
 // Row k is a string, and below t.
@@ -151,29 +143,39 @@ fn is_text_below(shapes: &[u8; 256], t: usize, k: usize) -> bool
 
 // The sequence of row t: a size, and as many elements; elements that may be any bytes are taken at once.
 #[cycle(values)]
-fn sequence(table: &[u8], begin: usize, shapes: &[u8; 256], t: usize, s: &[u8], old: bool) -> Step
+fn sequence(
+    table: &[u8],
+    begin: usize,
+    shapes: &[u8; 256],
+    t: usize,
+    s: &[u8],
+    old: bool,
+) -> Result<usize, Refusal>
     requires begin_value { begin ≡ types_at table.now }
     requires shapes_value { shapes.now ≡ shapes_of table.now }
     ensures { result ≡ step_of (value (type_as old (seq (part_ty table.now t (field table.now t 0)))) s.now) }
 {
-    let z = wire::read_size(s);
-    match z {
-        Sized::Is(n, k) => {
-            let e = table::field_a(table, begin, t);
-            let w = shapes::width_below(shapes, t, e);
-            if 0 < w {
-                if n * w <= s.len() - k {
-                    return Step::Took(k + n * w);
-                }
-            }
-            let step = elements(table, begin, shapes, t, e, n, &s[k..], old);
-            match step {
-                Step::Took(m) => Step::Took(k + m),
-                Step::Fault(f, p) => Step::Fault(f, k + p),
-            }
+    let size = wire::read_size(s)?;
+    let e = table::field_a(table, begin, t);
+    let w = shapes::width_below(shapes, t, e);
+    if 0 < w {
+        if size.number * w <= s.len() - size.bytes {
+            return Ok(size.bytes + size.number * w);
         }
-        Sized::Isnt(f, p) => Step::Fault(f, p),
     }
+    wire::later(
+        size.bytes,
+        elements(
+            table,
+            begin,
+            shapes,
+            t,
+            e,
+            size.number,
+            &s[size.bytes..],
+            old,
+        ),
+    )
 }
 
 // n values of row e, where e is below t.
@@ -187,7 +189,7 @@ fn elements(
     n: usize,
     s: &[u8],
     old: bool,
-) -> Step
+) -> Result<usize, Refusal>
     requires begin_value { begin ≡ types_at table.now }
     requires shapes_value { shapes.now ≡ shapes_of table.now }
     ensures { result ≡ step_of (times n (value (type_as old (part_ty table.now t e))) s.now) }
@@ -206,42 +208,32 @@ fn elements(
             }
         }
     }
-    let mut left = n;
     let mut at: usize = 0;
-    while left > 0 {
-        let step = part(table, begin, shapes, t, e, &s[at..], old);
-        match step {
-            Step::Took(m) => {
-                at += m;
-            }
-            Step::Fault(number, p) => {
-                let place = at + p;
-                return Step::Fault(number, place);
-            }
-        }
-        left -= 1;
+    for _ in 0..n {
+        at = wire::later(at, part(table, begin, shapes, t, e, &s[at..], old))?;
     }
-    Step::Took(at)
+    Ok(at)
 }
 
 // The dictionary of row t: a size, and as many pairs.
 #[cycle(values)]
-fn dictionary(table: &[u8], begin: usize, shapes: &[u8; 256], t: usize, s: &[u8], old: bool) -> Step
+fn dictionary(
+    table: &[u8],
+    begin: usize,
+    shapes: &[u8; 256],
+    t: usize,
+    s: &[u8],
+    old: bool,
+) -> Result<usize, Refusal>
     requires begin_value { begin ≡ types_at table.now }
     requires shapes_value { shapes.now ≡ shapes_of table.now }
     ensures { result ≡ step_of (value (type_as old (dict (part_ty table.now t (field table.now t 0)) (part_ty table.now t (field table.now t 1)))) s.now) }
 {
-    let z = wire::read_size(s);
-    match z {
-        Sized::Is(n, k) => {
-            let step = pairs(table, begin, shapes, t, n, &s[k..], old);
-            match step {
-                Step::Took(m) => Step::Took(k + m),
-                Step::Fault(f, p) => Step::Fault(f, k + p),
-            }
-        }
-        Sized::Isnt(f, p) => Step::Fault(f, p),
-    }
+    let size = wire::read_size(s)?;
+    wire::later(
+        size.bytes,
+        pairs(table, begin, shapes, t, size.number, &s[size.bytes..], old),
+    )
 }
 
 // n pairs of dictionary row t.
@@ -254,7 +246,7 @@ fn pairs(
     n: usize,
     s: &[u8],
     old: bool,
-) -> Step
+) -> Result<usize, Refusal>
     requires begin_value { begin ≡ types_at table.now }
     requires shapes_value { shapes.now ≡ shapes_of table.now }
     ensures { result ≡ step_of (times n (entry (type_as old (part_ty table.now t (field table.now t 0))) (type_as old (part_ty table.now t (field table.now t 1)))) s.now) }
@@ -263,21 +255,14 @@ fn pairs(
     let val = table::field_b(table, begin, t);
     let text = is_text_below(shapes, t, key);
     let w = shapes::width_below(shapes, t, val);
-    let mut left = n;
     let mut at: usize = 0;
-    while left > 0 {
-        let step = pair(table, begin, shapes, t, key, val, text, w, &s[at..], old);
-        match step {
-            Step::Took(m) => {
-                at += m;
-            }
-            Step::Fault(f, p) => {
-                return Step::Fault(f, at + p);
-            }
-        }
-        left -= 1;
+    for _ in 0..n {
+        at = wire::later(
+            at,
+            pair(table, begin, shapes, t, key, val, text, w, &s[at..], old),
+        )?;
     }
-    Step::Took(at)
+    Ok(at)
 }
 
 // A value of row k, where k is below t; a string, if `text` says so, is read without a call.
@@ -291,7 +276,7 @@ fn key(
     text: bool,
     s: &[u8],
     old: bool,
-) -> Step
+) -> Result<usize, Refusal>
     requires begin_value { begin ≡ types_at table.now }
     requires shapes_value { shapes.now ≡ shapes_of table.now }
     requires text_value { text ≡ is_text_below shapes.now t k }
@@ -316,29 +301,20 @@ fn pair(
     w: usize,
     s: &[u8],
     old: bool,
-) -> Step
+) -> Result<usize, Refusal>
     requires begin_value { begin ≡ types_at table.now }
     requires shapes_value { shapes.now ≡ shapes_of table.now }
     requires text_value { text ≡ is_text_below shapes.now t k }
     requires w_value { w ≡ width_below shapes.now t v }
     ensures { result ≡ step_of (entry (type_as old (part_ty table.now t k)) (type_as old (part_ty table.now t v)) s.now) }
 {
-    let first = key(table, begin, shapes, t, k, text, s, old);
-    match first {
-        Step::Took(n) => {
-            if 0 < w {
-                if w <= s.len() - n {
-                    return Step::Took(n + w);
-                }
-            }
-            let step = value(table, begin, shapes, t, v, &s[n..], old);
-            match step {
-                Step::Took(m) => Step::Took(n + m),
-                Step::Fault(f, p) => Step::Fault(f, n + p),
-            }
+    let n = key(table, begin, shapes, t, k, text, s, old)?;
+    if 0 < w {
+        if w <= s.len() - n {
+            return Ok(n + w);
         }
-        Step::Fault(f, p) => Step::Fault(f, p),
     }
+    wire::later(n, value(table, begin, shapes, t, v, &s[n..], old))
 }
 
 // A value of row t of the table; a row that has no tree is refused by 4 here. The row's shape says what is tried first: no sequence of values of a width has 10.
@@ -349,7 +325,7 @@ pub fn read_value(
     t: usize,
     s: &[u8],
     old: bool,
-) -> Step
+) -> Result<usize, Refusal>
     requires begin_value { begin ≡ types_at table.now }
     requires shapes_value { shapes.now ≡ shapes_of table.now }
     ensures { result ≡ step_of (value (type_as old (ty_of table.now t)) s.now) }
@@ -358,12 +334,12 @@ pub fn read_value(
     if shapes::shape(shapes, t) == 10 {
         let m = quick::dictionary(table, begin, shapes, rows, t, s);
         if 0 < m {
-            return Step::Took(m);
+            return Ok(m);
         }
     } else {
         let n = quick::sequence(table, begin, shapes, rows, t, s);
         if 0 < n {
-            return Step::Took(n);
+            return Ok(n);
         }
     }
     same(value(table, begin, shapes, rows, t, s, old))
@@ -378,7 +354,7 @@ pub fn read_member(
     t: usize,
     s: &[u8],
     old: bool,
-) -> Step
+) -> Result<usize, Refusal>
     requires begin_value { begin ≡ types_at table.now }
     requires shapes_value { shapes.now ≡ shapes_of table.now }
     ensures { result ≡ step_of (value (type_as old (ty_of table.now t)) s.now) }
@@ -386,7 +362,7 @@ pub fn read_member(
     let w = shapes::width(shapes, t);
     if 0 < w {
         if w <= s.len() {
-            return Step::Took(w);
+            return Ok(w);
         }
     }
     if shapes::is_text(shapes, t) {
@@ -405,25 +381,15 @@ pub fn read_member(
     if shapes::shape(shapes, t) == 10 {
         let m = quick::dictionary(table, begin, shapes, rows, t, s);
         if 0 < m {
-            return Step::Took(m);
+            return Ok(m);
         }
     } else {
         let n = quick::sequence(table, begin, shapes, rows, t, s);
         if 0 < n {
-            return Step::Took(n);
+            return Ok(n);
         }
     }
     same(value(table, begin, shapes, rows, t, s, old))
-}
-
-// The bytes that were taken, 0 if the value was refused.
-fn taken(step: Step) -> usize
-    ensures { 0 < result → Took result ≡ step }
-{
-    match step {
-        Step::Took(n) => n,
-        Step::Fault(f, p) => 0,
-    }
 }
 
 // How many bytes a value of row t takes, if no call of the cycle is needed to read it; 0 if it is another one or refused.
@@ -438,7 +404,7 @@ pub fn quick_member(
 ) -> usize
     requires begin_value { begin ≡ types_at table.now }
     requires shapes_value { shapes.now ≡ shapes_of table.now }
-    ensures { 0 < result → Took result ≡ step_of (value (type_as old (ty_of table.now t)) s.now) }
+    ensures { 0 < result → Ok result ≡ step_of (value (type_as old (ty_of table.now t)) s.now) }
 {
     let w = shapes::width(shapes, t);
     if 0 < w {
@@ -451,12 +417,12 @@ pub fn quick_member(
         return text::short_text(s);
     }
     if shapes::is_bool(shapes, t) {
-        return taken(plain::bool(s));
+        return plain::bool(s).unwrap_or(0);
     }
     if shapes::is_enum(shapes, t) {
         if !table::with_lists(table, begin) {
             let row = table::type_row(table, begin, t);
-            return taken(plain::upto(table::greatest(row), s, old));
+            return plain::upto(table::greatest(row), s, old).unwrap_or(0);
         }
         return 0;
     }
@@ -486,9 +452,8 @@ pub fn exact_value(
             return w == s.len();
         }
     }
-    let step = value(table, begin, shapes, table::rows(table), t, s, old);
-    match step {
-        Step::Took(n) => n == s.len(),
-        Step::Fault(f, p) => false,
+    match value(table, begin, shapes, table::rows(table), t, s, old) {
+        Ok(n) => n == s.len(),
+        Err(_) => false,
     }
 }

@@ -10,32 +10,41 @@ ghost use Rattle.encoding.specs.Old.{type_as};
 ghost use Rattle.wire.specs.Steps.{step_of, sized_of};
 ghost use Rattle.value.specs.Parts.{enum_number, AreBools};
 
-use wire::{Sized, Step};
+use wire::{Counted, Refusal};
 
 // The bits above the lowest of each of eight bytes.
 const ABOVE_ONE: usize = 0xFEFEFEFEFEFEFEFE;
 
 // k bytes of any content.
-pub fn skip(s: &[u8], k: usize) -> Step
+pub fn skip(s: &[u8], k: usize) -> Result<usize, Refusal>
     ensures { result ≡ step_of (skip k s.now) }
 {
     if s.len() < k {
-        return Step::Fault(4, 0);
+        return Err(Refusal {
+            number: 4,
+            place: 0,
+        });
     }
-    Step::Took(k)
+    Ok(k)
 }
 
 // A bool: one byte, 0 or 1.
-pub fn bool(s: &[u8]) -> Step
+pub fn bool(s: &[u8]) -> Result<usize, Refusal>
     ensures { result ≡ step_of (bool s.now) }
 {
     if s.len() < 1 {
-        return Step::Fault(4, 0);
+        return Err(Refusal {
+            number: 4,
+            place: 0,
+        });
     }
     if 2 <= wire::byte_at(s, 0) {
-        return Step::Fault(8, 0);
+        return Err(Refusal {
+            number: 8,
+            place: 0,
+        });
     }
-    Step::Took(1)
+    Ok(1)
 }
 
 // The eight bytes at a place are bools: no bit above the lowest of any of them is set.
@@ -61,80 +70,56 @@ fn bool_blocks(s: &[u8], most: usize) -> usize
     requires { most ≤ length s.now }
     ensures { (result ≤ most) × AreBools s.now 0 result }
 {
-    let mut at: usize = 0;
-    while 32 <= most - at {
-        if block_of_bools(s, at) {
-            at += 32;
-        } else {
-            return at;
+    let blocks = most / 32;
+    for k in 0..blocks {
+        if !block_of_bools(s, 32 * k) {
+            return 32 * k;
         }
     }
-    at
+    32 * blocks
 }
 
 // So many of the first n bytes are there and bools: all but the last few, or those before the eight that hold a wrong one.
 fn bool_eights(s: &[u8], n: usize) -> usize
     ensures { (result ≤ n) × AreBools s.now 0 result }
 {
-    let most = wire::least(n, s.len());
-    let mut at = bool_blocks(s, most);
-    while 8 <= most - at {
-        if eight_bools(s, at) {
-            at += 8;
-        } else {
-            return at;
+    let most = n.min(s.len());
+    let first = bool_blocks(s, most);
+    let eights = (most - first) / 8;
+    for k in 0..eights {
+        if !eight_bools(s, first + 8 * k) {
+            return first + 8 * k;
         }
     }
-    at
+    first + 8 * eights
 }
 
 // n bools: thirty-two and eight at a time, and one by one those that the eights leave, among them the first that is wrong.
 // Wrong and ruled out: a byte of 2 among eight that is taken; 8 at the first byte of the eight.
-pub fn bools(s: &[u8], n: usize) -> Step
+pub fn bools(s: &[u8], n: usize) -> Result<usize, Refusal>
     ensures { result ≡ step_of (times n bool s.now) }
 {
     let first = bool_eights(s, n);
     let mut at = first;
-    let mut left = n - first;
-    while left > 0 {
-        let step = bool(&s[at..]);
-        match step {
-            Step::Took(m) => {
-                at += m;
-            }
-            Step::Fault(f, p) => {
-                let place = at + p;
-                return Step::Fault(f, place);
-            }
-        }
-        left -= 1;
+    for _ in first..n {
+        at = wire::later(at, bool(&s[at..]))?;
     }
-    Step::Took(at)
+    Ok(at)
 }
 
 // n strings.
-pub fn texts(s: &[u8], n: usize) -> Step
+pub fn texts(s: &[u8], n: usize) -> Result<usize, Refusal>
     ensures { result ≡ step_of (times n text s.now) }
 {
-    let mut left = n;
     let mut at: usize = 0;
-    while left > 0 {
-        let step = text::read_text(&s[at..]);
-        match step {
-            Step::Took(m) => {
-                at += m;
-            }
-            Step::Fault(f, p) => {
-                return Step::Fault(f, at + p);
-            }
-        }
-        left -= 1;
+    for _ in 0..n {
+        at = wire::later(at, text::read_text(&s[at..]))?;
     }
-    Step::Took(at)
+    Ok(at)
 }
 
 // The number of an enumerator of at most g, in either encoding.
-fn number_upto(g: usize, s: &[u8], old: bool) -> Sized
+fn number_upto(g: usize, s: &[u8], old: bool) -> Result<Counted, Refusal>
     ensures { result ≡ sized_of (enum_number old (upto g) s.now) }
 {
     if old {
@@ -144,68 +129,80 @@ fn number_upto(g: usize, s: &[u8], old: bool) -> Sized
 }
 
 // An enum of all numbers up to g: what an enum is in a table without lists.
-pub fn upto(g: usize, s: &[u8], old: bool) -> Step
+pub fn upto(g: usize, s: &[u8], old: bool) -> Result<usize, Refusal>
     ensures { result ≡ step_of (value (type_as old (enum (upto g))) s.now) }
 {
-    let z = number_upto(g, s, old);
-    match z {
-        Sized::Is(n, k) => {
-            if n <= g {
-                Step::Took(k)
-            } else {
-                Step::Fault(9, 0)
-            }
-        }
-        Sized::Isnt(f, p) => Step::Fault(f, p),
+    let read = number_upto(g, s, old)?;
+    if read.number <= g {
+        Ok(read.bytes)
+    } else {
+        Err(Refusal {
+            number: 9,
+            place: 0,
+        })
     }
 }
 
 // n enums of all numbers up to g.
-pub fn enums(g: usize, s: &[u8], n: usize, old: bool) -> Step
+pub fn enums(g: usize, s: &[u8], n: usize, old: bool) -> Result<usize, Refusal>
     ensures { result ≡ step_of (times n (value (type_as old (enum (upto g)))) s.now) }
 {
-    let mut left = n;
     let mut at: usize = 0;
-    while left > 0 {
-        let step = upto(g, &s[at..], old);
-        match step {
-            Step::Took(m) => {
-                at += m;
-            }
-            Step::Fault(f, p) => {
-                return Step::Fault(f, at + p);
-            }
-        }
-        left -= 1;
+    for _ in 0..n {
+        at = wire::later(at, upto(g, &s[at..], old))?;
     }
-    Step::Took(at)
+    Ok(at)
 }
 
 // The number of an enumerator in encoding 1.0: of one byte, two or four, by the greatest, g.
 // Wrong and ruled out: a byte where the greatest is 127; the bytes of a short in the other order.
-fn old_number(g: usize, s: &[u8]) -> Sized
+fn old_number(g: usize, s: &[u8]) -> Result<Counted, Refusal>
     ensures { result ≡ sized_of (number (enum_width g) s.now) }
 {
     if g <= 126 {
         if s.len() < 1 {
-            return Sized::Isnt(4, 0);
+            return Err(Refusal {
+                number: 4,
+                place: 0,
+            });
         }
-        return Sized::Is(wire::byte_at(s, 0), 1);
+        return Ok(Counted {
+            number: wire::byte_at(s, 0),
+            bytes: 1,
+        });
     }
     if g <= 32766 {
         if s.len() < 2 {
-            return Sized::Isnt(4, 0);
+            return Err(Refusal {
+                number: 4,
+                place: 0,
+            });
         }
-        return Sized::Is(wire::short_at(s, 0), 2);
+        return Ok(Counted {
+            number: wire::short_at(s, 0),
+            bytes: 2,
+        });
     }
     if s.len() < 4 {
-        return Sized::Isnt(4, 0);
+        return Err(Refusal {
+            number: 4,
+            place: 0,
+        });
     }
-    Sized::Is(wire::int_at(s, 0), 4)
+    Ok(Counted {
+        number: wire::int_at(s, 0),
+        bytes: 4,
+    })
 }
 
 // The number of an enumerator of enum row t, in either encoding. Here and below, `begin` is where the type rows begin.
-fn enum_number(table: &[u8], begin: usize, t: usize, s: &[u8], old: bool) -> Sized
+fn enum_number(
+    table: &[u8],
+    begin: usize,
+    t: usize,
+    s: &[u8],
+    old: bool,
+) -> Result<Counted, Refusal>
     requires { begin ≡ types_at table.now }
     ensures { result ≡ sized_of (enum_number old (allowed table.now t) s.now) }
 {
@@ -216,19 +213,23 @@ fn enum_number(table: &[u8], begin: usize, t: usize, s: &[u8], old: bool) -> Siz
 }
 
 // An enum in either encoding: a number that enum row t of the table allows. One function, so that `allows` is called from one place and inlined.
-pub fn enumerator(table: &[u8], begin: usize, t: usize, s: &[u8], old: bool) -> Step
+pub fn enumerator(
+    table: &[u8],
+    begin: usize,
+    t: usize,
+    s: &[u8],
+    old: bool,
+) -> Result<usize, Refusal>
     requires { begin ≡ types_at table.now }
     ensures { result ≡ step_of (value (type_as old (enum (allowed table.now t))) s.now) }
 {
-    let z = enum_number(table, begin, t, s, old);
-    match z {
-        Sized::Is(n, k) => {
-            if table::allows(table, t, n) {
-                Step::Took(k)
-            } else {
-                Step::Fault(9, 0)
-            }
-        }
-        Sized::Isnt(f, p) => Step::Fault(f, p),
+    let read = enum_number(table, begin, t, s, old)?;
+    if table::allows(table, t, read.number) {
+        Ok(read.bytes)
+    } else {
+        Err(Refusal {
+            number: 9,
+            place: 0,
+        })
     }
 }

@@ -1,20 +1,17 @@
 // Values that are read without a call of the cycle: a sequence of values that may be any bytes, and a dictionary of strings and such values, strings and dictionary with sizes of one byte.
 // Each function answers a number, so that the answer stays in a register; it answers 0 if the value is another one or refused, and the value is then read anew.
-ghost use Rattle.std.specs.Prelude.{◌≡◌, Bool, true, ◌+◌, ◌-◌, ◌≤◌, ◌<◌, length};
+ghost use Rattle.std.specs.Prelude.{◌≡◌, Ok, Bool, true, ◌+◌, ◌-◌, ◌≤◌, ◌<◌, length};
 ghost use Rattle.encoding.specs.Result.{times};
 ghost use Rattle.encoding.specs.Table.{types_at, row_at, type_rows, ty_of};
 ghost use Rattle.encoding.specs.Value.{value};
 ghost use Rattle.encoding.specs.Old.{type_as};
 ghost use Rattle.wire.specs.Steps.{step_of};
-ghost use Rattle.wire.specs.declared.Step.TheVariants.{Took};
 ghost use Rattle.shapes.specs.Shapes.{shapes_of};
 ghost use Rattle.value.specs.Parts.{text_entry, text_dict};
 
-use wire::Sized;
-
 // How many bytes a string and w bytes of any content take.
 fn text_pair(s: &[u8], w: usize) -> usize
-    ensures { 0 < result → Took result ≡ step_of (text_entry w s.now) }
+    ensures { 0 < result → Ok result ≡ step_of (text_entry w s.now) }
 {
     let k = text::short_text(s);
     if k == 0 {
@@ -28,24 +25,22 @@ fn text_pair(s: &[u8], w: usize) -> usize
 
 // One more than the bytes that n such pairs take.
 fn text_pairs(s: &[u8], n: usize, w: usize) -> usize
-    ensures { 0 < result → Took (result - 1) ≡ step_of (times n (text_entry w) s.now) }
+    ensures { 0 < result → Ok (result - 1) ≡ step_of (times n (text_entry w) s.now) }
 {
-    let mut left = n;
     let mut at: usize = 0;
-    while left > 0 {
+    for _ in 0..n {
         let k = text_pair(&s[at..], w);
         if k == 0 {
             return 0;
         }
         at += k;
-        left -= 1;
     }
     1 + at
 }
 
 // How many bytes a size and as many such pairs take.
 fn text_dict(s: &[u8], w: usize) -> usize
-    ensures { 0 < result → Took result ≡ step_of (text_dict w s.now) }
+    ensures { 0 < result → Ok result ≡ step_of (text_dict w s.now) }
 {
     if s.len() < 1 {
         return 0;
@@ -81,7 +76,7 @@ pub fn sequence(
     requires begin_value { begin ≡ types_at table.now }
     requires shapes_value { shapes.now ≡ shapes_of table.now }
     requires rows_value { (rows ≡ type_rows table.now) × (rows ≤ 256) }
-    ensures { 0 < result → (old : Bool) → Took result ≡ step_of (value (type_as old (ty_of table.now t)) s.now) }
+    ensures { 0 < result → (old : Bool) → Ok result ≡ step_of (value (type_as old (ty_of table.now t)) s.now) }
 {
     if !is_there(table, begin, rows, t) {
         return 0;
@@ -94,16 +89,13 @@ pub fn sequence(
     if w == 0 {
         return 0;
     }
-    let z = wire::read_size(s);
-    match z {
-        Sized::Is(n, k) => {
-            if n * w <= s.len() - k {
-                return k + n * w;
-            }
-            0
-        }
-        Sized::Isnt(f, p) => 0,
+    let Ok(size) = wire::read_size(s) else {
+        return 0;
+    };
+    if size.number * w <= s.len() - size.bytes {
+        return size.bytes + size.number * w;
     }
+    0
 }
 
 // How many bytes a value of dictionary row t takes. It is called from several places so that it is not inlined.
@@ -118,7 +110,7 @@ pub fn dictionary(
     requires begin_value { begin ≡ types_at table.now }
     requires shapes_value { shapes.now ≡ shapes_of table.now }
     requires rows_value { (rows ≡ type_rows table.now) × (rows ≤ 256) }
-    ensures { 0 < result → (old : Bool) → Took result ≡ step_of (value (type_as old (ty_of table.now t)) s.now) }
+    ensures { 0 < result → (old : Bool) → Ok result ≡ step_of (value (type_as old (ty_of table.now t)) s.now) }
 {
     if !is_there(table, begin, rows, t) {
         return 0;

@@ -16,18 +16,18 @@ use lib.ListN.{length, take, drop, get_or, length-drop}
 use lib.Seq.{length-take-le}
 use lib.Dec.{leb}
 use borrow.Author.Tests.{le-leb, lt-leb, lt-ltb, le-ltb}
-use Rattle.encoding.specs.Result.{shift, after, ◌>>=◌, pure, chunk, at_first, item, judged, must, first_of}
+use Rattle.encoding.specs.Result.{Res, ok, bad, shift, after, ◌>>=◌, pure, chunk, at_first, item, judged, must, first_of}
 use Rattle.encoding.proofs.ResultLaws.{held_took}
 use Rattle.encoding.specs.Table.{at}
 use Rattle.encoding.specs.Number.{negative, number, byte, size_form, size_tail, size, length_form, declared}
 use Rattle.encoding.proofs.NumberLaws.{held_size}
 use Rattle.encoding.specs.Types.{vsize}
 use Rattle.encoding.specs.Optional.{extent}
-use Rattle.wire.specs.declared.Step.TheVariants.{Took, Fault}
-use Rattle.wire.specs.declared.Sized.{Sized}
-use Rattle.wire.specs.declared.Sized.TheVariants.{Is, Isnt}
-use Rattle.wire.specs.Steps.{step_of, sized_of, bytes_of}
-use Rattle.wire.specs.StepLaws.{sized_is, sized_isnt}
+use Rattle.std.specs.Prelude.{Result, Ok, Err}
+use Rattle.wire.specs.declared.Refusal.{Refusal}
+use Rattle.wire.specs.declared.Counted.{Counted}
+use Rattle.wire.specs.Steps.{step_of, sized_of, bytes_of, refused, counted}
+use Rattle.wire.specs.StepLaws.{sized_is}
 use Rattle.wire.proofs.Room.{fits_no}
 use Rattle.wire.specs.At.{at_byte, at_split, at_cut, at_rest}
 
@@ -61,74 +61,79 @@ module _ (s : List ℕ) (i a b : ℕ) where
 -- ---- a size, by its first byte and the int after it
 
 module _ (s : List ℕ) where
-  pub size_none : length s < 1 → Isnt 4 0 ≡ sized_of (size s)
+  pub size_none : length s < 1 → refused 4 0 ≡ sized_of (size s)
   unfolding size item at_first ◌>>=◌ after byte number chunk sized_of
   size_none h = rw (lt-leb 1 (length s) h)
 
   module _ (b : ℕ) (e : b ≡ at s 1 0) (h : 1 ≤ length s) where
-    pub size_short : b < 255 → Is b 1 ≡ sized_of (size s)
+    pub size_short : b < 255 → counted b 1 ≡ sized_of (size s)
     unfolding size item at_first ◌>>=◌ after byte number chunk size_tail pure shift sized_of at
     size_short l = rw (le-leb 1 (length s) h, ← e, lt-ltb b 255 l)
 
-    pub size_cut : 255 ≤ b → length s < 5 → Isnt 4 0 ≡ sized_of (size s)
+    pub size_cut : 255 ≤ b → length s < 5 → refused 4 0 ≡ sized_of (size s)
     unfolding size item at_first ◌>>=◌ after byte number chunk size_tail shift must judged sized_of at
     size_cut l m = rw (le-leb 1 (length s) h, ← e, le-ltb b 255 l, lt-leb 4 (length (drop 1 s)) (omega (arith, length-drop 1 s)))
 
     module _ (l : 255 ≤ b) (m : 5 ≤ length s) (n : ℕ) (f : n ≡ at s 4 1) where
-      pub size_low : n < 255 → Isnt 7 0 ≡ sized_of (size s)
+      pub size_low : n < 255 → refused 7 0 ≡ sized_of (size s)
       unfolding size item at_first ◌>>=◌ after byte number chunk size_tail shift must judged size_form first_of sized_of at
       size_low g = rw (le-leb 1 (length s) h, ← e, le-ltb b 255 l, le-leb 4 (length (drop 1 s)) (omega (arith, length-drop 1 s)), ← f, lt-ltb n 255 g)
 
-      pub size_high : 255 ≤ n → 2147483648 ≤ n → Isnt 7 0 ≡ sized_of (size s)
+      pub size_high : 255 ≤ n → 2147483648 ≤ n → refused 7 0 ≡ sized_of (size s)
       unfolding size item at_first ◌>>=◌ after byte number chunk size_tail shift must judged size_form negative first_of sized_of at
       size_high g k = rw (le-leb 1 (length s) h, ← e, le-ltb b 255 l, le-leb 4 (length (drop 1 s)) (omega (arith, length-drop 1 s)), ← f, le-ltb n 255 g, le-leb (2 ^ 31) n k)
 
-      pub size_long : 255 ≤ n → n < 2147483648 → Is n 5 ≡ sized_of (size s)
+      pub size_long : 255 ≤ n → n < 2147483648 → counted n 5 ≡ sized_of (size s)
       unfolding size item at_first ◌>>=◌ after byte number chunk size_tail shift must judged size_form negative first_of sized_of at
       size_long g k = rw (le-leb 1 (length s) h, ← e, le-ltb b 255 l, le-leb 4 (length (drop 1 s)) (omega (arith, length-drop 1 s)), ← f, le-ltb n 255 g, lt-leb (2 ^ 31) n k)
 
 -- ---- an int that declares a length
 
 module _ (s : List ℕ) (least own : ℕ) where
-  pub declared_none : length s < 4 → Fault 4 0 ≡ step_of (declared least own s)
+  pub declared_none : length s < 4 → refused 4 0 ≡ step_of (declared least own s)
   unfolding declared item at_first ◌>>=◌ after number chunk must judged step_of
   declared_none h = rw (lt-leb 4 (length s) h)
 
   module _ (h : 4 ≤ length s) (n : ℕ) (e : n ≡ at s 4 0) where
-    pub declared_low : n < least → Fault 11 0 ≡ step_of (declared least own s)
+    pub declared_low : n < least → refused 11 0 ≡ step_of (declared least own s)
     unfolding declared item at_first ◌>>=◌ after number chunk must judged length_form first_of step_of at
     declared_low l = rw (le-leb 4 (length s) h, ← e, lt-ltb n least l)
 
-    pub declared_high : least ≤ n → 2147483648 ≤ n → Fault 11 0 ≡ step_of (declared least own s)
+    pub declared_high : least ≤ n → 2147483648 ≤ n → refused 11 0 ≡ step_of (declared least own s)
     unfolding declared item at_first ◌>>=◌ after number chunk must judged length_form negative first_of step_of at
     declared_high l m = rw (le-leb 4 (length s) h, ← e, le-ltb n least l, le-leb (2 ^ 31) n m)
 
     module _ (l : least ≤ n) (m : n < 2147483648) (k : ℕ) (f : k ≡ n - own) where
-      pub declared_cut : length s - 4 < k → Fault 4 0 ≡ step_of (declared least own s)
+      pub declared_cut : length s - 4 < k → refused 4 0 ≡ step_of (declared least own s)
       unfolding declared item at_first ◌>>=◌ after number chunk must judged length_form negative first_of shift step_of at
       declared_cut g = rw (le-leb 4 (length s) h, ← e, le-ltb n least l, lt-leb (2 ^ 31) n m, ← f, lt-leb k (length (drop 4 s)) (omega (arith, length-drop 4 s)))
 
-      pub declared_whole : k ≤ length s - 4 → Took (4 + k) ≡ step_of (declared least own s)
+      pub declared_whole : k ≤ length s - 4 → Ok (4 + k) ≡ step_of (declared least own s)
       unfolding declared item at_first ◌>>=◌ after number chunk must judged length_form negative first_of shift step_of at
       declared_whole g = rw (le-leb 4 (length s) h, ← e, le-ltb n least l, lt-leb (2 ^ 31) n m, ← f, le-leb k (length (drop 4 s)) (omega (arith, length-drop 4 s)))
 
 -- ---- a size and that many bytes, by the size
 
-module _ (s : List ℕ) (r : Sized) (e : r ≡ sized_of (size s)) where
-  pub size_within : (n k : ℕ) → r ≡ Is n k → k ≤ length s
-  size_within n k q = held_took size held_size s (sized_is (size s) n k (sym q ∙ e))
+module _ (s : List ℕ) (r : Result Counted Refusal) (e : r ≡ sized_of (size s)) where
+  pub size_within : (x : Counted) → r ≡ Ok x → x.bytes ≤ length s
+  size_within x q = held_took size held_size s (sized_is (size s) x (sym q ∙ e))
 
-  pub counted_bad : (f p : ℕ) → r ≡ Isnt f p → Isnt f 0 ≡ bytes_of (extent vsize s)
-  unfolding extent item at_first ◌>>=◌ after bytes_of
-  counted_bad f p q = rw (sized_isnt (size s) f p (sym q ∙ e))
+  -- a size is refused at its first byte
+  pub counted_bad : (x : Refusal) → r ≡ Err x → Err x ≡ bytes_of (extent vsize s)
+  unfolding extent size item at_first ◌>>=◌ after bytes_of sized_of
+  counted_bad x q = go ((byte >>= size_tail) s) (sym q ∙ e)
+    where
+      go : (t : Res ℕ) → Err x ≡ sized_of (at_first t) → Err x ≡ bytes_of (at_first (after (at_first t) (λ n. chunk n (λ d. d)) s))
+      go (ok n k) h = let z : ◌≡◌ {A = ℕ} 0 1 = cc in absurd (omega arith)
+      go (bad c p) h = h
 
-  module _ (n k : ℕ) (q : r ≡ Is n k) where
-    pub counted_cut : length s - k < n → Isnt 4 0 ≡ bytes_of (extent vsize s)
+  module _ (x : Counted) (q : r ≡ Ok x) where
+    pub counted_cut : length s - x.bytes < x.number → refused 4 0 ≡ bytes_of (extent vsize s)
     unfolding extent item at_first ◌>>=◌ after chunk shift bytes_of
-    counted_cut h = rw (sized_is (size s) n k (sym q ∙ e), lt-leb n (length (drop k s)) (omega (arith, length-drop k s)))
+    counted_cut h = rw (sized_is (size s) x (sym q ∙ e), lt-leb x.number (length (drop x.bytes s)) (omega (arith, length-drop x.bytes s)))
 
-    pub counted_whole : n ≤ length s - k → Is n (k + n) ≡ bytes_of (extent vsize s)
+    pub counted_whole : x.number ≤ length s - x.bytes → counted x.number (x.bytes + x.number) ≡ bytes_of (extent vsize s)
     unfolding extent item at_first ◌>>=◌ after chunk shift bytes_of
     counted_whole h =
-        let l : n ≤ length (drop k s) = omega (arith, length-drop k s) in
-        rw (sized_is (size s) n k (sym q ∙ e), le-leb n (length (drop k s)) l, length-take-le n (drop k s) l)
+        let l : x.number ≤ length (drop x.bytes s) = omega (arith, length-drop x.bytes s) in
+        rw (sized_is (size s) x (sym q ∙ e), le-leb x.number (length (drop x.bytes s)) l, length-take-le x.number (drop x.bytes s) l)

@@ -52,19 +52,24 @@ le_more zero v h = absurd (omega arith)
 le_more (suc k) v h = let e : k ≡ suc k - 1 = omega arith in ap (λ (j : ℕ). v % 256 ∷ le_bytes j (v / 256)) e
 
 pub number_begin : (at k v : ℕ) (out : List ℕ) (r : Bool) → r ≡ leb (at + k) (length out) → r ≡ true
-    → Laying (put at (le_bytes k v) out) (length out) (le_bytes k v) at out
-number_begin at k v out r e q = lay_begin at (le_bytes k v) out (omega (arith, fits_yes (length out) at k r e q, length_le_bytes k v))
+    → Laying (put at (le_bytes k v) out) (length out) (le_bytes (at + k - at) v) at out
+number_begin at k v out r e q =
+    let z : at + k - at ≡ k = omega arith in
+    rw z (lay_begin at (le_bytes k v) out (omega (arith, fits_yes (length out) at k r e q, length_le_bytes k v)))
 
-module _ (last : List ℕ) (n left v p : ℕ) (out : List ℕ) (l : Laying last n (le_bytes left v) p out) where
-  pub number_room : 0 < left → p < length out
-  number_room h = omega (arith, l.room, length_le_bytes left v)
+module _ (last : List ℕ) (n end v p : ℕ) (out : List ℕ) (l : Laying last n (le_bytes (end - p) v) p out) where
+  pub number_room : p < end → p < length out
+  number_room h = omega (arith, l.room, length_le_bytes (end - p) v)
 
-  pub number_turn : 0 < left → Laying last n (le_bytes (left - 1) (v / 256)) (p + 1) (set out p (v % 256))
-  number_turn h = lay_turn last n (v % 256) _ p out (subst (λ (b : List ℕ). Laying last n b p out) (le_more left v h) l)
+  pub number_turn : p < end → Laying last n (le_bytes (end - (p + 1)) (v / 256)) (p + 1) (set out p (v % 256))
+  number_turn h =
+      let z : end - p - 1 ≡ end - (p + 1) = omega arith in
+      let g : 0 < end - p = omega arith in
+      rw (← z) (lay_turn last n (v % 256) _ p out (subst (λ (b : List ℕ). Laying last n b p out) (le_more (end - p) v g) l))
 
-  pub number_end : left ≤ 0 → out ≡ last
+  pub number_end : end ≤ p → out ≡ last
   unfolding le_bytes
-  number_end h = let z : left ≡ 0 = omega arith in lay_end last n (le_bytes left v) p out (rw z) l
+  number_end h = let z : end - p ≡ 0 = omega arith in lay_end last n (le_bytes (end - p) v) p out (rw z) l
 
 -- ---- bytes
 

@@ -4,28 +4,41 @@
 
 pub mod rows;
 
-ghost use Rattle.std.specs.Prelude.{◌≡◌, ◌+◌, ◌-◌, ◌*◌, ◌/◌, ◌%◌, ◌≤◌, ◌<◌, min, leb, ltb, length, take, drop};
+ghost use Rattle.std.specs.Prelude.{◌≡◌, ◌+◌, ◌-◌, ◌*◌, ◌/◌, ◌%◌, ◌≤◌, ◌^◌, ◌<◌, leb, ltb, length, take, drop};
 ghost use Rattle.encoding.specs.Result.{pick};
 ghost use Rattle.encoding.specs.Table.{at as number_at};
 ghost use Rattle.encoding.specs.Number.{size, declared, le_bytes, size_bytes};
 ghost use Rattle.encoding.specs.Types.{vsize};
 ghost use Rattle.encoding.specs.Optional.{extent};
 ghost use Rattle.encoding.specs.Slice.{sliced, compact, bit, worth, flag_bits};
-ghost use Rattle.wire.specs.Steps.{step_of, sized_of, bytes_of};
+ghost use Rattle.wire.specs.Steps.{step_of, sized_of, bytes_of, behind, later, LaterFits};
 ghost use Rattle.wire.specs.Put.{put, header_bits, form_bits};
 
-// What a reader took: so many bytes; or a refusal's number and its place, counted from the first byte given.
+// A refusal: its number and its place, counted from the first byte given.
 #[derive(Clone, Copy)]
-pub enum Step {
-    Took(usize),
-    Fault(usize, usize),
+pub struct Refusal {
+    pub number: usize,
+    pub place: usize,
 }
 
-// So many, and the bytes taken; or a refusal's number and its place. Of a size it is the number that was read; of bytes, how many there are: they end those taken.
+impl Refusal {
+    // The refusal of what comes n bytes later.
+    pub fn behind(self, n: usize) -> Refusal
+        requires { n + self.place < 2 ^ 64 }
+        ensures { result ≡ behind n self }
+    {
+        Refusal {
+            number: self.number,
+            place: n + self.place,
+        }
+    }
+}
+
+// So many, and the bytes taken. Of a size it is the number that was read; of bytes, how many there are: they end those taken.
 #[derive(Clone, Copy)]
-pub enum Sized {
-    Is(usize, usize),
-    Isnt(usize, usize),
+pub struct Counted {
+    pub number: usize,
+    pub bytes: usize,
 }
 
 // A byte as a number.
@@ -33,20 +46,6 @@ pub fn wide(x: u8) -> usize
     ensures { (result ≡ x) × (result < 256) }
 {
     x as usize
-}
-
-// The smaller of two.
-pub fn least(a: usize, b: usize) -> usize
-    ensures { result ≡ min a b }
-{
-    if a < b { a } else { b }
-}
-
-// What is left of a beyond b.
-fn minus(a: usize, b: usize) -> usize
-    ensures { result ≡ a - b }
-{
-    if b < a { a - b } else { 0 }
 }
 
 // Whether k bytes fit at a place of a list of n.
@@ -122,66 +121,107 @@ pub fn long_at(s: &[u8], i: usize) -> usize
     int_at(t, 0) + 4294967296 * int_at(t, 4)
 }
 
+// What a reader answers that begins n bytes later: the bytes taken, counted with those n, or its refusal.
+pub fn later(n: usize, answer: Result<usize, Refusal>) -> Result<usize, Refusal>
+    requires { LaterFits n answer }
+    ensures { result ≡ later n answer }
+{
+    match answer {
+        Ok(taken) => Ok(n + taken),
+        Err(refusal) => Err(refusal.behind(n)),
+    }
+}
+
 // A size: below 255 one byte, else 255 and an int.
-pub fn read_size(s: &[u8]) -> Sized
+pub fn read_size(s: &[u8]) -> Result<Counted, Refusal>
     ensures { result ≡ sized_of (size s.now) }
 {
     if s.len() < 1 {
-        return Sized::Isnt(4, 0);
+        return Err(Refusal {
+            number: 4,
+            place: 0,
+        });
     }
     let b = byte_at(s, 0);
     if b < 255 {
-        return Sized::Is(b, 1);
+        return Ok(Counted {
+            number: b,
+            bytes: 1,
+        });
     }
     if s.len() < 5 {
-        return Sized::Isnt(4, 0);
+        return Err(Refusal {
+            number: 4,
+            place: 0,
+        });
     }
     let long = int_at(s, 1);
     if long < 255 {
-        return Sized::Isnt(7, 0);
+        return Err(Refusal {
+            number: 7,
+            place: 0,
+        });
     }
     if 2147483648 <= long {
-        return Sized::Isnt(7, 0);
+        return Err(Refusal {
+            number: 7,
+            place: 0,
+        });
     }
-    Sized::Is(long, 5)
+    Ok(Counted {
+        number: long,
+        bytes: 5,
+    })
 }
 
 // A size, then that many bytes, whatever they hold, one item.
-pub fn read_counted(s: &[u8]) -> Sized
+pub fn read_counted(s: &[u8]) -> Result<Counted, Refusal>
     ensures { result ≡ bytes_of (extent vsize s.now) }
 {
-    let z = read_size(s);
-    match z {
-        Sized::Is(n, k) => {
-            if n <= s.len() - k {
-                Sized::Is(n, k + n)
-            } else {
-                Sized::Isnt(4, 0)
-            }
-        }
-        Sized::Isnt(e, p) => Sized::Isnt(e, 0),
+    let size = read_size(s)?;
+    if s.len() - size.bytes < size.number {
+        return Err(Refusal {
+            number: 4,
+            place: 0,
+        });
     }
+    Ok(Counted {
+        number: size.number,
+        bytes: size.bytes + size.number,
+    })
 }
 
 // An int that declares a length, at least `least`, `own` of it its own bytes, and the bytes declared.
-pub fn read_declared(s: &[u8], least: usize, own: usize) -> Step
+pub fn read_declared(s: &[u8], least: usize, own: usize) -> Result<usize, Refusal>
     ensures { result ≡ step_of (declared least own s.now) }
 {
     if s.len() < 4 {
-        return Step::Fault(4, 0);
+        return Err(Refusal {
+            number: 4,
+            place: 0,
+        });
     }
     let n = int_at(s, 0);
     if n < least {
-        return Step::Fault(11, 0);
+        return Err(Refusal {
+            number: 11,
+            place: 0,
+        });
     }
     if 2147483648 <= n {
-        return Step::Fault(11, 0);
+        return Err(Refusal {
+            number: 11,
+            place: 0,
+        });
     }
-    let rest = minus(n, own);
+    let rest = n.saturating_sub(own);
     if s.len() - 4 < rest {
-        return Step::Fault(4, 0);
+        return Err(Refusal {
+            number: 4,
+            place: 0,
+        });
     }
-    Step::Took(4 + rest)
+    Ok(4 + rest)
 }
 
 // ---- bits
@@ -283,14 +323,10 @@ pub fn put_number(out: &mut [u8], at: usize, k: usize, v: usize)
     ensures { out.new ≡ put at (le_bytes k v) out.old }
 {
     if fits(out.len(), at, k) {
-        let mut left = k;
-        let mut p = at;
-        let mut w = v;
-        while left > 0 {
-            out[p] = (w % 256) as u8;
-            w = w / 256;
-            p += 1;
-            left -= 1;
+        let mut rest = v;
+        for i in at..at + k {
+            out[i] = (rest % 256) as u8;
+            rest /= 256;
         }
     }
 }
@@ -320,10 +356,8 @@ pub fn put_bytes(out: &mut [u8], at: usize, from: &[u8])
 {
     let n = from.len();
     if fits(out.len(), at, n) {
-        let mut i = 0;
-        while i < n {
+        for i in 0..n {
             out[at + i] = from[i];
-            i += 1;
         }
     }
 }
@@ -333,7 +367,7 @@ pub fn put_part(out: &mut [u8], at: usize, from: &[u8], a: usize, n: usize)
     ensures { out.new ≡ put at (take n (drop a from.now)) out.old }
 {
     if a < from.len() {
-        let k = least(n, from.len() - a);
+        let k = n.min(from.len() - a);
         put_bytes(out, at, &from[a..a + k]);
     }
 }

@@ -30,10 +30,8 @@ use Rattle.encoding.specs.Write.{State, stop, part_of, row_at}
 use Rattle.table.specs.declared.MemberRow.{MemberRow}
 use Rattle.table.specs.Rows.{IsMemberRow, Whole}
 use Rattle.writer.specs.declared.Laid.{Laid}
-use Rattle.pieces.specs.declared.Due.{Due}
-use Rattle.pieces.specs.declared.Due.TheVariants.{Row as DueRow, Wrong as DueWrong}
-use Rattle.pieces.specs.declared.May.{May}
-use Rattle.pieces.specs.declared.May.TheVariants.{Row as MayRow, Stop, Wrong as MayWrong}
+use Rattle.std.specs.Prelude.{Result, Ok, Err, Option, Some, None}
+use Rattle.pieces.specs.declared.Placed.{Placed}
 use Rattle.pieces.specs.Cursors.{required_in, Cursor, due_from, due_at, may_at, state_of, IsDue}
 use Rattle.pieces.specs.CursorsLaws.{due_more, due_none, due_skip}
 use Rattle.pieces.specs.Judged.{judged_row, verdict_from, verdict_above}
@@ -217,19 +215,19 @@ module _ (T : List ℕ) (old : Bool) (rows buffer : List ℕ) (judged : Bool) (c
   pub at_small : begin ≤ 576460752303423488 → count ≤ 4294967296 → at ≤ 1152921504606846976
   at_small hb hc = omega (arith, g.few, g.within)
 
-  pub quick_next : i < count → (p : Due) (last : List ℕ)
-      → ((end : ℕ) → p ≡ DueRow end → RowLaid T old rows buffer judged (due_at o k) i at out last (due_at o (k + 1)) end false) → (end : ℕ) → p ≡ DueRow end
+  pub quick_next : i < count → (p : Result ℕ ℕ) (last : List ℕ)
+      → ((end : ℕ) → p ≡ Ok end → RowLaid T old rows buffer judged (due_at o k) i at out last (due_at o (k + 1)) end false) → (end : ℕ) → p ≡ Ok end
       → Grouping T old rows buffer judged count (due_at o 0) first begin out₀ [] (due_at o (k + 1)) end (i + 1) false last
   quick_next l p last h end q = row_next T old rows buffer judged count (due_at o 0) first begin out₀ (due_at o k) at i false out g l last (due_at o (k + 1)) end false (h end q)
 
-  module _ (l : i < count) (p : Due) (last : List ℕ) (h : DuePut T old rows buffer judged o k i at out last p) where
-    pub pass_next : (end : ℕ) → p ≡ DueRow end → Grouping T old rows buffer judged count (due_at o 0) first begin out₀ [] (due_at o (k + 1)) end (i + 1) false last
+  module _ (l : i < count) (p : Result ℕ ℕ) (last : List ℕ) (h : DuePut T old rows buffer judged o k i at out last p) where
+    pub pass_next : (end : ℕ) → p ≡ Ok end → Grouping T old rows buffer judged count (due_at o 0) first begin out₀ [] (due_at o (k + 1)) end (i + 1) false last
     pass_next end q = row_next T old rows buffer judged count (due_at o 0) first begin out₀ (due_at o k) at i false out g l last (due_at o (k + 1)) end false (rw q at h)
 
-    pub pass_fault : (m : ℕ) → IsDue T o k m → (n : ℕ) → p ≡ DueWrong n → RequiredsPut T old rows buffer judged count o first begin out₀ last (record { end = at; row = i; optionals = false; fault = n })
+    pub pass_fault : (m : ℕ) → IsDue T o k m → (n : ℕ) → p ≡ Err n → RequiredsPut T old rows buffer judged count o first begin out₀ last (record { end = at; row = i; optionals = false; fault = n })
     pass_fault m d n q = go (rw q at h)
       where
-        go : DuePut T old rows buffer judged o k i at out last (DueWrong n) → RequiredsPut T old rows buffer judged count o first begin out₀ last (record { end = at; row = i; optionals = false; fault = n })
+        go : DuePut T old rows buffer judged o k i at out last (Err n) → RequiredsPut T old rows buffer judged count o first begin out₀ last (record { end = at; row = i; optionals = false; fault = n })
         go r = pass_wrong T old rows buffer judged count o first begin out₀ [] k at i out g m d last l n r.0 r.1
 
   pub pass_end : (b : ℕ) → b ≡ field T o 1 → k ≡ b → RequiredsPut T old rows buffer judged count o first begin out₀ out (record { end = at; row = i; optionals = false; fault = 0 })
@@ -287,37 +285,39 @@ module _ (T : List ℕ) (old : Bool) (rows buffer : List ℕ) (judged : Bool) (c
     wrong = λ n. absurd (n refl);
   }
 
-  pub tags_end : count ≤ i → RowsPut T old rows buffer judged count (may_at T o 0) first begin out₀ out (record { end = at; row = i; optionals = optionals; fault = 0 })
+  pub tags_end : count ≤ i → RowsPut T old rows buffer judged count (may_at T o 0) first begin out₀ out (record { end = at; row = count; optionals = optionals; fault = 0 })
   unfolding any_of
   tags_end l =
-      rows_end (group_end T rows buffer (state_of T (may_at T o least)) i count l)
-      (leave_end T old rows buffer count (may_at T o least) i l (ap any_of (due_none T (field T o 0) (field T o 1) (field T o 1) (omega arith))))
+      let z : i ≡ count = omega (arith, l, g.within) in
+      subst (λ (n : ℕ). RowsPut T old rows buffer judged count (may_at T o 0) first begin out₀ out (record { end = at; row = n; optionals = optionals; fault = 0 })) z
+      (rows_end (group_end T rows buffer (state_of T (may_at T o least)) i count l)
+      (leave_end T old rows buffer count (may_at T o least) i l (ap any_of (due_none T (field T o 0) (field T o 1) (field T o 1) (omega arith)))))
 
-  module _ (l : i < count) (p : May) (last : List ℕ) (h : MayPut T old rows buffer judged o least i at out last p) where
-    pub tags_next : (end key : ℕ) → p ≡ MayRow end key → Grouping T old rows buffer judged count (may_at T o 0) first begin out₀ [] (may_at T o (key + 1)) end (i + 1) true last
-    tags_next end key q = go (rw q at h)
+  module _ (l : i < count) (p : Result (Option Placed) ℕ) (last : List ℕ) (h : MayPut T old rows buffer judged o least i at out last p) where
+    pub tags_next : (x : Placed) → p ≡ Ok (Some x) → Grouping T old rows buffer judged count (may_at T o 0) first begin out₀ [] (may_at T o (x.tag + 1)) x.end (i + 1) true last
+    tags_next x q = go (rw q at h)
       where
-        go : MayPut T old rows buffer judged o least i at out last (MayRow end key) → Grouping T old rows buffer judged count (may_at T o 0) first begin out₀ [] (may_at T o (key + 1)) end (i + 1) true last
-        go r = subst (λ (b : Bool). Grouping T old rows buffer judged count (may_at T o 0) first begin out₀ [] (may_at T o (key + 1)) end (i + 1) b last) (or_true optionals)
-            (row_next T old rows buffer judged count (may_at T o 0) first begin out₀ (may_at T o least) at i optionals out g l last (may_at T o (key + 1)) end true r.0)
+        go : MayPut T old rows buffer judged o least i at out last (Ok (Some x)) → Grouping T old rows buffer judged count (may_at T o 0) first begin out₀ [] (may_at T o (x.tag + 1)) x.end (i + 1) true last
+        go r = subst (λ (b : Bool). Grouping T old rows buffer judged count (may_at T o 0) first begin out₀ [] (may_at T o (x.tag + 1)) x.end (i + 1) b last) (or_true optionals)
+            (row_next T old rows buffer judged count (may_at T o 0) first begin out₀ (may_at T o least) at i optionals out g l last (may_at T o (x.tag + 1)) x.end true r.0)
 
-    pub tags_small : (end key : ℕ) → p ≡ MayRow end key → key < 4294967296
-    tags_small end key q = go (rw q at h)
+    pub tags_small : (x : Placed) → p ≡ Ok (Some x) → x.tag < 4294967296
+    tags_small x q = go (rw q at h)
       where
-        go : MayPut T old rows buffer judged o least i at out last (MayRow end key) → key < 4294967296
+        go : MayPut T old rows buffer judged o least i at out last (Ok (Some x)) → x.tag < 4294967296
         go r = r.1
 
-    pub tags_wrong : (n : ℕ) → p ≡ MayWrong n → RowsPut T old rows buffer judged count (may_at T o 0) first begin out₀ last (record { end = at; row = i; optionals = optionals; fault = n })
+    pub tags_wrong : (n : ℕ) → p ≡ Err n → RowsPut T old rows buffer judged count (may_at T o 0) first begin out₀ last (record { end = at; row = i; optionals = optionals; fault = n })
     tags_wrong n q = go (rw q at h)
       where
-        go : MayPut T old rows buffer judged o least i at out last (MayWrong n) → RowsPut T old rows buffer judged count (may_at T o 0) first begin out₀ last (record { end = at; row = i; optionals = optionals; fault = n })
+        go : MayPut T old rows buffer judged o least i at out last (Err n) → RowsPut T old rows buffer judged count (may_at T o 0) first begin out₀ last (record { end = at; row = i; optionals = optionals; fault = n })
         go r = refused T old rows buffer judged count (may_at T o 0) first begin out₀ [] (may_at T o least) at i optionals out g _ _ refl r.1
             (verdict_wrong T old rows buffer count (state_of T (may_at T o least)) i l n r.0)
 
-    pub tags_stop : p ≡ Stop → RowsPut T old rows buffer judged count (may_at T o 0) first begin out₀ last (record { end = at; row = i; optionals = optionals; fault = 0 })
+    pub tags_stop : p ≡ Ok None → RowsPut T old rows buffer judged count (may_at T o 0) first begin out₀ last (record { end = at; row = i; optionals = optionals; fault = 0 })
     tags_stop q = go (rw q at h)
       where
-        go : MayPut T old rows buffer judged o least i at out last Stop → RowsPut T old rows buffer judged count (may_at T o 0) first begin out₀ last (record { end = at; row = i; optionals = optionals; fault = 0 })
+        go : MayPut T old rows buffer judged o least i at out last (Ok None) → RowsPut T old rows buffer judged count (may_at T o 0) first begin out₀ last (record { end = at; row = i; optionals = optionals; fault = 0 })
         go r = rw r.1 (rows_end (group_stop T rows buffer (state_of T (may_at T o least)) i count (gone_none T rows buffer (may_at T o least) i r.0)) (leave_row T old rows buffer count (may_at T o least) i l r.0))
 
 -- ---- the rows of an owner

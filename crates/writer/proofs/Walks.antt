@@ -14,6 +14,9 @@ use Prim.Native.Nat.{ℕ, zero, suc, ◌+◌, ◌-◌, ◌*◌, ◌≤◌, ◌<�
 use native.Mathlib.Omega.{arith}
 use lib.ListN.{length}
 use lib.Dec.{eqb}
+use Rattle.std.specs.Prelude.{Result, Ok, Err}
+use Rattle.wire.specs.declared.Refusal.{Refusal}
+use Rattle.wire.specs.Steps.{refused}
 use Rattle.encoding.specs.Result.{pick, concat}
 use Rattle.encoding.specs.Optional.{piece_bytes}
 use borrow.Author.Tests.{lt-ltb, le-ltb, eqb-true, eq-eqb, ne_eqb}
@@ -26,8 +29,6 @@ use Rattle.encoding.specs.Message.{slices_bytes, later_as, lead, minor, encapsul
 use Rattle.encoding.specs.Write.{out, stop}
 use Rattle.wire.specs.Put.{put}
 use Rattle.writer.specs.declared.Laid.{Laid}
-use Rattle.writer.specs.declared.Put.{Put}
-use Rattle.writer.specs.declared.Put.TheVariants.{Made, Wrong}
 use Rattle.pieces.specs.Cursors.{due_at, state_of}
 use Rattle.pieces.specs.Judged.{verdict_from, verdict_above, Gives}
 use Rattle.pieces.specs.JudgedLaws.{gives_then}
@@ -103,7 +104,7 @@ module _ (T : List ℕ) (old : Bool) (rows buffer : List ℕ) (judged : Bool) (c
   abbrev slices : List ℕ
   slices = slices_bytes (encoding_as old) first (slices_from T rows buffer count 0 (chain T t))
 
-  pub slicing_wrong : (d.fault ≡ 0 → ⊥) → AllPut T old rows buffer judged count t begin slices lent last (Wrong d.fault d.row)
+  pub slicing_wrong : (d.fault ≡ 0 → ⊥) → AllPut T old rows buffer judged count t begin slices lent last (refused d.fault d.row)
   slicing_wrong n = gives_then judged _ _ _ w.rest (j.wrong n)
 
   module _ (f : d.fault ≡ 0) where
@@ -119,10 +120,10 @@ module _ (T : List ℕ) (old : Bool) (rows buffer : List ℕ) (judged : Bool) (c
     verdict_left a = gives_then judged _ _ _ w.rest (j.right f).rest a ∙ ap (λ (x : ℕ). verdict_above T old rows buffer count x d.row) (sym e)
 
     module _ (z : up ≡ 0) where
-      pub slicing_over : d.row < count → AllPut T old rows buffer judged count t begin slices lent last (Wrong 20 d.row)
+      pub slicing_over : d.row < count → AllPut T old rows buffer judged count t begin slices lent last (refused 20 d.row)
       slicing_over h a = verdict_left a ∙ above_over T old rows buffer count up d.row z h
 
-      pub slicing_end : count ≤ d.row → AllPut T old rows buffer judged count t begin slices lent last (Made d.end)
+      pub slicing_end : count ≤ d.row → AllPut T old rows buffer judged count t begin slices lent last (Ok d.end)
       unfolding slices_bytes slices_from upward
       slicing_end h = ((λ a. verdict_left a ∙ above_right T old rows buffer count up d.row z h), leaves_end begin _ lent d.end _ last slice_left (rw z))
 
@@ -179,7 +180,7 @@ module _ (T : List ℕ) (old : Bool) (rows buffer : List ℕ) (judged : Bool) (c
   list_base : list ≡ true → base T t ≡ 0
   list_base q = no_base_lem T t (eqb-true (kind T t) 15 (sym el ∙ q))
 
-  pub parting_wrong : (d.fault ≡ 0 → ⊥) → AllPut T old rows buffer judged count t begin (parts_of T old list rows buffer count t) lent last (Wrong d.fault d.row)
+  pub parting_wrong : (d.fault ≡ 0 → ⊥) → AllPut T old rows buffer judged count t begin (parts_of T old list rows buffer count t) lent last (refused d.fault d.row)
   parting_wrong n = go list refl
     where
       go : (b : Bool) → list ≡ b → Gives judged (verdict_from T old rows buffer count (state_of T (due_at t 0)) 0) (stop d.fault d.row)
@@ -188,18 +189,18 @@ module _ (T : List ℕ) (old : Bool) (rows buffer : List ℕ) (judged : Bool) (c
 
   module _ (f : d.fault ≡ 0) where
     module _ (z : up ≡ 0) where
-      pub parting_over : d.row < count → AllPut T old rows buffer judged count t begin (parts_of T old list rows buffer count t) lent last (Wrong 20 d.row)
+      pub parting_over : d.row < count → AllPut T old rows buffer judged count t begin (parts_of T old list rows buffer count t) lent last (refused 20 d.row)
       parting_over h = go list refl
         where
           go : (b : Bool) → list ≡ b → Gives judged (verdict_from T old rows buffer count (state_of T (due_at t 0)) 0) (stop 20 d.row)
           go true q = λ a. ((list_put q).right f).rest a ∙ above_over T old rows buffer count (base T t) d.row (list_base q) h
           go false q = slicing_over T old rows buffer judged count t begin lent at o i mid (w.slicing q) up e last d (slice_put q) f z h
 
-      pub parting_end : count ≤ d.row → AllPut T old rows buffer judged count t begin (parts_of T old list rows buffer count t) lent last (Made d.end)
+      pub parting_end : count ≤ d.row → AllPut T old rows buffer judged count t begin (parts_of T old list rows buffer count t) lent last (Ok d.end)
       unfolding parts_of
       parting_end h = go list refl
         where
-          go : (b : Bool) → list ≡ b → AllPut T old rows buffer judged count t begin (pick list (concat piece_bytes (group_of T rows buffer count t 0)) (slices_bytes (encoding_as old) first (slices_from T rows buffer count 0 (chain T t)))) lent last (Made d.end)
+          go : (b : Bool) → list ≡ b → AllPut T old rows buffer judged count t begin (pick list (concat piece_bytes (group_of T rows buffer count t 0)) (slices_bytes (encoding_as old) first (slices_from T rows buffer count 0 (chain T t)))) lent last (Ok d.end)
           go true q = rw q ((λ a. ((list_put q).right f).rest a ∙ above_right T old rows buffer count (base T t) d.row (list_base q) h), ((list_put q).right f).puts)
           go false q = rw q (slicing_end T old rows buffer judged count t begin lent at o i mid (w.slicing q) up e last d (slice_put q) f z h)
 
@@ -282,10 +283,10 @@ module _ (T : List ℕ) (old : Bool) (rows buffer : List ℕ) (judged : Bool) (c
       go false true = refl
       go false false = refl
 
-  pub contents_put : (lent mid last : List ℕ) (s : ℕ) → Puts 6 (lead_of k old) lent mid s → (r : Put) → AllPut T old rows buffer judged count t s (parts_of T old (eqb k 15) rows buffer count t) mid last r
+  pub contents_put : (lent mid last : List ℕ) (s : ℕ) → Puts 6 (lead_of k old) lent mid s → (r : Result ℕ Refusal) → AllPut T old rows buffer judged count t s (parts_of T old (eqb k 15) rows buffer count t) mid last r
       → AllPut T old rows buffer judged count t 6 (contents_of T old rows buffer count t) lent last r
-  contents_put lent mid last s p (Made n) j = (j.0, puts_is 6 _ _ lent last n (sym contents_lead) (puts_then 6 (lead_of k old) lent mid s p _ last n j.1))
-  contents_put lent mid last s p (Wrong n q) j = j
+  contents_put lent mid last s p (Ok n) j = (j.0, puts_is 6 _ _ lent last n (sym contents_lead) (puts_then 6 (lead_of k old) lent mid s p _ last n j.1))
+  contents_put lent mid last s p (Err x) j = j
 
 -- the version as a number
 pub version_old : (old : Bool) → old ≡ true → 1 ≡ version_of old
@@ -309,24 +310,24 @@ size_put old b lent one two last n v ev p e f =
     (puts_under 0 6 (le_bytes 4 n ++ le_bytes 2 v) b lent one last 6 n refl p
     (puts_then 0 (le_bytes 4 n) one two 4 (puts_number 4 n 0 one two e) (le_bytes 2 v) last 6 (puts_number 2 v 4 two last f)))
 
-module _ (T : List ℕ) (old : Bool) (rows buffer : List ℕ) (judged : Bool) (count t : ℕ) (b lent one : List ℕ) (r : Put) (j : AllPut T old rows buffer judged count t 6 b lent one r) where
-  pub message_made : (n : ℕ) → r ≡ Made n → (v : ℕ) → v ≡ version_of old → (two last : List ℕ) → two ≡ put 0 (le_bytes 4 n) one → last ≡ put 4 (le_bytes 2 v) two
-      → AllPut T old rows buffer judged count t 0 (encapsulate (encoding_as old) b) lent last (Made n)
+module _ (T : List ℕ) (old : Bool) (rows buffer : List ℕ) (judged : Bool) (count t : ℕ) (b lent one : List ℕ) (r : Result ℕ Refusal) (j : AllPut T old rows buffer judged count t 6 b lent one r) where
+  pub message_made : (n : ℕ) → r ≡ Ok n → (v : ℕ) → v ≡ version_of old → (two last : List ℕ) → two ≡ put 0 (le_bytes 4 n) one → last ≡ put 4 (le_bytes 2 v) two
+      → AllPut T old rows buffer judged count t 0 (encapsulate (encoding_as old) b) lent last (Ok n)
   message_made n q v ev two last e f = go (rw q at j)
     where
-      go : AllPut T old rows buffer judged count t 6 b lent one (Made n) → AllPut T old rows buffer judged count t 0 (encapsulate (encoding_as old) b) lent last (Made n)
+      go : AllPut T old rows buffer judged count t 6 b lent one (Ok n) → AllPut T old rows buffer judged count t 0 (encapsulate (encoding_as old) b) lent last (Ok n)
       go p = (p.0, size_put old b lent one two last n v ev p.1 e f)
 
-  pub message_wrong : (n p : ℕ) → r ≡ Wrong n p → AllPut T old rows buffer judged count t 0 (encapsulate (encoding_as old) b) lent one (Wrong n p)
-  message_wrong n p q = rw q at j
+  pub message_wrong : (x : Refusal) → r ≡ Err x → AllPut T old rows buffer judged count t 0 (encapsulate (encoding_as old) b) lent one (Err x)
+  message_wrong x q = rw q at j
 
 -- nothing is put
-pub message_measured : (T : List ℕ) (old : Bool) (rows buffer : List ℕ) (count t k : ℕ) → k ≡ kind T t → (l : ℕ) → l ≡ length (lead_of k old) → (r : Put)
+pub message_measured : (T : List ℕ) (old : Bool) (rows buffer : List ℕ) (count t k : ℕ) → k ≡ kind T t → (l : ℕ) → l ≡ length (lead_of k old) → (r : Result ℕ Refusal)
     → AllPut T old rows buffer false count t (6 + l) (parts_of T old (eqb k 15) rows buffer count t) [] [] r
     → AllPut T old rows buffer false count t 0 (encapsulate (encoding_as old) (contents_of T old rows buffer count t)) [] [] r
 message_measured T old rows buffer count t k ek l el r j =
     go r (contents_put T old rows buffer false count t k ek [] [] [] (6 + l) (puts_measured 6 (lead_of k old) (6 + l) (ap (λ (x : ℕ). 6 + x) el)) r j)
   where
-    go : (r : Put) → AllPut T old rows buffer false count t 6 (contents_of T old rows buffer count t) [] [] r → AllPut T old rows buffer false count t 0 (encapsulate (encoding_as old) (contents_of T old rows buffer count t)) [] [] r
-    go (Made n) p = message_made T old rows buffer false count t _ [] [] (Made n) p n refl (version_of old) refl [] [] (put_empty 0 _) (put_empty 4 _)
-    go (Wrong n q) p = p
+    go : (r : Result ℕ Refusal) → AllPut T old rows buffer false count t 6 (contents_of T old rows buffer count t) [] [] r → AllPut T old rows buffer false count t 0 (encapsulate (encoding_as old) (contents_of T old rows buffer count t)) [] [] r
+    go (Ok n) p = message_made T old rows buffer false count t _ [] [] (Ok n) p n refl (version_of old) refl [] [] (put_empty 0 _) (put_empty 4 _)
+    go (Err x) p = p

@@ -8,16 +8,15 @@
 --   written       what follows the judgements before the rows: the message or a refusal
 --   outcome_of     the answer as the code gives it
 use Rattle.std.specs.Prelude.{Bool, List, [], ◌∷◌, ◌++◌, ℕ, length, eqb}
+use Rattle.std.specs.Prelude.{Result, Ok, Err}
+use Rattle.wire.specs.declared.Refusal.{Refusal}
+use Rattle.wire.specs.Steps.{refused}
 use Rattle.encoding.specs.Result.{pick, concat}
 use Rattle.encoding.specs.Table.{kind, chain}
 use Rattle.encoding.specs.Optional.{piece_bytes}
 use Rattle.encoding.specs.Slice.{first}
 use Rattle.encoding.specs.Message.{version10, version11, slices_bytes, lead, encode, encapsulate}
 use Rattle.encoding.specs.Write.{Out, out, stop, next, begin, above, judge_all, gathered, bounded, rows_given}
-use Rattle.writer.specs.declared.Outcome.{Outcome}
-use Rattle.writer.specs.declared.Outcome.TheVariants.{Made, Stopped}
-use Rattle.writer.specs.declared.Put.{Put}
-use Rattle.writer.specs.declared.Put.TheVariants.{Made as PutMade, Wrong}
 use Rattle.pieces.specs.Cursors.{due_at, state_of}
 use Rattle.pieces.specs.Judged.{verdict_from, Gives}
 use Rattle.pieces.specs.Puts.{Puts}
@@ -43,9 +42,9 @@ contents_of T old rows buffer count type =
     (lead (encoding_as old) ++ slices_bytes (encoding_as old) first (slices_from T rows buffer count 0 (chain T type))))
 
 -- the rows are judged from the start of row t
-abbrev pub AllPut : List ℕ → Bool → List ℕ → List ℕ → Bool → ℕ → ℕ → ℕ → List ℕ → List ℕ → List ℕ → Put → Type 0
-AllPut T old rows buffer judged count t at b lent last (PutMade n) = Gives judged (verdict_from T old rows buffer count (state_of T (due_at t 0)) 0) (out tt) × Puts at b lent last n
-AllPut T old rows buffer judged count t at b lent last (Wrong n p) = Gives judged (verdict_from T old rows buffer count (state_of T (due_at t 0)) 0) (stop n p)
+abbrev pub AllPut : List ℕ → Bool → List ℕ → List ℕ → Bool → ℕ → ℕ → ℕ → List ℕ → List ℕ → List ℕ → Result ℕ Refusal → Type 0
+AllPut T old rows buffer judged count t at b lent last (Ok n) = Gives judged (verdict_from T old rows buffer count (state_of T (due_at t 0)) 0) (out tt) × Puts at b lent last n
+AllPut T old rows buffer judged count t at b lent last (Err x) = Gives judged (verdict_from T old rows buffer count (state_of T (due_at t 0)) 0) (stop x.number x.place)
 
 -- row bytes, each row 20 then 21, then 22
 unfoldable pub written : List ℕ → ℕ → Bool → ℕ → List ℕ → List ℕ → ℕ → Out (List ℕ)
@@ -54,6 +53,6 @@ written T type old count rows buffer room =
     next (judge_all T old buffer (begin T type (above (chain T type))) 0 rs) λ gs.
     bounded room (encapsulate (encoding_as old) (encode (encoding_as old) (gathered T type gs)))
 
-unfoldable pub outcome_of : Out (List ℕ) → Outcome
-outcome_of (out m) = Made (length m)
-outcome_of (stop n p) = Stopped n p
+unfoldable pub outcome_of : Out (List ℕ) → Result ℕ Refusal
+outcome_of (out m) = Ok (length m)
+outcome_of (stop n p) = refused n p

@@ -13,6 +13,8 @@ ghost use Rattle.encoding.specs.Write.{output};
 ghost use Rattle.shapes.specs.Shapes.{shapes_of};
 ghost use Rattle.writer.specs.Messages.{written, outcome_of};
 
+use wire::Refusal;
+
 // An owner as each pass looks it up once: its member rows are the b rows from a on, `up` is its base row + 1 or 0, its name is the `long` bytes of the table from `name` on.
 #[derive(Clone, Copy)]
 pub struct Owner {
@@ -44,21 +46,7 @@ fn laid_of(end: usize, row: usize, optionals: bool, fault: usize) -> Laid
     }
 }
 
-// The end of the bytes measured or put, if every row is right; or a refusal's number and place.
-#[derive(Clone, Copy)]
-pub enum Put {
-    Made(usize),
-    Wrong(usize, usize),
-}
-
-// The message's length; or a refusal's number and place.
-#[derive(Clone, Copy)]
-pub enum Outcome {
-    Made(usize),
-    Stopped(usize, usize),
-}
-
-// Writes under a prepared table: checks the rows, each 20 then 21, then 22, and puts the message at the output's start.
+// Writes under a prepared table: checks the rows, each 20 then 21, then 22, and puts the message at the output's start. Gives the message's length.
 // The first pass checks and measures, the second puts: so the output is changed only after every check, and nothing is put twice.
 pub fn write_rows(
     table: &[u8],
@@ -70,27 +58,30 @@ pub fn write_rows(
     rows: &[u8],
     buffer: &[u8],
     out: &mut [u8],
-) -> Outcome
+) -> Result<usize, Refusal>
     requires begin_value { begin ≡ types_at table.now }
     requires shapes_value { shapes.now ≡ shapes_of table.now }
     requires top_bound { (top < 65536) × (count ≤ 4294967296) × (length buffer.now ≤ 65536) }
     ensures { (result ≡ outcome_of (written table.now top old count rows.now buffer.now (length out.old))) × (out.new ≡ output (written table.now top old count rows.now buffer.now (length out.old)) out.old) }
 {
     if rows.len() / 12 < count {
-        return Outcome::Stopped(20, count);
+        return Err(Refusal {
+            number: 20,
+            place: count,
+        });
     }
-    let measured = measure::measure(table, begin, shapes, top, old, count, rows, buffer);
-    match measured {
-        Put::Wrong(number, place) => Outcome::Stopped(number, place),
-        Put::Made(n) => {
-            if 65536 < n {
-                return Outcome::Stopped(22, n);
-            }
-            if out.len() < n {
-                return Outcome::Stopped(22, n);
-            }
-            message::put_message(table, begin, shapes, out, top, old, count, rows, buffer);
-            Outcome::Made(n)
-        }
+    let n = measure::measure(table, begin, shapes, top, old, count, rows, buffer)?;
+    if 65536 < n {
+        return Err(Refusal {
+            number: 22,
+            place: n,
+        });
     }
+    if out.len() < n {
+        return Err(Refusal {
+            number: 22,
+            place: n,
+        });
+    }
+    message::put_message(table, begin, shapes, out, top, old, count, rows, buffer)
 }

@@ -7,8 +7,9 @@ ghost use Rattle.pieces.specs.Cursors.{due_at, may_at};
 ghost use Rattle.writer.specs.Slices.{IsOwner, encoding_as, end_mark, Grouping, RequiredsPut, RowsPut, PartPut};
 ghost use Rattle.writer.specs.Messages.{lead_of, parts_of, contents_of, AllPut};
 
-use crate::{Laid, Owner, Put, laid_of, slice};
-use pieces::{Due, May, judge};
+use crate::{Laid, Owner, laid_of, slice};
+use pieces::judge;
+use wire::Refusal;
 
 // How far rows of required members were measured without a call: the end of their bytes, the next row, and how many member rows are passed.
 #[derive(Clone, Copy)]
@@ -45,6 +46,7 @@ fn quick_requireds(
     let mut at = start;
     let mut i = from;
     let mut k = 0;
+    // Stays: the member row and the row at which it stops are its answer.
     while a + k < limit {
         let member = table::member_row_in(table, first, a + k);
         if member.mark != 0 {
@@ -69,12 +71,12 @@ fn quick_requireds(
             buffer,
         );
         match d {
-            Due::Row(end) => {
+            Ok(end) => {
                 at = end;
                 i += 1;
                 k += 1;
             }
-            Due::Wrong(number) => {
+            Err(number) => {
                 break;
             }
         }
@@ -115,10 +117,8 @@ fn measure_requireds(
     );
     let mut at = q.end;
     let mut i = q.row;
-    let mut k = q.passed;
-    while k < b {
+    for k in q.passed..b {
         if table::mark_from(table, first, a + k) != 0 {
-            k += 1;
             continue;
         }
         if count <= i {
@@ -140,12 +140,11 @@ fn measure_requireds(
             buffer,
         );
         match d {
-            Due::Row(end) => {
+            Ok(end) => {
                 at = end;
                 i += 1;
-                k += 1;
             }
-            Due::Wrong(number) => {
+            Err(number) => {
                 return laid_of(at, i, false, number);
             }
         }
@@ -178,29 +177,29 @@ fn measure_optionals(
     ensures { RowsPut table.now old rows.now buffer.now false count (may_at table.now o 0) from start [] [] result }
 {
     let mut at = start;
-    let mut i = from;
     let mut least = 0;
     let mut optionals = false;
-    while i < count {
-        let p = judge::may(
+    for i in from..count {
+        let answer = match judge::may(
             table, begin, shapes, first, all, at, o, a, b, least, old, rows, i, buffer,
-        );
-        match p {
-            May::Row(end, tag) => {
-                at = end;
-                least = tag + 1;
-                optionals = true;
-                i += 1;
-            }
-            May::Stop => {
-                return laid_of(at, i, optionals, 0);
-            }
-            May::Wrong(number) => {
+        ) {
+            Ok(answer) => answer,
+            Err(number) => {
                 return laid_of(at, i, optionals, number);
+            }
+        };
+        match answer {
+            Some(placed) => {
+                at = placed.end;
+                least = placed.tag + 1;
+                optionals = true;
+            }
+            None => {
+                return laid_of(at, i, optionals, 0);
             }
         }
     }
-    laid_of(at, i, optionals, 0)
+    laid_of(at, count, optionals, 0)
 }
 
 // How many bytes the end marker takes, which a slice has after optionals.
@@ -283,7 +282,7 @@ fn measure_parts(
     count: usize,
     rows: &[u8],
     buffer: &[u8],
-) -> Put
+) -> Result<usize, Refusal>
     requires begin_value { begin ≡ types_at table.now }
     requires shapes_value { shapes.now ≡ shapes_of table.now }
     requires list_value { list ≡ eqb (kind table.now t) 15 }
@@ -316,13 +315,19 @@ fn measure_parts(
             buffer,
         );
         if d.fault != 0 {
-            return Put::Wrong(d.fault, d.row);
+            return Err(Refusal {
+                number: d.fault,
+                place: d.row,
+            });
         }
         if owner.up == 0 {
             if d.row < count {
-                return Put::Wrong(20, d.row);
+                return Err(Refusal {
+                    number: 20,
+                    place: d.row,
+                });
             }
-            return Put::Made(d.end);
+            return Ok(d.end);
         }
         at = d.end;
         o = owner.up - 1;
@@ -356,7 +361,7 @@ pub fn measure(
     count: usize,
     rows: &[u8],
     buffer: &[u8],
-) -> Put
+) -> Result<usize, Refusal>
     requires begin_value { begin ≡ types_at table.now }
     requires shapes_value { shapes.now ≡ shapes_of table.now }
     requires t_bound { (t < 65536) × (count ≤ 4294967296) × (length buffer.now ≤ 65536) × (12 * count ≤ length rows.now) }

@@ -7,7 +7,8 @@ ghost use Rattle.pieces.specs.Puts.{Puts};
 ghost use Rattle.writer.specs.Slices.{encoding_as};
 ghost use Rattle.writer.specs.Messages.{version_of, lead_of, parts_of, contents_of, AllPut};
 
-use crate::{Put, slice};
+use crate::slice;
+use wire::Refusal;
 
 // Puts the members of a parameter list t, or the slices of row t and its bases.
 fn put_parts(
@@ -22,7 +23,7 @@ fn put_parts(
     count: usize,
     rows: &[u8],
     buffer: &[u8],
-) -> Put
+) -> Result<usize, Refusal>
     requires begin_value { begin ≡ types_at table.now }
     requires shapes_value { shapes.now ≡ shapes_of table.now }
     requires list_value { list ≡ eqb (kind table.now t) 15 }
@@ -55,13 +56,19 @@ fn put_parts(
             buffer,
         );
         if d.fault != 0 {
-            return Put::Wrong(d.fault, d.row);
+            return Err(Refusal {
+                number: d.fault,
+                place: d.row,
+            });
         }
         if owner.up == 0 {
             if d.row < count {
-                return Put::Wrong(20, d.row);
+                return Err(Refusal {
+                    number: 20,
+                    place: d.row,
+                });
             }
-            return Put::Made(d.end);
+            return Ok(d.end);
         }
         at = d.end;
         o = owner.up - 1;
@@ -108,7 +115,7 @@ pub fn put_message(
     count: usize,
     rows: &[u8],
     buffer: &[u8],
-) -> Put
+) -> Result<usize, Refusal>
     requires begin_value { begin ≡ types_at table.now }
     requires shapes_value { shapes.now ≡ shapes_of table.now }
     requires t_bound { (t < 65536) × (count ≤ 4294967296) × (length buffer.now ≤ 65536) × (12 * count ≤ length rows.now) }
@@ -116,7 +123,7 @@ pub fn put_message(
 {
     let k = table::kind(table, begin, t);
     let start = put_lead(out, k, old);
-    let put = put_parts(
+    let end = put_parts(
         table,
         begin,
         shapes,
@@ -128,13 +135,8 @@ pub fn put_message(
         count,
         rows,
         buffer,
-    );
-    match put {
-        Put::Made(n) => {
-            wire::put_number(out, 0, 4, n);
-            wire::put_number(out, 4, 2, version(old));
-            Put::Made(n)
-        }
-        Put::Wrong(number, place) => Put::Wrong(number, place),
-    }
+    )?;
+    wire::put_number(out, 0, 4, end);
+    wire::put_number(out, 4, 2, version(old));
+    Ok(end)
 }

@@ -9,7 +9,7 @@ ghost use Rattle.pieces.specs.Cursors.{may_at};
 ghost use Rattle.writer.specs.Slices.{IsOwner, front_field, flags_of, front_of, end_mark, RequiredsPut, RowsPut, PartPut};
 
 use crate::{Laid, Owner, laid_of};
-use pieces::{May, piece};
+use pieces::piece;
 
 // Puts the rows of the required members of owner o, from row `from` on. Its member rows are the b rows from a on.
 // Rows whose parts follow one another in the buffer are put by one copy: `len` bytes from `place` on are still to be put.
@@ -34,12 +34,10 @@ fn put_requireds(
 {
     let mut at = start;
     let mut i = from;
-    let mut k = 0;
     let mut place = 0;
     let mut len = 0;
-    while k < b {
+    for k in 0..b {
         if table::mark_from(table, first, a + k) != 0 {
-            k += 1;
             continue;
         }
         if count <= i {
@@ -52,17 +50,14 @@ fn put_requireds(
         if !wire::fits(buffer.len(), row.place, row.len) {
             return laid_of(at, i, false, 20);
         }
+        i += 1;
         if row.place == place + len {
             len += row.len;
-            i += 1;
-            k += 1;
             continue;
         }
         at = piece::put_content(out, at, place, len, buffer);
         place = row.place;
         len = row.len;
-        i += 1;
-        k += 1;
     }
     let end = piece::put_content(out, at, place, len, buffer);
     laid_of(end, i, false, 0)
@@ -92,29 +87,29 @@ fn put_optionals(
     ensures { RowsPut table.now old rows.now buffer.now true count (may_at table.now o 0) from start out.old out.new result }
 {
     let mut at = start;
-    let mut i = from;
     let mut least = 0;
     let mut optionals = false;
-    while i < count {
-        let p = piece::put_may(
+    for i in from..count {
+        let answer = match piece::put_may(
             table, shapes, first, all, out, at, o, a, b, least, old, rows, i, buffer,
-        );
-        match p {
-            May::Row(end, tag) => {
-                at = end;
-                least = tag + 1;
-                optionals = true;
-                i += 1;
-            }
-            May::Stop => {
-                return laid_of(at, i, optionals, 0);
-            }
-            May::Wrong(number) => {
+        ) {
+            Ok(answer) => answer,
+            Err(number) => {
                 return laid_of(at, i, optionals, number);
+            }
+        };
+        match answer {
+            Some(placed) => {
+                at = placed.end;
+                least = placed.tag + 1;
+                optionals = true;
+            }
+            None => {
+                return laid_of(at, i, optionals, 0);
             }
         }
     }
-    laid_of(at, i, optionals, 0)
+    laid_of(at, count, optionals, 0)
 }
 
 // How many bytes the type ID of owner o takes.

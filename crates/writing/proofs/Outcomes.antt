@@ -27,8 +27,9 @@ use Rattle.prepare.specs.Preparing.{before, checked, checks}
 use Rattle.prepare.specs.PreparingLaws.{ready_table, ready_early}
 use Rattle.prepare.specs.declared.Prepared.{Prepared}
 use Rattle.prepare.specs.declared.Prepared.TheVariants.{Ready, Refused}
-use Rattle.writer.specs.declared.Outcome.{Outcome}
-use Rattle.writer.specs.declared.Outcome.TheVariants.{Made, Stopped}
+use Rattle.std.specs.Prelude.{Result, Ok, Err}
+use Rattle.wire.specs.declared.Refusal.{Refusal}
+use Rattle.wire.specs.Steps as step
 use Rattle.writer.specs.Messages.{written, outcome_of}
 use Rattle.laws.proofs.PlanLaws.{out≢stop}
 use Rattle.laws.proofs.MessageWritten.{message_ok, too_long_lem}
@@ -45,7 +46,7 @@ module _ (T : List ℕ) (top format count : ℕ) (rows buffer : List ℕ) (n : �
   anew_same : writing (anew T) top format count (anew rows) (anew buffer) n ≡ writing T top format count rows buffer n
   anew_same = rw (rest_is T 0, rest_is rows 0, rest_is buffer 0)
 
-  pub anew_outcome : (r : Outcome) → r ≡ outcome_of (writing (anew T) top format count (anew rows) (anew buffer) n) → r ≡ outcome_of (writing T top format count rows buffer n)
+  pub anew_outcome : (r : Result ℕ Refusal) → r ≡ outcome_of (writing (anew T) top format count (anew rows) (anew buffer) n) → r ≡ outcome_of (writing T top format count rows buffer n)
   anew_outcome r e = e ∙ ap outcome_of anew_same
 
   pub anew_output : (lent last : List ℕ) → last ≡ output (writing (anew T) top format count (anew rows) (anew buffer) n) lent → last ≡ output (writing T top format count rows buffer n) lent
@@ -86,7 +87,7 @@ unfolding outcome_of Fits
 fits_outcome (out m) h = h
 fits_outcome (stop n p) h = h
 
-stopped_outcome : (w : Out (List ℕ)) (n p : ℕ) → w ≡ stop n p → Stopped n p ≡ outcome_of w
+stopped_outcome : (w : Out (List ℕ)) (n p : ℕ) → w ≡ stop n p → step.refused n p ≡ outcome_of w
 unfolding outcome_of
 stopped_outcome w n p e = sym (ap outcome_of e)
 
@@ -98,7 +99,7 @@ module _ (T : List ℕ) (top format count : ℕ) (rows buffer lent : List ℕ) w
   abbrev answered : Out (List ℕ)
   answered = writing T top format count rows buffer (length lent)
 
-  outcome_fits : count < 4294967296 → (r : Outcome) → r ≡ outcome_of answered → Fits r
+  outcome_fits : count < 4294967296 → (r : Result ℕ Refusal) → r ≡ outcome_of answered → Fits r
   outcome_fits few r e = subst Fits (sym e) (fits_outcome answered (writing_narrow T top format count rows buffer (length lent) few))
 
   module _ (r : Prepared) (er : r ≡ checks T top format (length buffer)) where
@@ -106,11 +107,11 @@ module _ (T : List ℕ) (top format count : ℕ) (rows buffer lent : List ℕ) w
       refused : answered ≡ stop c p
       refused = writing_refused T top format count rows buffer (length lent) c p (sym er ∙ q)
 
-      pub refused_outcome : Stopped c p ≡ outcome_of answered
+      pub refused_outcome : step.refused c p ≡ outcome_of answered
       refused_outcome = stopped_outcome answered c p refused
 
-      pub refused_fits : count < 4294967296 → Fits (Stopped c p)
-      refused_fits few = outcome_fits few (Stopped c p) refused_outcome
+      pub refused_fits : count < 4294967296 → Fits (step.refused c p)
+      refused_fits few = outcome_fits few (step.refused c p) refused_outcome
 
       pub refused_output : lent ≡ output answered lent
       refused_output = stopped_output answered c p refused lent
@@ -120,10 +121,10 @@ module _ (T : List ℕ) (top format count : ℕ) (rows buffer lent : List ℕ) w
       rows_answered =
           sym (writing_rows T top format count rows buffer (length lent) (ready_table T top format (length buffer) r er q) (ready_early T top format (length buffer) r er q))
 
-      pub rows_outcome : (o : Outcome) → o ≡ outcome_of (written T top (eqb format 2) count rows buffer (length lent)) → o ≡ outcome_of answered
+      pub rows_outcome : (o : Result ℕ Refusal) → o ≡ outcome_of (written T top (eqb format 2) count rows buffer (length lent)) → o ≡ outcome_of answered
       rows_outcome o e = e ∙ ap outcome_of rows_answered
 
-      pub rows_fits : (o : Outcome) → o ≡ outcome_of (written T top (eqb format 2) count rows buffer (length lent)) → count < 4294967296 → Fits o
+      pub rows_fits : (o : Result ℕ Refusal) → o ≡ outcome_of (written T top (eqb format 2) count rows buffer (length lent)) → count < 4294967296 → Fits o
       rows_fits o e few = outcome_fits few o (rows_outcome o e)
 
       pub rows_output : (last : List ℕ) → last ≡ output (written T top (eqb format 2) count rows buffer (length lent)) lent → last ≡ output answered lent
@@ -131,67 +132,67 @@ module _ (T : List ℕ) (top format count : ℕ) (rows buffer lent : List ℕ) w
 
 -- ---- the answer
 
-module _ (o : Outcome) (F : Fits o) where
-  module _ (n : ℕ) (q : o ≡ Made n) where
+module _ (o : Result ℕ Refusal) (F : Fits o) where
+  module _ (n : ℕ) (q : o ≡ Ok n) where
     pub made_fits : n < 4294967296
     unfolding Fits
     made_fits = subst Fits q F
 
-    pub fits_made : Fits (Made n)
+    pub fits_made : Fits (Ok n)
     fits_made = subst Fits q F
 
     pub told_made : Written n ≡ tells o
     unfolding tells
     told_made = sym (ap tells q)
 
-    pub fit_made : (room : ℕ) → Made n ≡ fitted room o
+    pub fit_made : (room : ℕ) → Ok n ≡ fitted room o
     unfolding fitted
     fit_made room = sym (ap (fitted room) q)
 
-  module _ (c p : ℕ) (q : o ≡ Stopped c p) where
-    pub number_fits : c < 4294967296
+  module _ (x : Refusal) (q : o ≡ Err x) where
+    pub number_fits : x.number < 4294967296
     unfolding Fits
     number_fits = (subst Fits q F).0
 
-    pub place_fits : p < 4294967296
+    pub place_fits : x.place < 4294967296
     unfolding Fits
     place_fits = (subst Fits q F).1
 
-    pub fits_stopped : Fits (Stopped c p)
+    pub fits_stopped : Fits (Err x)
     fits_stopped = subst Fits q F
 
-    pub fits_needed : Fits (Made p)
+    pub fits_needed : Fits (Ok x.place)
     unfolding Fits
     fits_needed = place_fits
 
-    pub told_stopped : Rejected c p ≡ tells o
+    pub told_stopped : Rejected x.number x.place ≡ tells o
     unfolding tells
     told_stopped = sym (ap tells q)
 
     module _ (room : ℕ) where
-      pub fit_other : (c ≡ 22 → ⊥) → Stopped c p ≡ fitted room o
+      pub fit_other : (x.number ≡ 22 → ⊥) → Err x ≡ fitted room o
       unfolding fitted
-      fit_other h = rw (q, fitted, ne_eqb c 22 h)
+      fit_other h = rw (q, fitted, ne_eqb x.number 22 h)
 
-      module _ (h : c ≡ 22) where
-        pub fit_over : limit < p → Stopped c p ≡ fitted room o
+      module _ (h : x.number ≡ 22) where
+        pub fit_over : limit < x.place → Err x ≡ fitted room o
         unfolding fitted
-        fit_over l = rw (q, fitted, eq-eqb c 22 h, lt-leb p limit l)
+        fit_over l = rw (q, fitted, eq-eqb x.number 22 h, lt-leb x.place limit l)
 
-        pub fit_room : p ≤ limit → room < p → Stopped c p ≡ fitted room o
+        pub fit_room : x.place ≤ limit → room < x.place → Err x ≡ fitted room o
         unfolding fitted
-        fit_room l k = rw (q, fitted, eq-eqb c 22 h, le-leb p limit l, lt-leb p room k)
+        fit_room l k = rw (q, fitted, eq-eqb x.number 22 h, le-leb x.place limit l, lt-leb x.place room k)
 
-        pub fit_fits : p ≤ limit → p ≤ room → Made p ≡ fitted room o
+        pub fit_fits : x.place ≤ limit → x.place ≤ room → Ok x.place ≡ fitted room o
         unfolding fitted
-        fit_fits l k = rw (q, fitted, eq-eqb c 22 h, le-leb p limit l, le-leb p room k)
+        fit_fits l k = rw (q, fitted, eq-eqb x.number 22 h, le-leb x.place limit l, le-leb x.place room k)
 
 tells_outcome : (w : Out (List ℕ)) → tells (outcome_of w) ≡ writing_of w
 unfolding tells outcome_of writing_of
 tells_outcome (out m) = refl
 tells_outcome (stop n p) = refl
 
-pub answer_told : (w : Out (List ℕ)) (o : Outcome) → o ≡ outcome_of w → (r : Writing) → r ≡ tells o → r ≡ writing_of w
+pub answer_told : (w : Out (List ℕ)) (o : Result ℕ Refusal) → o ≡ outcome_of w → (r : Writing) → r ≡ tells o → r ≡ writing_of w
 answer_told w o e r q = q ∙ ap tells e ∙ tells_outcome w
 
 module _ (T : List ℕ) (top format count : ℕ) (rows buffer : List ℕ) (l room : ℕ) (none : l < 6) where
@@ -213,14 +214,14 @@ module _ (T : List ℕ) (top format count : ℕ) (rows buffer : List ℕ) (l roo
           cases true true p q = rw (p, q)
           cases true false p q = rw (p, q)
           cases false b p q = rw p
-      go (stop n p) e = ap (λ (b : Bool). pick (b && (leb p limit && leb p room)) (Made p) (Stopped n p)) (ne_eqb n 22 other)
+      go (stop n p) e = ap (λ (b : Bool). pick (b && (leb p limit && leb p room)) (Ok p) (step.refused n p)) (ne_eqb n 22 other)
         where
           other : n ≡ 22 → ⊥
           other q =
               let W = (too_long_lem T top format count rows buffer l p).0 (ap (λ (o : Out (List ℕ)). next o (bounded l)) e ∙ ap (λ (k : ℕ). stop k p) q) in
               out≢stop W.is_made e
 
-pub answer_fitted : (T : List ℕ) (top format count : ℕ) (rows buffer lent : List ℕ) → length lent ≡ 1 → (o : Outcome) → o ≡ outcome_of (writing T top format count rows buffer (length lent))
-    → (room : ℕ) (f : Outcome) → f ≡ fitted room o → (r : Writing) → r ≡ tells f → r ≡ writing_of (writing T top format count rows buffer room)
+pub answer_fitted : (T : List ℕ) (top format count : ℕ) (rows buffer lent : List ℕ) → length lent ≡ 1 → (o : Result ℕ Refusal) → o ≡ outcome_of (writing T top format count rows buffer (length lent))
+    → (room : ℕ) (f : Result ℕ Refusal) → f ≡ fitted room o → (r : Writing) → r ≡ tells f → r ≡ writing_of (writing T top format count rows buffer room)
 answer_fitted T top format count rows buffer lent l o eo room f ef r er =
     answer_told (writing T top format count rows buffer room) f (ef ∙ ap (fitted room) eo ∙ fitted_writing T top format count rows buffer (length lent) room (omega arith)) r er

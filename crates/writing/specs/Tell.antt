@@ -3,23 +3,22 @@
 --   Fits         each number of an outcome fits 32 bits
 --   tells        the answer of an outcome
 --   fitted       the outcome for an output of some room, from the outcome for an output that is too short for any message
-use Rattle.std.specs.Prelude.{◌&&◌, ℕ, ◌<◌, eqb, leb}
+use Rattle.std.specs.Prelude.{Result, Ok, Err, ◌&&◌, ℕ, ◌<◌, eqb, leb}
 use Rattle.encoding.specs.Result.{pick}
 use Rattle.encoding.specs.Message.{limit}
 use Rattle.encoding.specs.declared.Writing.{Writing}
 use Rattle.encoding.specs.declared.Writing.TheVariants.{Written, Rejected}
-use Rattle.writer.specs.declared.Outcome.{Outcome}
-use Rattle.writer.specs.declared.Outcome.TheVariants.{Made, Stopped}
+use Rattle.wire.specs.declared.Refusal.{Refusal}
 
-unfoldable pub Fits : Outcome → Type 0
-Fits (Made n) = n < 4294967296
-Fits (Stopped c p) = (c < 4294967296) × (p < 4294967296)
+unfoldable pub Fits : Result ℕ Refusal → Type 0
+Fits (Ok n) = n < 4294967296
+Fits (Err x) = (x.number < 4294967296) × (x.place < 4294967296)
 
-unfoldable pub tells : Outcome → Writing
-tells (Made n) = Written n
-tells (Stopped c p) = Rejected c p
+unfoldable pub tells : Result ℕ Refusal → Writing
+tells (Ok n) = Written n
+tells (Err x) = Rejected x.number x.place
 
 -- 22 says how many bytes are needed
-unfoldable pub fitted : ℕ → Outcome → Outcome
-fitted room (Made n) = Made n
-fitted room (Stopped c p) = pick (eqb c 22 && (leb p limit && leb p room)) (Made p) (Stopped c p)
+unfoldable pub fitted : ℕ → Result ℕ Refusal → Result ℕ Refusal
+fitted room (Ok n) = Ok n
+fitted room (Err x) = pick (eqb x.number 22 && (leb x.place limit && leb x.place room)) (Ok x.place) (Err x)

@@ -12,7 +12,7 @@ ghost use Rattle.writing.specs.Tell.{Fits, fitted, tells};
 
 use encoding::Writing;
 use prepare::Prepared;
-use writer::Outcome;
+use wire::Refusal;
 
 // What `prepare` finds; if it refuses nothing, the shapes are filled. `begin` is where the type rows begin.
 // The reader has the same of its own: one function for both would not be inlined, and would cost each call 10 ns.
@@ -51,7 +51,7 @@ fn checked(
     rows: &[u8],
     buffer: &[u8],
     out: &mut [u8],
-) -> Outcome
+) -> Result<usize, Refusal>
     requires { count < 4294967296 }
     ensures value { (result ≡ outcome_of (writing table.now top format count rows.now buffer.now (length out.old))) × Fits result }
     ensures out_after { out.new ≡ output (writing table.now top format count rows.now buffer.now (length out.old)) out.old }
@@ -60,7 +60,7 @@ fn checked(
     let begin = table::types_at(table);
     let p = prepared(table, begin, top, format, buffer.len(), &mut shapes);
     match p {
-        Prepared::Refused(c, q) => Outcome::Stopped(c, q),
+        Prepared::Refused(number, place) => Err(Refusal { number, place }),
         Prepared::Ready => {
             writer::write_rows(
                 table,
@@ -86,7 +86,7 @@ fn outcome(
     rows: &[u8],
     buffer: &[u8],
     out: &mut [u8],
-) -> Outcome
+) -> Result<usize, Refusal>
     requires { count < 4294967296 }
     ensures value { (result ≡ outcome_of (writing table.now top format count rows.now buffer.now (length out.old))) × Fits result }
     ensures out_after { out.new ≡ output (writing table.now top format count rows.now buffer.now (length out.old)) out.old }
@@ -103,33 +103,33 @@ fn outcome(
 }
 
 // The outcome for an output of `room` bytes, from the outcome for an output that is too short for any message.
-fn fit(o: Outcome, room: usize) -> Outcome
+fn fit(o: Result<usize, Refusal>, room: usize) -> Result<usize, Refusal>
     requires { Fits o }
     ensures { (result ≡ fitted room o) × Fits result }
 {
     match o {
-        Outcome::Made(n) => Outcome::Made(n),
-        Outcome::Stopped(c, p) => {
-            if c == 22 {
-                if p <= 65536 {
-                    if p <= room {
-                        return Outcome::Made(p);
+        Ok(n) => Ok(n),
+        Err(refusal) => {
+            if refusal.number == 22 {
+                if refusal.place <= 65536 {
+                    if refusal.place <= room {
+                        return Ok(refusal.place);
                     }
                 }
             }
-            Outcome::Stopped(c, p)
+            Err(refusal)
         }
     }
 }
 
 // The answer of an outcome.
-fn writing_of(o: Outcome) -> Writing
+fn writing_of(o: Result<usize, Refusal>) -> Writing
     requires { Fits o }
     ensures { result ≡ tells o }
 {
     match o {
-        Outcome::Made(n) => Writing::Written(n as u32),
-        Outcome::Stopped(c, p) => Writing::Rejected(c as u32, p as u32),
+        Ok(n) => Writing::Written(n as u32),
+        Err(refusal) => Writing::Rejected(refusal.number as u32, refusal.place as u32),
     }
 }
 

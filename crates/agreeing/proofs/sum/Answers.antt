@@ -1,7 +1,6 @@
--- The loop's invariant (`Sums`): the sum so far and that of the members left make the whole sum. The measure is the number of members left. Assumes nothing.
+-- The loop's invariant (`Sums`): the sum so far and that of the members left make the whole sum. Assumes nothing.
 use Rattle.agreeing.proofs.Cells.{sums_begin, sums_fit, sums_next, sums_end, place_fits, place_scaled, place_inside}
 use borrow.Author.Rules.{rules}
-use native.Mathlib.Omega.{arith}
 use Rattle.agreeing.proofs.sum.Goals as goal
 
 pub loop-i-init : goal.loop-i-init
@@ -18,9 +17,6 @@ bounds-cells-base c = search place_inside
 
 pub overflow_add-w-in-loop-i : goal.overflow_add-w-in-loop-i
 overflow_add-w-in-loop-i c = search sums_fit
-
-pub loop-i-smaller : goal.loop-i-smaller
-loop-i-smaller c = omega arith
 
 pub loop-i-preserved : goal.loop-i-preserved
 loop-i-preserved c = search sums_next

@@ -1,10 +1,7 @@
--- The loop's invariant: the messages left decide the answer. The measure is their number. Assumes nothing.
-use Rattle.std.proofs.Common.{◌-◌}
+-- The loop's invariant: the messages left decide the answer. Assumes nothing.
+use Rattle.std.proofs.Common.{◌*◌}
 use Rattle.bursts.proofs.Looking.{Seeking}
 use Rattle.bursts.proofs.too_long.Given as goal
 
-abbrev pub invariant-loop-i : goal.invariant-loop-i
-invariant-loop-i l = Seeking l.messages l.i
-
-abbrev pub decreases-loop-i : goal.decreases-loop-i
-decreases-loop-i l = l.n - l.i
+abbrev pub invariant-loop-turn : goal.invariant-loop-turn
+invariant-loop-turn l = Seeking l.messages (2 * l.turn)

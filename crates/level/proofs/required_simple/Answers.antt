@@ -1,7 +1,7 @@
 -- The members that may be any bytes are read first. If no required row is left then, or none after a sequence, they are all of them; else `required` begins anew, and its rows are put over those that were put. Assumes nothing.
 use borrow.Author.Rules.{rules}
 use native.Mathlib.Omega.{arith}
-use Rattle.level.proofs.Plain.{limit_whole, last_says, last_gives, log_place, log_room, log_count, log_says, log_gives, log_anew, passed_on}
+use Rattle.level.proofs.Plain.{limit_whole, last_says, last_gives, log_place, log_room, log_count, log_says, log_gives, log_anew}
 use Rattle.level.proofs.required_simple.Goals as goal
 
 -- the sums after a sequence, the answer, and the answer where nothing was put: the facts come from the calls before
@@ -17,14 +17,8 @@ returns-then-n-ne0-clause-value c = log_says _ _ _ _ _ _ _ _ _ _ _ c.simples-r.e
 pub returns-then-n-ne0-clause-out_after : goal.returns-then-n-ne0-clause-out_after
 returns-then-n-ne0-clause-out_after c = log_gives _ _ _ _ _ _ _ _ _ _ _ c.simples-r.ensures.due _ c.required_from.ensures.1.0 c.required_from.ensures.1.1 c.if-required_from-end.false _ _ c.last_log-n.ensures c.if-n-ne0.true
 
-pub returns-clause-value : goal.returns-clause-value
-returns-clause-value c = search passed_on
-
 pub returns-clause-out_after : goal.returns-clause-out_after
 returns-clause-out_after c = log_anew _ _ _ _ _ _ _ _ _ _ _ c.simples-r.ensures.due _ c.required_from.ensures.1.0 c.required_from.ensures.1.1 c.if-required_from-end.false _ _ c.last_log-n.ensures c.if-n-ne0.false c.simples-r.ensures.covered _ c.required-2.ensures.out_after
-
-pub returns-then-limit-end-clause-value : goal.returns-then-limit-end-clause-value
-returns-then-limit-end-clause-value c = search passed_on
 
 pub simples-r-requires-clause-whole : goal.simples-r-requires-clause-whole
 simples-r-requires-clause-whole c = search limit_whole

@@ -1,4 +1,4 @@
--- The loop's invariant: the answer and the list follow from the rows that are left, and rows put over those that were put make the list as it was. The measure is the number of rows left. Assumes nothing.
+-- The loop's invariant: the answer and the list follow from the rows that are left, and rows put over those that were put make the list as it was. Assumes nothing.
 use borrow.Author.Rules.{rules}
 use native.Mathlib.Omega.{arith}
 use Rattle.level.specs.FillLaws.{covered_none, covered_next}
@@ -22,12 +22,6 @@ overflow_add-k c = omega arith
 
 pub overflow_add-pos : goal.overflow_add-pos
 overflow_add-pos c = search simple_room
-
-pub overflow_add-m : goal.overflow_add-m
-overflow_add-m c = omega arith
-
-pub loop-m-smaller : goal.loop-m-smaller
-loop-m-smaller c = omega arith
 
 pub loop-m-preserved : goal.loop-m-preserved
 loop-m-preserved c = (search rules, search rules, search simple_next, search (covered_next _ _ _ _ c.loop-m.invariant.3))

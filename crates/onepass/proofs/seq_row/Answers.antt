@@ -3,17 +3,11 @@ use native.Mathlib.Omega.{arith}
 use Rattle.onepass.proofs.Passing.{part_there, single_passed, other_passed}
 use Rattle.onepass.proofs.seq_row.Goals as goal
 
-pub returns-then-is_set_from_b : goal.returns-then-is_set_from_b
-returns-then-is_set_from_b c = λ h. absurd (omega arith)
-
-pub returns-then-no_part : goal.returns-then-no_part
-returns-then-no_part c = λ h. absurd (omega arith)
-
 pub kind_in-requires-clause-t_in_bounds : goal.kind_in-requires-clause-t_in_bounds
 kind_in-requires-clause-t_in_bounds c = omega (arith, part_there _ _ _ _ c.no_part.ensures c.if-no_part.false)
 
 pub returns-then-kind_in-le1 : goal.returns-then-kind_in-le1
-returns-then-kind_in-le1 c = λ h. search single_passed
+returns-then-kind_in-le1 c = search single_passed
 
 pub returns : goal.returns
-returns c = λ h. search other_passed
+returns c = search other_passed

@@ -1,12 +1,10 @@
 -- Endpoints one after another. The loop keeps: what is still to be read makes the whole answer.
+use Rattle.std.proofs.Common.{◌-◌}
 use Rattle.encoding.specs.Result.{times}
 use Rattle.encoding.specs.Proxy.{endpoint as endpoint-of}
 use Rattle.wire.specs.Steps.{step_of}
 use Rattle.wire.specs.StepLaws.{Left}
 use Rattle.proxy.proofs.endpoint_list.Given as goal
 
-abbrev pub invariant-loop-left : goal.invariant-loop-left
-invariant-loop-left l = Left l.s (step_of (times l.n endpoint-of l.s)) (times l.left endpoint-of) l.at
-
-abbrev pub decreases-loop-left : goal.decreases-loop-left
-decreases-loop-left l = l.left
+abbrev pub invariant-loop-i : goal.invariant-loop-i
+invariant-loop-i l = Left l.s (step_of (times l.n endpoint-of l.s)) (times (l.n - l.i) endpoint-of) l.at

@@ -1,5 +1,4 @@
--- The loop's invariant: the rows left to look at decide the answer. The measure is their number. Assumes nothing.
-use native.Mathlib.Omega.{arith}
+-- The rows left to look at decide the answer. Assumes nothing.
 use Rattle.rules.proofs.Judging.{before_begin, before_plain, before_short, before_other, before_here, before_end}
 use Rattle.rules.proofs.is_name_before.Goals as goal
 use Rattle.rules.proofs.is_name_before.Goals.{then-is_record+then-name-row+else-is_named, then-is_record+else-name-row, else-is_record}
@@ -7,17 +6,8 @@ use Rattle.rules.proofs.is_name_before.Goals.{then-is_record+then-name-row+else-
 pub loop-r-init : goal.loop-r-init
 loop-r-init c = search before_begin
 
-pub type_row_in-row-requires-clause-t_in_bounds : goal.type_row_in-row-requires-clause-t_in_bounds
-type_row_in-row-requires-clause-t_in_bounds c = omega arith
-
 pub returns-then-is_named : goal.returns-then-is_named
 returns-then-is_named c = search before_here
-
-pub overflow_add-r : goal.overflow_add-r
-overflow_add-r c = omega arith
-
-pub loop-r-smaller : goal.loop-r-smaller
-loop-r-smaller c = omega arith
 
 pub loop-r-preserved : goal.loop-r-preserved
 loop-r-preserved c = elim c.if-is_record.branch [ then-is_record+then-name-row+else-is_named w ↦ search before_other | then-is_record+else-name-row w ↦ search before_short | else-is_record w ↦ search before_plain ]

@@ -1,5 +1,4 @@
--- The loop's invariant: the entries left rise from the last one. The measure is their number. Assumes nothing.
-use native.Mathlib.Omega.{arith}
+-- The entries left rise from the last one. Assumes nothing.
 use Rattle.rules.proofs.Judging.{rise_none, rise_begin, rise_stop, rise_next, rise_end}
 use Rattle.rules.proofs.rises_to.Goals as goal
 
@@ -11,9 +10,6 @@ loop-i-init c = search rise_begin
 
 pub returns-then-x-last : goal.returns-then-x-last
 returns-then-x-last c = search rise_stop
-
-pub loop-i-smaller : goal.loop-i-smaller
-loop-i-smaller c = omega arith
 
 pub loop-i-preserved : goal.loop-i-preserved
 loop-i-preserved c = search rise_next

@@ -1,10 +1,6 @@
--- The loop's invariant: the rows left decide the answer, `prior` is what the rows before t take, and no row before `from` is a record. The measure is the number of rows left. Assumes nothing.
-use Prim.Native.Nat.{◌-◌}
+-- The rows left decide the answer, `prior` is what the rows before t take, and no row before `from` is a record. Assumes nothing.
 use Rattle.rules.proofs.Judging.{Types}
 use Rattle.rules.proofs.type_rows.Given as goal
 
 abbrev pub invariant-loop-t : goal.invariant-loop-t
 invariant-loop-t l = Types l.table l.n l.t l.prior l.from
-
-abbrev pub decreases-loop-t : goal.decreases-loop-t
-decreases-loop-t l = l.n - l.t

@@ -1,4 +1,4 @@
--- The form that the row's shape says. Assumes nothing.
+-- The form that the row's shape says.
 use mathlib.Core.Path.{ap, ◌∙◌}
 use Rattle.shapes.specs.Shapes.{form_code}
 use Rattle.shapes.proofs.form.Goals as goal

@@ -1,4 +1,4 @@
--- By the width, or by whether the members are fixed_size. Assumes nothing.
+-- By the width, or by whether the members are fixed_size.
 use native.Mathlib.Omega.{arith}
 use Rattle.shapes.proofs.Filling.{struct_wide, struct_other}
 use Rattle.shapes.proofs.struct_shape.Goals as goal

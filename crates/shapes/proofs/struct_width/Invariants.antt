@@ -1,9 +1,7 @@
--- The loop's invariant: the sum so far and the members left to look at decide the answer. The measure is their number. Assumes nothing.
+-- The sum so far and the members left to look at decide the answer.
+use Prim.Native.Nat.{◌-◌}
 use Rattle.shapes.proofs.Filling.{Widths}
 use Rattle.shapes.proofs.struct_width.Given as goal
 
-abbrev pub invariant-loop-left : goal.invariant-loop-left
-invariant-loop-left l = Widths l.table l.t l.m l.left l.sum
-
-abbrev pub decreases-loop-left : goal.decreases-loop-left
-decreases-loop-left l = l.left
+abbrev pub invariant-loop-m : goal.invariant-loop-m
+invariant-loop-m l = Widths l.table l.t l.m (l.end - l.m) l.sum

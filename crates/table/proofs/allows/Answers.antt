@@ -1,4 +1,4 @@
--- Up to the greatest enumerator, or by a search in the row's list. Assumes nothing.
+-- Up to the greatest enumerator, or by a search in the row's list.
 use Rattle.table.proofs.Searches.{allows_plain, allows_all, allows_listed}
 use Rattle.table.proofs.allows.Goals as goal
 use Rattle.table.proofs.allows.Goals.{else-with_lists, then-with_lists+else-row-g}

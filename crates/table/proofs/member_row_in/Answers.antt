@@ -1,4 +1,4 @@
--- Each field from the member row's own 8 bytes. Assumes nothing.
+-- Each field from the member row's own 8 bytes.
 use Rattle.table.proofs.Places.{member_shows, member_type_is, mark_is, member_spare_is, tag_is}
 use Rattle.table.proofs.member_row_in.Goals as goal
 

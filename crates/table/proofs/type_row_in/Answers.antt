@@ -1,4 +1,4 @@
--- Each field from the row's own 12 bytes. Assumes nothing.
+-- Each field from the row's own 12 bytes.
 use native.Mathlib.Omega.{arith}
 use Rattle.table.proofs.Places.{row_shows, kind_is, spare_is, field_is}
 use Rattle.table.proofs.type_row_in.Goals as goal

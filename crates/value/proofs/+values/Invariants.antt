@@ -1,5 +1,5 @@
 -- Each function of the cycle has a bound t, below which the rows of parts lie; it falls from a value to the parts of its row. What is still to be read gives the rest of the answer.
-use Rattle.std.proofs.Common.{◌+◌, ◌*◌}
+use Rattle.std.proofs.Common.{◌+◌, ◌-◌, ◌*◌}
 use Rattle.encoding.specs.Result.{times}
 use Rattle.encoding.specs.Types.{struct}
 use Rattle.encoding.specs.Table.{field, range, member_tys, own_rows, tys, part_ty}
@@ -37,20 +37,11 @@ decreases-struct_value l = 6 * l.t + 5
 abbrev pub decreases-value : goal.decreases-value
 decreases-value l = 6 * l.t
 
-abbrev pub invariant-elements-loop-left : goal.invariant-elements-loop-left
-invariant-elements-loop-left l = Left l.s (step_of (times l.n (value (type_as l.old (part_ty l.table l.t l.e))) l.s)) (times l.left (value (type_as l.old (part_ty l.table l.t l.e)))) l.at
+abbrev pub invariant-elements-loop : goal.invariant-elements-loop
+invariant-elements-loop l = Left l.s (step_of (times l.n (value (type_as l.old (part_ty l.table l.t l.e))) l.s)) (times (l.n - l.counter) (value (type_as l.old (part_ty l.table l.t l.e)))) l.at
 
-abbrev pub decreases-elements-loop-left : goal.decreases-elements-loop-left
-decreases-elements-loop-left l = l.left
+abbrev pub invariant-pairs-loop : goal.invariant-pairs-loop
+invariant-pairs-loop l = Left l.s (step_of (times l.n (entry (type_as l.old (part_ty l.table l.t (field l.table l.t 0))) (type_as l.old (part_ty l.table l.t (field l.table l.t 1)))) l.s)) (times (l.n - l.counter) (entry (type_as l.old (part_ty l.table l.t l.key)) (type_as l.old (part_ty l.table l.t l.val)))) l.at
 
-abbrev pub invariant-pairs-loop-left : goal.invariant-pairs-loop-left
-invariant-pairs-loop-left l = Left l.s (step_of (times l.n (entry (type_as l.old (part_ty l.table l.t (field l.table l.t 0))) (type_as l.old (part_ty l.table l.t (field l.table l.t 1)))) l.s)) (times l.left (entry (type_as l.old (part_ty l.table l.t l.key)) (type_as l.old (part_ty l.table l.t l.val)))) l.at
-
-abbrev pub decreases-pairs-loop-left : goal.decreases-pairs-loop-left
-decreases-pairs-loop-left l = l.left
-
-abbrev pub invariant-struct_value-loop-left : goal.invariant-struct_value-loop-left
-invariant-struct_value-loop-left l = Left l.s (step_of (value (type_as l.old (struct (member_tys l.table (tys l.table l.t) (own_rows l.table l.t)))) l.s)) (values (types_as l.old (member_tys l.table (tys l.table l.t) (range l.m l.left)))) l.at
-
-abbrev pub decreases-struct_value-loop-left : goal.decreases-struct_value-loop-left
-decreases-struct_value-loop-left l = l.left
+abbrev pub invariant-struct_value-loop-m : goal.invariant-struct_value-loop-m
+invariant-struct_value-loop-m l = Left l.s (step_of (value (type_as l.old (struct (member_tys l.table (tys l.table l.t) (own_rows l.table l.t)))) l.s)) (values (types_as l.old (member_tys l.table (tys l.table l.t) (range l.m (field l.table l.t 0 + field l.table l.t 1 - l.m))))) l.at

@@ -2,8 +2,8 @@
 use Rattle.verdict.proofs.Telling.{told_sound, told_broken}
 use Rattle.verdict.proofs.check.Goals as goal
 
-pub returns-in-Fine : goal.returns-in-Fine
-returns-in-Fine c = search told_sound
+pub returns-in-Ok : goal.returns-in-Ok
+returns-in-Ok c = search told_sound
 
-pub returns-in-Broken : goal.returns-in-Broken
-returns-in-Broken c = search told_broken
+pub returns-in-Err : goal.returns-in-Err
+returns-in-Err c = search told_broken

@@ -11,5 +11,5 @@ returns-then-format-eq0 c = search plan_compact
 pub returns-else-format-eq0 : goal.returns-else-format-eq0
 returns-else-format-eq0 c = search plan_sliced
 
-pub returns-in-Nothing : goal.returns-in-Nothing
-returns-in-Nothing c = search plan_none
+pub returns-in-None : goal.returns-in-None
+returns-in-None c = search plan_none

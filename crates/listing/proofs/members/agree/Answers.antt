@@ -2,11 +2,11 @@
 use Rattle.listing.proofs.Walking.{agree_none, agree_one, agree_both}
 use Rattle.listing.proofs.members.agree.Goals as goal
 
-pub returns-then-m-eq0 : goal.returns-then-m-eq0
-returns-then-m-eq0 c = search agree_none
+pub returns-in-Some-k : goal.returns-in-Some-k
+returns-in-Some-k c = search agree_both
 
-pub returns-then-k-eq0 : goal.returns-then-k-eq0
-returns-then-k-eq0 c = search agree_one
+pub returns-in-None-k : goal.returns-in-None-k
+returns-in-None-k c = search agree_one
 
-pub returns : goal.returns
-returns c = search agree_both
+pub returns-in-None : goal.returns-in-None
+returns-in-None c = search agree_none

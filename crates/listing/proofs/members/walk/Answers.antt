@@ -1,8 +1,7 @@
 -- The loop's invariant: the differences from rows a and b on make the rest of the list. The measure is the members left. Assumes nothing.
-use mathlib.Core.Path.{refl}
+use Rattle.std.proofs.Common.{refl, rules, arith}
+use Rattle.listing.specs.ListingLaws.{any_some, any_none}
 use Rattle.listing.proofs.Walking.{walk_falls, walk_begin, walk_below, walk_step, walk_end}
-use borrow.Author.Rules.{rules}
-use native.Mathlib.Omega.{arith}
 use Rattle.listing.proofs.members.walk.Goals as goal
 
 pub loop-a-init : goal.loop-a-init
@@ -12,10 +11,10 @@ pub member-i-requires-clause-t_bound : goal.member-i-requires-clause-t_bound
 member-i-requires-clause-t_bound c = (search rules, search rules, search walk_below)
 
 pub loop-a-smaller : goal.loop-a-smaller
-loop-a-smaller c = search walk_falls
+loop-a-smaller c = search (walk_falls, any_some)
 
 pub loop-a-preserved : goal.loop-a-preserved
-loop-a-preserved c = (search rules, search rules, search rules, search walk_step)
+loop-a-preserved c = (search rules, search rules, search rules, search (walk_step, any_some))
 
 pub returns : goal.returns
-returns c = search walk_end
+returns c = search (walk_end, any_none)

@@ -8,27 +8,27 @@ use Rattle.pairs.proofs.walks.pairs.Goals as goal
 -- the answers at the row without a base, and after another row
 pub returns-then-due-eq0-clause-value : goal.returns-then-due-eq0-clause-value
 returns-then-due-eq0-clause-value c =
-    let E = c.pair-turn.ensures in
-    done_says _ _ _ _ _ _ _ _ _ _ _ c.loop-n.invariant.1 _ E.value _ _ _ c.in-Known.is _ E.out_after _ c.first_of-first.ensures _ c.base-due.ensures.0 c.if-due-eq0.true
+    let E = c.pair.ensures in
+    done_says _ _ _ _ _ _ _ _ _ _ _ c.loop-turn.invariant.1 _ E.value _ c.in-Ok.is _ _ _ c.in-Known.is _ E.out_after _ c.first_of-first.ensures _ c.base-due.ensures.0 c.if-due-eq0.true
 
 pub returns-then-due-eq0-clause-out_after : goal.returns-then-due-eq0-clause-out_after
 returns-then-due-eq0-clause-out_after c =
-    let E = c.pair-turn.ensures in
-    done_gives _ _ _ _ _ _ _ _ _ _ _ c.loop-n.invariant.1 _ E.value _ _ _ c.in-Known.is _ E.out_after _ c.first_of-first.ensures _ c.base-due.ensures.0 c.if-due-eq0.true
+    let E = c.pair.ensures in
+    done_gives _ _ _ _ _ _ _ _ _ _ _ c.loop-turn.invariant.1 _ E.value _ c.in-Ok.is _ _ _ c.in-Known.is _ E.out_after _ c.first_of-first.ensures _ c.base-due.ensures.0 c.if-due-eq0.true
 
-pub loop-n-preserved : goal.loop-n-preserved
-loop-n-preserved c =
-    let E = c.pair-turn.ensures in
-    (search rules, ahead_known c.loop-n.invariant.1 E.value c.in-Known.is E.out_after c.first_of-first.ensures c.base-due.ensures.0 c.if-due-eq0.false)
+pub loop-turn-preserved : goal.loop-turn-preserved
+loop-turn-preserved c =
+    let E = c.pair.ensures in
+    (search rules, ahead_known c.loop-turn.invariant.1 E.value c.in-Ok.is c.in-Known.is E.out_after c.first_of-first.ensures c.base-due.ensures.0 c.if-due-eq0.false)
 
-pub loop-n-init : goal.loop-n-init
-loop-n-init c = (refl, ahead_begin _ _ _ _ _ (search) (omega arith) (search rules))
+pub loop-turn-init : goal.loop-turn-init
+loop-turn-init c = (refl, ahead_begin _ _ _ _ _ (search) (omega arith) (search rules))
 
 pub slice_bounds-pair-count : goal.slice_bounds-pair-count
 slice_bounds-pair-count c = omega arith
 
-pub pair-turn-requires-clause-s_bound : goal.pair-turn-requires-clause-s_bound
-pair-turn-requires-clause-s_bound c = (search asks_place, search asks_count)
+pub pair-requires-clause-s_bound : goal.pair-requires-clause-s_bound
+pair-requires-clause-s_bound c = (search asks_place, search asks_count)
 
 pub overflow_add-pos : goal.overflow_add-pos
 overflow_add-pos c = search skip_fits
@@ -36,23 +36,23 @@ overflow_add-pos c = search skip_fits
 pub overflow_add-skipped : goal.overflow_add-skipped
 overflow_add-skipped c = search skip_count
 
-pub loop-n-smaller-in-Passed : goal.loop-n-smaller-in-Passed
-loop-n-smaller-in-Passed c = search skip_less
+pub loop-turn-smaller-in-Passed : goal.loop-turn-smaller-in-Passed
+loop-turn-smaller-in-Passed c = search skip_less
 
-pub loop-n-preserved-in-Passed : goal.loop-n-preserved-in-Passed
-loop-n-preserved-in-Passed c = (search rules, search ahead_skip)
+pub loop-turn-preserved-in-Passed : goal.loop-turn-preserved-in-Passed
+loop-turn-preserved-in-Passed c = (search rules, search ahead_skip)
 
 pub overflow_add-pos-in-Known : goal.overflow_add-pos-in-Known
 overflow_add-pos-in-Known c = search known_fits
 
-pub loop-n-smaller : goal.loop-n-smaller
-loop-n-smaller c = search known_less
+pub loop-turn-smaller : goal.loop-turn-smaller
+loop-turn-smaller c = search known_less
 
 pub overflow_add-result : goal.overflow_add-result
 overflow_add-result c = search stop_fits
 
-pub returns-in-Wrong-clause-value : goal.returns-in-Wrong-clause-value
-returns-in-Wrong-clause-value c = search stop_says
+pub returns-in-Err-clause-value : goal.returns-in-Err-clause-value
+returns-in-Err-clause-value c = search stop_says
 
-pub returns-in-Wrong-clause-out_after : goal.returns-in-Wrong-clause-out_after
-returns-in-Wrong-clause-out_after c = search stop_gives
+pub returns-in-Err-clause-out_after : goal.returns-in-Err-clause-out_after
+returns-in-Err-clause-out_after c = search stop_gives

@@ -7,8 +7,8 @@ use Rattle.pairs.specs.Pairs.{left}
 use Rattle.pairs.proofs.Walking.{Ahead}
 use Rattle.pairs.proofs.walks.pairs.Given as goal
 
-abbrev pub invariant-loop-n : goal.invariant-loop-n
-invariant-loop-n l = (length l.out ≡ length l.initial.out) × Ahead l.table l.top l.m (left l.table any_pair l.start 0 0 0 l.initial.out (id_pairs l.table l.top (drop l.start l.m))) l.due l.pos l.count l.skipped l.first l.out
+abbrev pub invariant-loop-turn : goal.invariant-loop-turn
+invariant-loop-turn l = (length l.out ≡ length l.initial.out) × Ahead l.table l.top l.m (left l.table any_pair l.start 0 0 0 l.initial.out (id_pairs l.table l.top (drop l.start l.m))) l.due l.pos l.count l.skipped l.first l.out
 
-abbrev pub decreases-loop-n : goal.decreases-loop-n
-decreases-loop-n l = length l.m - l.pos
+abbrev pub decreases-loop-turn : goal.decreases-loop-turn
+decreases-loop-turn l = length l.m - l.pos

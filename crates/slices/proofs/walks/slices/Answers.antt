@@ -10,23 +10,23 @@ use Rattle.slices.proofs.walks.slices.Goals as goal
 pub loop-more-init : goal.loop-more-init
 loop-more-init c =
     let I = c.slices.invariant.1 in
-    let O = c.opening-o.ensures in
+    let O = c.opening.ensures in
     let K = c.in-Known.is in
-    let R = c.required-members.ensures in
-    let W = c.in-Read.is in
-    (refl, outer_answer _ _ _ _ _ _ _ _ _ _ _ _ I _ O _ _ _ _ _ K _ R.value _ _ _ W _ R.out_after, outer_in I O K R.value W c.member_end-stop.ensures.0 _)
+    let R = c.required.ensures in
+    let W = c.in-Ok-required.is in
+    (refl, outer_answer _ _ _ _ _ _ _ _ _ _ _ _ I _ O _ c.in-Ok.is _ _ _ _ _ K _ R.value _ W _ R.out_after, outer_in I O c.in-Ok.is K R.value W c.member_end-stop.ensures.0 _)
 
 pub slices-preserved : goal.slices-preserved
 slices-preserved c =
-    let R = c.required-members.ensures in
-    let S = outer_same c.slices.invariant.1 c.opening-o.ensures c.in-Known.is R.value c.in-Read.is R.out_after in
+    let R = c.required.ensures in
+    let S = outer_same c.slices.invariant.1 c.opening.ensures c.in-Ok.is c.in-Known.is R.value c.in-Ok-required.is R.out_after in
     (c.loop-more.invariant.0 ∙ R.out_len_unchanged ∙ c.slices.invariant.0, outer_join S (inner_out c.loop-more.invariant.2 c.loop-more-test.false c.left_over.ensures c.if-left_over.false c.first_of-first.ensures c.base-b.ensures.0 c.if-b-eq0.false))
 
-pub returns-in-Wrong-x-clause-value : goal.returns-in-Wrong-x-clause-value
-returns-in-Wrong-x-clause-value c = search stopped_says
+pub returns-in-Err-quick_next-clause-value : goal.returns-in-Err-quick_next-clause-value
+returns-in-Err-quick_next-clause-value c = search stopped_says
 
-pub returns-in-Wrong-x-clause-out_after : goal.returns-in-Wrong-x-clause-out_after
-returns-in-Wrong-x-clause-out_after c = search stopped_gives
+pub returns-in-Err-quick_next-clause-out_after : goal.returns-in-Err-quick_next-clause-out_after
+returns-in-Err-quick_next-clause-out_after c = search stopped_gives
 
 pub returns-then-left_over-clause-value : goal.returns-then-left_over-clause-value
 returns-then-left_over-clause-value c = search (over_says, c.loop-more.invariant.2)
@@ -36,8 +36,8 @@ returns-then-left_over-clause-out_after c = search over_gives
 
 pub returns-then-b-eq0 : goal.returns-then-b-eq0
 returns-then-b-eq0 c =
-    let R = c.required-members.ensures in
-    let E = ends_same (outer_same c.slices.invariant.1 c.opening-o.ensures c.in-Known.is R.value c.in-Read.is R.out_after) (inner_done c.loop-more.invariant.2 c.loop-more-test.false c.left_over.ensures c.if-left_over.false c.first_of-first.ensures c.base-b.ensures.0 c.if-b-eq0.true c.format_number.ensures) in
+    let R = c.required.ensures in
+    let E = ends_same (outer_same c.slices.invariant.1 c.opening.ensures c.in-Ok.is c.in-Known.is R.value c.in-Ok-required.is R.out_after) (inner_done c.loop-more.invariant.2 c.loop-more-test.false c.left_over.ensures c.if-left_over.false c.first_of-first.ensures c.base-b.ensures.0 c.if-b-eq0.true c.format_number.ensures) in
     record { value = ends_says _ _ _ _ _ _ E; out_len_unchanged = c.loop-more.invariant.0 ∙ R.out_len_unchanged ∙ c.slices.invariant.0; out_after = ends_gives _ _ _ _ _ _ E }
 
 pub slices-init : goal.slices-init
@@ -73,8 +73,8 @@ slice_bounds-required-start c = search (rules, known_order)
 pub slice_bounds-required-end : goal.slice_bounds-required-end
 slice_bounds-required-end c = search (rules, known_within)
 
-pub required-members-requires-clause-s_bound : goal.required-members-requires-clause-s_bound
-required-members-requires-clause-s_bound c = (search asks_place, search asks_count)
+pub required-requires-clause-s_bound : goal.required-requires-clause-s_bound
+required-requires-clause-s_bound c = (search asks_place, search asks_count)
 
 pub overflow_add-at : goal.overflow_add-at
 overflow_add-at c = search (rules, at_fits)
@@ -82,41 +82,41 @@ overflow_add-at c = search (rules, at_fits)
 pub slice_bounds-quick_next-count : goal.slice_bounds-quick_next-count
 slice_bounds-quick_next-count c = omega arith
 
-pub quick_next-x-requires-clause-begin_value : goal.quick_next-x-requires-clause-begin_value
-quick_next-x-requires-clause-begin_value c = c.requires.begin_value
+pub quick_next-requires-clause-begin_value : goal.quick_next-requires-clause-begin_value
+quick_next-requires-clause-begin_value c = c.requires.begin_value
 
-pub quick_next-x-requires-clause-first_value : goal.quick_next-x-requires-clause-first_value
-quick_next-x-requires-clause-first_value c = c.members_at-place.ensures
+pub quick_next-requires-clause-first_value : goal.quick_next-requires-clause-first_value
+quick_next-requires-clause-first_value c = c.members_at-place.ensures
 
-pub quick_next-x-requires-clause-whole : goal.quick_next-x-requires-clause-whole
-quick_next-x-requires-clause-whole c = (c.whole-limit.ensures.1, c.whole-limit.ensures.0)
+pub quick_next-requires-clause-whole : goal.quick_next-requires-clause-whole
+quick_next-requires-clause-whole c = (c.whole-limit.ensures.1, c.whole-limit.ensures.0)
 
-pub quick_next-x-requires-clause-shapes_value : goal.quick_next-x-requires-clause-shapes_value
-quick_next-x-requires-clause-shapes_value c = c.requires.shapes_value
+pub quick_next-requires-clause-shapes_value : goal.quick_next-requires-clause-shapes_value
+quick_next-requires-clause-shapes_value c = c.requires.shapes_value
 
-pub quick_next-x-requires-clause-stop_bound : goal.quick_next-x-requires-clause-stop_bound
-quick_next-x-requires-clause-stop_bound c = search inner_bound
+pub quick_next-requires-clause-stop_bound : goal.quick_next-requires-clause-stop_bound
+quick_next-requires-clause-stop_bound c = search inner_bound
 
-pub overflow_add-at-in-End : goal.overflow_add-at-in-End
-overflow_add-at-in-End c = search end_mark_fits
+pub overflow_add-at-in-None : goal.overflow_add-at-in-None
+overflow_add-at-in-None c = search end_mark_fits
 
-pub loop-more-smaller-in-End : goal.loop-more-smaller-in-End
-loop-more-smaller-in-End c = search end_less
+pub loop-more-smaller-in-None : goal.loop-more-smaller-in-None
+loop-more-smaller-in-None c = search end_less
 
-pub loop-more-preserved-in-End : goal.loop-more-preserved-in-End
-loop-more-preserved-in-End c = (search rules, search rules, search inner_end)
+pub loop-more-preserved-in-None : goal.loop-more-preserved-in-None
+loop-more-preserved-in-None c = (search rules, search rules, search inner_end)
 
-pub overflow_add-at-in-Known-x : goal.overflow_add-at-in-Known-x
-overflow_add-at-in-Known-x c = search place_fits
+pub overflow_add-at-in-Known-optional : goal.overflow_add-at-in-Known-optional
+overflow_add-at-in-Known-optional c = search place_fits
 
-pub overflow_sub-l : goal.overflow_sub-l
-overflow_sub-l c = search known_starts
+pub overflow_sub-bytes : goal.overflow_sub-bytes
+overflow_sub-bytes c = search known_starts
 
 pub overflow_add-count : goal.overflow_add-count
 overflow_add-count c = search count_fits
 
-pub overflow_add-at-in-Known-x-2 : goal.overflow_add-at-in-Known-x-2
-overflow_add-at-in-Known-x-2 c = search next_fits
+pub overflow_add-at-in-Known-optional-2 : goal.overflow_add-at-in-Known-optional-2
+overflow_add-at-in-Known-optional-2 c = search next_fits
 
 pub overflow_add-least : goal.overflow_add-least
 overflow_add-least c = search tag_fits
@@ -127,11 +127,11 @@ behind-row-requires-clause-first_value c = c.members_at-place.ensures
 pub behind-row-requires-clause-m_bound : goal.behind-row-requires-clause-m_bound
 behind-row-requires-clause-m_bound c = search member_few
 
-pub loop-more-smaller-in-Known-x : goal.loop-more-smaller-in-Known-x
-loop-more-smaller-in-Known-x c = search known_less
+pub loop-more-smaller-in-Known-optional : goal.loop-more-smaller-in-Known-optional
+loop-more-smaller-in-Known-optional c = search known_less
 
-pub loop-more-preserved-in-Known-x : goal.loop-more-preserved-in-Known-x
-loop-more-preserved-in-Known-x c = (search put_keeps, search rules, search (inner_known, c.loop-more.invariant.2, c.quick_next-x.ensures, c.in-Known-x.is, c.behind-row.ensures))
+pub loop-more-preserved-in-Known-optional : goal.loop-more-preserved-in-Known-optional
+loop-more-preserved-in-Known-optional c = (search put_keeps, search rules, search (inner_known, c.loop-more.invariant.2, c.quick_next.ensures, c.in-Ok-quick_next.is, c.in-Known-optional.is, c.behind-row.ensures))
 
 pub overflow_add-optionals : goal.overflow_add-optionals
 overflow_add-optionals c = search skipped_count
@@ -146,13 +146,10 @@ pub loop-more-smaller : goal.loop-more-smaller
 loop-more-smaller c = search skipped_less
 
 pub loop-more-preserved : goal.loop-more-preserved
-loop-more-preserved c = (search rules, search rules, search (inner_skipped, c.loop-more.invariant.2, c.quick_next-x.ensures, c.in-Skipped.is))
+loop-more-preserved c = (search rules, search rules, search (inner_skipped, c.loop-more.invariant.2, c.quick_next.ensures, c.in-Ok-quick_next.is, c.in-Skipped.is))
 
-pub overflow_add-at-in-Wrong-x : goal.overflow_add-at-in-Wrong-x
-overflow_add-at-in-Wrong-x c = search stop_fits
-
-pub overflow_sub-answer : goal.overflow_sub-answer
-overflow_sub-answer c = search size_place
+pub overflow_sub-result : goal.overflow_sub-result
+overflow_sub-result c = search size_place
 
 pub base-b-requires : goal.base-b-requires
 base-b-requires c = c.requires.begin_value
@@ -160,29 +157,29 @@ base-b-requires c = c.requires.begin_value
 pub slices-smaller : goal.slices-smaller
 slices-smaller c = omega arith
 
-pub overflow_add-from-in-Refused : goal.overflow_add-from-in-Refused
-overflow_add-from-in-Refused c = search (rules, refused_fits)
-
-pub overflow_add-pos-in-Wrong : goal.overflow_add-pos-in-Wrong
-overflow_add-pos-in-Wrong c = search (rules, wrong_fits)
-
-pub shape_of-out-in-Wrong-x : goal.shape_of-out-in-Wrong-x
-shape_of-out-in-Wrong-x c = search (rules, c.slices)
-
 pub shape_of-out-then-left_over : goal.shape_of-out-then-left_over
 shape_of-out-then-left_over c = search (rules, c.slices)
 
 pub shape_of-out-then-b-eq0 : goal.shape_of-out-then-b-eq0
 shape_of-out-then-b-eq0 c = search (rules, c.slices)
 
-pub returns-in-Refused-clause-value : goal.returns-in-Refused-clause-value
-returns-in-Refused-clause-value c = search refused_says
+pub returns-in-Err-required-clause-value : goal.returns-in-Err-required-clause-value
+returns-in-Err-required-clause-value c = search refused_says
 
-pub returns-in-Refused-clause-out_after : goal.returns-in-Refused-clause-out_after
-returns-in-Refused-clause-out_after c = search refused_gives
+pub returns-in-Err-required-clause-out_after : goal.returns-in-Err-required-clause-out_after
+returns-in-Err-required-clause-out_after c = search refused_gives
 
-pub returns-in-Wrong-clause-value : goal.returns-in-Wrong-clause-value
-returns-in-Wrong-clause-value c = search wrong_says
+pub returns-in-Err-clause-value : goal.returns-in-Err-clause-value
+returns-in-Err-clause-value c = search wrong_says
 
-pub returns-in-Wrong-clause-out_after : goal.returns-in-Wrong-clause-out_after
-returns-in-Wrong-clause-out_after c = search wrong_gives
+pub returns-in-Err-clause-out_after : goal.returns-in-Err-clause-out_after
+returns-in-Err-clause-out_after c = search wrong_gives
+
+pub stopped-requires : goal.stopped-requires
+stopped-requires c = search (rules, wrong_fits)
+
+pub stopped-requires-in-Err-quick_next : goal.stopped-requires-in-Err-quick_next
+stopped-requires-in-Err-quick_next c = search (rules, stop_fits)
+
+pub stopped-requires-in-Err-required : goal.stopped-requires-in-Err-required
+stopped-requires-in-Err-required c = search (rules, refused_fits)

@@ -1,4 +1,4 @@
--- The loop's invariant: the entries that are left decide. The measure is their number. Assumes nothing.
+-- The loop's invariant: the entries that are left decide. The measure is their number.
 use native.Mathlib.Omega.{arith}
 use Rattle.table.proofs.Searches.{search_begin, search_here, search_after, search_before, search_end}
 use Rattle.table.proofs.allowed.searched.Goals as goal

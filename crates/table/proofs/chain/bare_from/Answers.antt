@@ -1,4 +1,4 @@
--- The loop's invariant: i is the first required row from row `from` on, or `end`. The measure is the number of rows left. Assumes nothing.
+-- The loop's invariant: i is the first required row from row `from` on, or `end`. The measure is the number of rows left.
 use native.Mathlib.Omega.{arith}
 use Rattle.table.proofs.Chains.{bare_end}
 use Rattle.table.proofs.chain.bare_from.Goals as goal

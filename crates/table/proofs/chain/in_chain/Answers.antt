@@ -1,4 +1,4 @@
--- The loop's invariant: the chain from the row at hand decides the answer. The measure is the row number, since a base is smaller. Assumes nothing.
+-- The loop's invariant: the chain from the row at hand decides the answer. The measure is the row number, since a base is smaller.
 use mathlib.Core.Path.{refl}
 use native.Mathlib.Omega.{arith}
 use Rattle.table.proofs.Chains.{top_here, top_end, top_next}

@@ -1,4 +1,4 @@
--- The loop's invariant: the chain from the row at hand decides the answer. The measure is the row number, since a base is smaller. Assumes nothing.
+-- The loop's invariant: the chain from the row at hand decides the answer. The measure is the row number, since a base is smaller.
 use mathlib.Core.Path.{refl}
 use native.Mathlib.Omega.{arith}
 use Rattle.table.proofs.Chains.{owner_here, owner_end, owner_next}

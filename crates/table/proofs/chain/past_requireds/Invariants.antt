@@ -1,10 +1,7 @@
--- The loop's invariant: the rows from the one looked at decide the answer. The measure is the number of rows left. Assumes nothing.
-use Prim.Native.Nat.{◌-◌}
+-- The loop's invariant: the rows from the one looked at decide the answer.
+use Prim.Native.Nat.{◌+◌, ◌*◌}
 use Rattle.table.proofs.Chains.{Searching}
 use Rattle.table.proofs.chain.past_requireds.Given as goal
 
-abbrev pub invariant-loop-i : goal.invariant-loop-i
-invariant-loop-i l = Searching l.table l.m l.end l.i
-
-abbrev pub decreases-loop-i : goal.decreases-loop-i
-decreases-loop-i l = l.end - l.i
+abbrev pub invariant-loop-k : goal.invariant-loop-k
+invariant-loop-k l = Searching l.table l.m l.end (l.m + 4 * l.k)

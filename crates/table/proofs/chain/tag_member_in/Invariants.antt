@@ -1,10 +1,6 @@
--- The loop's invariant: the members left to look at decide the answer. The measure is their number. Assumes nothing.
-use Prim.Native.Nat.{◌-◌}
+-- The loop's invariant: the members left to look at decide the answer.
 use Rattle.table.proofs.Chains.{Optionals}
 use Rattle.table.proofs.chain.tag_member_in.Given as goal
 
 abbrev pub invariant-loop-m : goal.invariant-loop-m
 invariant-loop-m l = Optionals l.table l.end l.from l.tag l.m
-
-abbrev pub decreases-loop-m : goal.decreases-loop-m
-decreases-loop-m l = l.end - l.m

@@ -1,22 +1,14 @@
--- The loop's invariant: the rows left to look at decide the answer. The measure is their number. Assumes nothing.
-use native.Mathlib.Omega.{arith}
-use Rattle.table.proofs.Labels.{naming_begin, naming_here, naming_next, naming_end}
+-- The first row of the name, among the table's rows.
+use borrow.Author.Rules.{rules}
+use mathlib.Core.Bool.{true, false}
+use mathlib.Core.Path.{◌≡◌}
+use Rattle.std.proofs.lemmas.Iterator.{first_from_Range}
+use Rattle.table.specs.Names.{is_named}
+use Rattle.table.proofs.Labels.{named_first}
 use Rattle.table.proofs.naming.named.Goals as goal
 
-pub loop-t-init : goal.loop-t-init
-loop-t-init c = search naming_begin
-
-pub returns-then-is_record_named : goal.returns-then-is_record_named
-returns-then-is_record_named c = search naming_here
-
-pub overflow_add-t : goal.overflow_add-t
-overflow_add-t c = omega arith
-
-pub loop-t-smaller : goal.loop-t-smaller
-loop-t-smaller c = omega arith
-
-pub loop-t-preserved : goal.loop-t-preserved
-loop-t-preserved c = search naming_next
-
 pub returns : goal.returns
-returns c = search naming_end
+returns c =
+    named_first _ _ _ c.types.ensures.0 _
+    (first_from_Range _ _ _ _ (λ k. is_named c.args.table.now c.args.name.now k ≡ true) (λ k. is_named c.args.table.now c.args.name.now k ≡ false) c.find.ensures.ran
+    (λ x q k. search rules) (λ x q k. search rules))

@@ -1,10 +1,16 @@
 -- What was passed is bools; the loop ends where fewer than thirty-two are left, or at a block that is not all bools. Assumes nothing.
-use borrow.Author.Rules.{rules}
-use Rattle.value.proofs.BoolLaws.{bools_none, bools_turn}
+use native.Mathlib.Omega.{arith}
+use Rattle.value.proofs.BoolLaws.{bools_none, blocks_turn, bools_end}
 use Rattle.value.proofs.plain.bool_blocks.Goals as goal
 
-pub loop-at-init : goal.loop-at-init
-loop-at-init c = search (rules, bools_none)
+pub loop-k-init : goal.loop-k-init
+loop-k-init c = bools_none _
 
-pub loop-at-preserved : goal.loop-at-preserved
-loop-at-preserved c = search (rules, bools_turn)
+pub loop-k-preserved : goal.loop-k-preserved
+loop-k-preserved c = search blocks_turn
+
+pub returns-then-not-block_of_bools : goal.returns-then-not-block_of_bools
+returns-then-not-block_of_bools c = (omega arith, c.loop-k.invariant)
+
+pub returns : goal.returns
+returns c = (omega arith, bools_end _ _ _ c.loop-k.invariant (omega arith))

@@ -1,4 +1,5 @@
--- The loop's invariant: the rows from the next on give the pieces still to be measured. The measure is the rows left. Assumes nothing.
+-- The loop's invariant: the rows from the next on give the pieces still to be measured. Assumes nothing.
+use Rattle.std.proofs.Common.{ap, ◌∙◌, Ok}
 use native.Mathlib.Omega.{arith}
 use Rattle.writer.proofs.Groups.{grouping_begin, tags_next, tags_small, tags_wrong, tags_stop, tags_end}
 use Rattle.writer.proofs.measure.measure_optionals.Goals as goal
@@ -6,38 +7,20 @@ use Rattle.writer.proofs.measure.measure_optionals.Goals as goal
 pub loop-i-init : goal.loop-i-init
 loop-i-init c = grouping_begin _ _ _ _ _ _ _ _ _ _ c.requires.start_bound.1
 
-pub may-p-requires-clause-begin_value : goal.may-p-requires-clause-begin_value
-may-p-requires-clause-begin_value c = c.requires.begin_value
-
-pub may-p-requires-clause-shapes_value : goal.may-p-requires-clause-shapes_value
-may-p-requires-clause-shapes_value c = c.requires.shapes_value
-
-pub may-p-requires-clause-first_value : goal.may-p-requires-clause-first_value
-may-p-requires-clause-first_value c = c.requires.first_value
-
-pub may-p-requires-clause-a_value : goal.may-p-requires-clause-a_value
-may-p-requires-clause-a_value c = c.requires.a_value
-
-pub may-p-requires-clause-at_bound : goal.may-p-requires-clause-at_bound
-may-p-requires-clause-at_bound c = (omega (arith, c.loop-i.invariant.few, c.loop-i.invariant.within, c.requires.start_bound.0, c.requires.start_bound.2), omega (arith, c.loop-i-test.true, c.requires.start_bound.2), c.requires.start_bound.3)
+pub may-requires-clause-at_bound : goal.may-requires-clause-at_bound
+may-requires-clause-at_bound c = (omega (arith, c.loop-i.invariant.few, c.loop-i.invariant.within, c.requires.start_bound.0, c.requires.start_bound.2), omega (arith, c.loop-i-test.true, c.requires.start_bound.2), c.requires.start_bound.3)
 
 pub overflow_add-least : goal.overflow_add-least
-overflow_add-least c = omega (arith, tags_small _ _ _ _ _ _ _ _ _ _ _ _ _ _ _ c.loop-i.invariant c.loop-i-test.true _ _ c.may-p.ensures _ _ c.in-Row.is)
-
-pub overflow_add-i : goal.overflow_add-i
-overflow_add-i c = omega arith
-
-pub loop-i-smaller : goal.loop-i-smaller
-loop-i-smaller c = omega arith
+overflow_add-least c = omega (arith, tags_small _ _ _ _ _ _ _ _ _ _ _ _ _ _ _ c.loop-i.invariant c.loop-i-test.true _ _ c.may.ensures _ (c.in-Ok.is ∙ ap Ok c.in-Some.is))
 
 pub loop-i-preserved : goal.loop-i-preserved
-loop-i-preserved c = tags_next _ _ _ _ _ _ _ _ _ _ _ _ _ _ _ c.loop-i.invariant c.loop-i-test.true _ _ c.may-p.ensures _ _ c.in-Row.is
+loop-i-preserved c = tags_next _ _ _ _ _ _ _ _ _ _ _ _ _ _ _ c.loop-i.invariant c.loop-i-test.true _ _ c.may.ensures _ (c.in-Ok.is ∙ ap Ok c.in-Some.is)
 
-pub returns-in-Stop : goal.returns-in-Stop
-returns-in-Stop c = rw c.laid_of.ensures (tags_stop _ _ _ _ _ _ _ _ _ _ _ _ _ _ _ c.loop-i.invariant c.loop-i-test.true _ _ c.may-p.ensures c.in-Stop.is)
+pub returns-in-None : goal.returns-in-None
+returns-in-None c = rw c.laid_of-in-None.ensures (tags_stop _ _ _ _ _ _ _ _ _ _ _ _ _ _ _ c.loop-i.invariant c.loop-i-test.true _ _ c.may.ensures (c.in-Ok.is ∙ ap Ok c.in-None.is))
 
-pub returns-in-Wrong : goal.returns-in-Wrong
-returns-in-Wrong c = rw c.laid_of-in-Wrong.ensures (tags_wrong _ _ _ _ _ _ _ _ _ _ _ _ _ _ _ c.loop-i.invariant c.loop-i-test.true _ _ c.may-p.ensures _ c.in-Wrong.is)
+pub returns-in-Err : goal.returns-in-Err
+returns-in-Err c = rw c.laid_of.ensures (tags_wrong _ _ _ _ _ _ _ _ _ _ _ _ _ _ _ c.loop-i.invariant c.loop-i-test.true _ _ c.may.ensures _ c.in-Err.is)
 
 pub returns : goal.returns
 returns c = rw c.laid_of-2.ensures (tags_end _ _ _ _ _ _ _ _ _ _ _ _ _ _ _ c.loop-i.invariant c.loop-i-test.false)

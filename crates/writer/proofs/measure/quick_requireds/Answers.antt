@@ -43,8 +43,8 @@ quick_due-d-requires-clause-at_bound c = (search at_small, omega arith, search r
 pub overflow_add-i : goal.overflow_add-i
 overflow_add-i c = omega arith
 
-pub overflow_add-k-in-Row : goal.overflow_add-k-in-Row
-overflow_add-k-in-Row c = omega arith
+pub overflow_add-k-in-Ok : goal.overflow_add-k-in-Ok
+overflow_add-k-in-Ok c = omega arith
 
 pub loop-k-smaller : goal.loop-k-smaller
 loop-k-smaller c = omega arith

@@ -1,4 +1,4 @@
--- The loop's invariant: so many member rows are passed, and the rows from the next on give the pieces still to be put, after the bytes that wait. The measure is the member rows left. Assumes nothing.
+-- The loop's invariant: so many member rows are passed, and the rows from the next on give the pieces still to be put, after the bytes that wait. Assumes nothing.
 use borrow.Author.Rules.{rules}
 use Prim.Native.Nat.{◌+◌, ◌≤◌}
 use mathlib.Core.Path.{refl}
@@ -19,12 +19,6 @@ mark_from-requires-clause-first_value c = c.requires.first_value.0
 
 pub mark_from-requires-clause-first_bound : goal.mark_from-requires-clause-first_bound
 mark_from-requires-clause-first_bound c = (c.requires.first_value.1, omega (arith, c.requires.a_value.2, c.requires.a_value.3))
-
-pub overflow_add-k : goal.overflow_add-k
-overflow_add-k c = omega arith
-
-pub loop-k-smaller-then-mark_from-ne0 : goal.loop-k-smaller-then-mark_from-ne0
-loop-k-smaller-then-mark_from-ne0 c = omega arith
 
 pub loop-k-preserved-then-mark_from-ne0 : goal.loop-k-preserved-then-mark_from-ne0
 loop-k-preserved-then-mark_from-ne0 c = (c.loop-k.invariant.0, omega arith, c.loop-k.invariant.2, pass_over _ _ _ _ _ _ _ _ _ _ _ _ _ _ _ c.loop-k.invariant.3 _ _ _ c.requires.a_value.0 c.requires.a_value.1 c.loop-k-test.true c.mark_from.ensures c.if-mark_from-ne0.true)
@@ -53,26 +47,11 @@ overflow_add-len c = let h : c.row_in-row.result.place + c.row_in-row.result.len
 pub overflow_add-i : goal.overflow_add-i
 overflow_add-i c = omega (arith, c.if-count-i.false, c.requires.start_bound.2)
 
-pub overflow_add-k-then-row-place : goal.overflow_add-k-then-row-place
-overflow_add-k-then-row-place c = omega (arith, c.requires.a_value.3)
-
-pub loop-k-smaller-then-row-place : goal.loop-k-smaller-then-row-place
-loop-k-smaller-then-row-place c = omega (arith, c.loop-k-test.true)
-
 pub loop-k-preserved-then-row-place : goal.loop-k-preserved-then-row-place
 loop-k-preserved-then-row-place c = let h : c.row_in-row.result.place + c.row_in-row.result.len ≤ length c.args.buffer.now = part_inside _ _ _ _ c.fits.ensures c.if-not-fits.false in (c.loop-k.invariant.0, omega (arith, c.loop-k-test.true), omega (arith, c.if-row-place.true, h, c.requires.start_bound.3), run_more _ _ _ _ _ _ _ _ _ c.loop-k.place c.loop-k.len _ _ _ _ c.loop-k.invariant.3 c.if-count-i.false _ c.row_in-row.ensures _ (is_due _ _ _ _ _ _ c.requires.a_value.0 c.requires.a_value.1 c.loop-k-test.true c.mark_from.ensures c.if-mark_from-ne0.false) c.if-row-a.false (omega (arith, h, c.requires.start_bound.3)) c.if-row-place.true)
 
 pub put_content-at-requires : goal.put_content-at-requires
 put_content-at-requires c = (omega (arith, c.loop-k.invariant.3.few, c.loop-k.invariant.3.within, c.requires.start_bound.0, c.requires.start_bound.2), c.requires.start_bound.3)
-
-pub overflow_add-i-in-loop-k : goal.overflow_add-i-in-loop-k
-overflow_add-i-in-loop-k c = omega (arith, c.if-count-i.false, c.requires.start_bound.2)
-
-pub overflow_add-k-in-loop-k : goal.overflow_add-k-in-loop-k
-overflow_add-k-in-loop-k c = omega (arith, c.requires.a_value.3)
-
-pub loop-k-smaller : goal.loop-k-smaller
-loop-k-smaller c = omega (arith, c.loop-k-test.true)
 
 pub loop-k-preserved : goal.loop-k-preserved
 loop-k-preserved c = let h : c.row_in-row.result.place + c.row_in-row.result.len ≤ length c.args.buffer.now = part_inside _ _ _ _ c.fits.ensures c.if-not-fits.false in (search rules, omega (arith, c.loop-k-test.true), omega (arith, h, c.requires.start_bound.3), run_anew _ _ _ _ _ _ _ _ _ c.loop-k.place c.loop-k.len _ _ _ _ c.loop-k.invariant.3 c.if-count-i.false _ c.row_in-row.ensures _ (is_due _ _ _ _ _ _ c.requires.a_value.0 c.requires.a_value.1 c.loop-k-test.true c.mark_from.ensures c.if-mark_from-ne0.false) c.if-row-a.false (omega (arith, h, c.requires.start_bound.3)) _ _ c.put_content-at.ensures.0)

@@ -1,4 +1,4 @@
--- The loop's invariant: so many member rows are passed, and the rows from the next on give the pieces still to be put, after the bytes that wait. The measure is the member rows left. Assumes nothing.
+-- The loop's invariant: so many member rows are passed, and the rows from the next on give the pieces still to be put, after the bytes that wait. Assumes nothing.
 use Prim.Native.Nat.{◌+◌, ◌-◌, ◌≤◌}
 use mathlib.Core.Path.{◌≡◌}
 use mathlib.Core.Bool.{true, false}
@@ -9,6 +9,3 @@ use Rattle.writer.proofs.slice.put_requireds.Given as goal
 
 abbrev pub invariant-loop-k : goal.invariant-loop-k
 invariant-loop-k l = (length l.out ≡ length l.initial.out) × (l.k ≤ l.b) × (l.place + l.len ≤ 65536) × Grouping l.table l.old l.rows l.buffer true l.count (due_at l.o 0) l.from l.start l.initial.out (take l.len (drop l.place l.buffer)) (due_at l.o l.k) l.at l.i false l.out
-
-abbrev pub decreases-loop-k : goal.decreases-loop-k
-decreases-loop-k l = l.b - l.k
