@@ -55,10 +55,10 @@ module _ (S T : List ℕ) where
       unfolding member_difference given
       member_same q = rw (← e, q) (listed_none n out)
 
-      pub member_differs : b ≡ false → (x y : ℕ) → x ≡ m → y ≡ k → (last : List ℕ) (r : ℕ) → Listed (record { what = what; owner = t + 1; owner' = u + 1; member = x; member' = y } ∷ []) n out last r
+      pub member_differs : b ≡ false → (w x y : ℕ) → w ≡ what → x ≡ m → y ≡ k → (last : List ℕ) (r : ℕ) → Listed (record { what = w; owner = t + 1; owner' = u + 1; member = x; member' = y } ∷ []) n out last r
           → Listed (member_difference S T what t u m k) n out last r
       unfolding member_difference given
-      member_differs q x y ex ey last r A = listed_as n out _ _ (rw (← e, q, ex, ey, add-one, add-one)) last r A
+      member_differs q w x y ew ex ey last r A = listed_as n out _ _ (rw (← e, q, ew, ex, ey, add-one, add-one)) last r A
 
   -- ---- the bases
 
@@ -88,10 +88,10 @@ module _ (S T : List ℕ) where
     unfolding base_difference given
     bases_same q = rw (bases_step, q) (listed_none n out)
 
-    pub bases_other : d ≡ true → (last : List ℕ) (r : ℕ) → Listed (record { what = 1; owner = t + 1; owner' = u + 1; member = 0; member' = 0 } ∷ []) n out last r
+    pub bases_other : d ≡ true → (w : ℕ) → w ≡ 1 → (last : List ℕ) (r : ℕ) → Listed (record { what = w; owner = t + 1; owner' = u + 1; member = 0; member' = 0 } ∷ []) n out last r
         → Listed (base_difference S T t u) n out last r
     unfolding base_difference given
-    bases_other q last r A = listed_as n out _ _ (rw (bases_step, q, add-one, add-one)) last r A
+    bases_other q w ew last r A = listed_as n out _ _ (rw (bases_step, q, ew, add-one, add-one)) last r A
 
   -- ---- tags
 
@@ -158,16 +158,16 @@ module _ (S T : List ℕ) where
             (listed_more n out (base_difference S T t u) (required_differences S T t u) l l' i j A B) C
 
   module _ (o p : Option ℕ) (n : ℕ) (out last : List ℕ) (r : ℕ) where
-    pub pair_new : o ≡ None → (x : ℕ) → x ≡ row_number p → Listed (record { what = 0; owner = 0; owner' = x; member = 0; member' = 0 } ∷ []) n out last r
+    pub pair_new : o ≡ None → (w x : ℕ) → w ≡ 0 → x ≡ row_number p → Listed (record { what = w; owner = 0; owner' = x; member = 0; member' = 0 } ∷ []) n out last r
         → Listed (pair_differences S T (row_number o) (row_number p)) n out last r
     unfolding pair_differences
-    pair_new e x ex A = listed_as n out _ _ (rw (e, ex)) last r A
+    pair_new e w x ew ex A = listed_as n out _ _ (rw (e, ew, ex)) last r A
 
     module _ (t : ℕ) (h : o ≡ Some t) where
-      pub pair_old : p ≡ None → Listed (record { what = 0; owner = t + 1; owner' = 0; member = 0; member' = 0 } ∷ []) n out last r
+      pub pair_old : p ≡ None → (w : ℕ) → w ≡ 0 → Listed (record { what = w; owner = t + 1; owner' = 0; member = 0; member' = 0 } ∷ []) n out last r
           → Listed (pair_differences S T (row_number o) (row_number p)) n out last r
       unfolding pair_differences
-      pair_old e A = listed_as n out _ _ (rw (h, e, add-one)) last r A
+      pair_old e w ew A = listed_as n out _ _ (rw (h, e, ew, add-one)) last r A
 
       module _ (u : ℕ) (l : p ≡ Some u) where
         pair_are : owner_differences S T t u ≡ pair_differences S T (row_number o) (row_number p)

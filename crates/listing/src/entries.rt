@@ -43,7 +43,7 @@ pub enum What {
 }
 
 // Its number in a difference.
-fn number_of(what: What) -> usize
+pub fn number_of(what: What) -> usize
     ensures { result ≡ what_number what }
 {
     match what {
@@ -58,17 +58,17 @@ fn number_of(what: What) -> usize
 pub fn put_difference(
     list: &mut [u8],
     n: usize,
-    what: What,
+    what: usize,
     owner: usize,
     other: usize,
     member: usize,
     mate: usize,
 ) -> usize
     requires { n < 4294967296 }
-    ensures { Listed (record { what = what_number what; owner = owner; owner' = other; member = member; member' = mate } ∷ []) n list.old list.new result }
+    ensures { Listed (record { what = what; owner = owner; owner' = other; member = member; member' = mate } ∷ []) n list.old list.new result }
 {
     if n < list.len() / 20 {
-        put_entry(list, n, number_of(what), owner, other, member, mate);
+        put_entry(list, n, what, owner, other, member, mate);
         return n + 1;
     }
     n + 1

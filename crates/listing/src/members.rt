@@ -7,7 +7,7 @@ ghost use Rattle.differences.specs.Compare.{paired, member_differences, required
 ghost use Rattle.ordering.specs.Ordering.{row_number};
 ghost use Rattle.listing.specs.Listing.{Listed, what_number, agree_rows, member_difference, is_required, next_of, follow_of, left_of, row_differences, tag_difference};
 
-use crate::entries::What;
+use crate::entries::{What, number_of};
 use crate::{entries, rows};
 use ordering::rows::number;
 
@@ -58,7 +58,7 @@ fn member(
     if agree(old, begin, new, start, cells, m, k) {
         return n;
     }
-    entries::put_difference(list, n, what, t + 1, u + 1, number(m), number(k))
+    entries::put_difference(list, n, number_of(what), t + 1, u + 1, number(m), number(k))
 }
 
 // Member row m is required; `first` is where the member rows begin.

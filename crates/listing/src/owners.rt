@@ -6,7 +6,7 @@ ghost use Rattle.differences.specs.Compare.{bases_differ, base_difference, owner
 ghost use Rattle.ordering.specs.Ordering.{row_number};
 ghost use Rattle.listing.specs.Listing.{Listed, FewMembers};
 
-use crate::entries::What;
+use crate::entries::{What, number_of};
 use crate::{entries, members};
 use ordering::rows::number;
 
@@ -42,7 +42,7 @@ fn bases(
     let b = table::chain::base(old, begin, t);
     let c = table::chain::base(new, start, u);
     if bases_differ(old, begin, new, start, b, c) {
-        return entries::put_difference(list, n, What::Base, t + 1, u + 1, 0, 0);
+        return entries::put_difference(list, n, number_of(What::Base), t + 1, u + 1, 0, 0);
     }
     n
 }
@@ -95,8 +95,8 @@ pub fn pair(
     match o {
         Some(t) => match p {
             Some(u) => owners(old, begin, new, start, cells, tags, t, u, list, n),
-            None => entries::put_difference(list, n, What::Owner, t + 1, 0, 0, 0),
+            None => entries::put_difference(list, n, number_of(What::Owner), t + 1, 0, 0, 0),
         },
-        None => entries::put_difference(list, n, What::Owner, 0, number(p), 0, 0),
+        None => entries::put_difference(list, n, number_of(What::Owner), 0, number(p), 0, 0),
     }
 }
