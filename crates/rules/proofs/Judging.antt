@@ -253,6 +253,11 @@ set_is r i = go i
         let n : ℕ = suc (suc (suc (suc (suc i)))) in
         rw (ne_eqb n 0 (omega arith), lt-leb n 1 (omega arith), lt-leb n 2 (omega arith), lt-leb n 3 (omega arith), lt-leb n 4 (omega arith), drop_of_length-le {A = ℕ} [] {i = i} (omega arith))
 
+-- past the last field none is left
+pub set_past : (r : TypeRow) (i : ℕ) → 5 ≤ i → false ≡ is_set_from r i
+unfolding is_set_from any
+set_past r i h = rw (drop_of_length-le {A = ℕ} (r.a ∷ r.b ∷ r.c ∷ r.d ∷ r.e ∷ []) {i = i} h)
+
 -- by the kind
 pub used_low : (T : List ℕ) (k : ℕ) → k < 8 → 0 ≡ used T k
 unfolding used

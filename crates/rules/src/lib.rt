@@ -12,6 +12,9 @@ ghost use Rattle.rules.specs.Checks.{finding_of, broken_of, placed, is_marked, i
 use table::{MemberRow, TypeRow};
 use wire::Refusal;
 
+// The most bytes that a record's name may have.
+const LONGEST_NAME: usize = 255;
+
 // A broken rule, which is known by its class, at its place.
 #[tactic(auto, unfolding(crate::specs::Checks::placed))]
 fn placed(place: usize, answer: Result<(), usize>) -> Result<(), Refusal>
@@ -108,6 +111,19 @@ fn used(table: &[u8], begin: usize, k: usize) -> usize
         12 => 0,
         15 => 2,
         _ => 5,
+    }
+}
+
+// A field that the row's kind does not use in this table is not 0. The fields are tested by how many are used, so that no row is asked for one that it uses.
+fn is_unused_set(table: &[u8], begin: usize, row: TypeRow) -> bool
+    requires { begin ≡ types_at table.now }
+    ensures { result ≡ is_set_from row (used table.now row.kind) }
+{
+    match used(table, begin, row.kind) {
+        0 => is_set_from(row, 0),
+        1 => is_set_from(row, 1),
+        2 => is_set_from(row, 2),
+        n => n < 5 && is_set_from(row, n),
     }
 }
 
@@ -233,6 +249,8 @@ fn dict_row(table: &[u8], begin: usize, t: usize, row: TypeRow) -> Result<(), us
 }
 
 // The rules of an exception or a class, row t; its name is compared with those of records from row `from` on.
+// Always inlined: it is called at two places, and as a call it passes the row through memory.
+#[inline(always)]
 pub fn record_row(
     table: &[u8],
     begin: usize,
@@ -257,7 +275,7 @@ pub fn record_row(
     if row.e == 0 {
         return Err(37);
     }
-    if 255 < row.e {
+    if LONGEST_NAME < row.e {
         return Err(37);
     }
     if table::names(table) < row.d + row.e {
@@ -339,7 +357,7 @@ fn type_class(
     if row.spare != 0 {
         return Err(32);
     }
-    if is_set_from(row, used(table, begin, row.kind)) {
+    if is_unused_set(table, begin, row) {
         return Err(32);
     }
     if 15 < row.kind {

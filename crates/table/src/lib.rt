@@ -66,7 +66,12 @@ pub fn names(table: &[u8]) -> usize
 pub fn rows(table: &[u8]) -> usize
     ensures { (result ≡ type_rows table.now) × (result ≤ 256) }
 {
-    types(table).min(256)
+    // Stays: with `min` each reader of a value tests its row against 256 and 65,536 again, since the compiler bounds rows before it inlines `min`.
+    let n = types(table);
+    if n <= 256 {
+        return n;
+    }
+    256
 }
 
 // Where the type rows begin: after the header, which version 2, as two bytes, makes longer.
@@ -276,13 +281,30 @@ pub fn type_row_in(table: &[u8], begin: usize, t: usize) -> TypeRow
     }
 }
 
-// Type row t.
+// Type row t. One that lies outside is taken apart and put together again, so that the returned row is lent to no call and its fields stay in registers.
 pub fn type_row(table: &[u8], begin: usize, t: usize) -> TypeRow
     requires { begin ≡ types_at table.now }
     ensures { IsTypeRow table.now t result }
 {
     if 65536 <= t || table.len() < row_at(table, begin, t + 1) {
-        return type_row_outside(table, begin, t);
+        let TypeRow {
+            kind,
+            spare,
+            a,
+            b,
+            c,
+            d,
+            e,
+        } = type_row_outside(table, begin, t);
+        return TypeRow {
+            kind,
+            spare,
+            a,
+            b,
+            c,
+            d,
+            e,
+        };
     }
     type_row_in(table, begin, t)
 }
@@ -342,14 +364,25 @@ pub fn member_row_in(table: &[u8], first: usize, m: usize) -> MemberRow
     }
 }
 
-// Member row m; `first` is where the member rows begin.
+// Member row m; `first` is where the member rows begin. One that lies outside is taken apart and put together again in the same way.
 pub fn member_row_from(table: &[u8], first: usize, m: usize) -> MemberRow
     requires first_value { first ≡ members_at table.now }
     requires first_bound { (first < 1048576) × (m < 131072) }
     ensures { IsMemberRow table.now m result }
 {
     if table.len() < member_at(table, first, m + 1) {
-        return member_row_outside(table, m);
+        let MemberRow {
+            of,
+            mark,
+            spare,
+            tag,
+        } = member_row_outside(table, m);
+        return MemberRow {
+            of,
+            mark,
+            spare,
+            tag,
+        };
     }
     member_row_in(table, first, m)
 }
@@ -361,7 +394,18 @@ pub fn member_row(table: &[u8], first: usize, m: usize) -> MemberRow
     ensures { IsMemberRow table.now m result }
 {
     if 131072 <= m {
-        return member_row_outside(table, m);
+        let MemberRow {
+            of,
+            mark,
+            spare,
+            tag,
+        } = member_row_outside(table, m);
+        return MemberRow {
+            of,
+            mark,
+            spare,
+            tag,
+        };
     }
     member_row_from(table, first, m)
 }

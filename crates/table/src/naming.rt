@@ -45,11 +45,31 @@ pub fn name_length(table: &[u8], begin: usize, t: usize) -> usize
     length_of(table, start_of(table, labels, row, t), row, t)
 }
 
-// Two strings have the same bytes.
-pub fn same(a: &[u8], b: &[u8]) -> bool
+// Two strings have the same bytes, by the library.
+fn are_equal(a: &[u8], b: &[u8]) -> bool
     ensures { result ≡ same_bytes a.now b.now }
 {
     a == b
+}
+
+// Two strings have the same bytes. Eight bytes are compared at a time, the last eight once more where the length is no multiple of eight; strings of fewer than eight bytes, and long ones, by the library.
+// Stays: of strings of 8 to 63 bytes `==` tests the first four one by one and calls for the rest, which is measured to take up to 1.7 of the time of a table's check.
+pub fn same(a: &[u8], b: &[u8]) -> bool
+    ensures { result ≡ same_bytes a.now b.now }
+{
+    let n = a.len();
+    if n != b.len() {
+        return false;
+    }
+    if n < 8 || 64 <= n {
+        return are_equal(a, b);
+    }
+    for k in 0..n / 8 {
+        if wire::long_in(a, 8 * k) != wire::long_in(b, 8 * k) {
+            return false;
+        }
+    }
+    wire::long_in(a, n - 8) == wire::long_in(b, n - 8)
 }
 
 // The name of row t is this one.

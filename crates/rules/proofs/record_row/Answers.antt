@@ -11,8 +11,8 @@ returns-then-row-prior c = search record_first
 pub returns-then-row-eq0 : goal.returns-then-row-eq0
 returns-then-row-eq0 c = search record_empty
 
-pub returns-then-row-gt255 : goal.returns-then-row-gt255
-returns-then-row-gt255 c = search record_long
+pub returns-then-row-gt-LONGEST_NAME : goal.returns-then-row-gt-LONGEST_NAME
+returns-then-row-gt-LONGEST_NAME c = search record_long
 
 pub returns-then-names-row : goal.returns-then-names-row
 returns-then-names-row c = search record_outside

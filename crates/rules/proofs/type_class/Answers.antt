@@ -6,8 +6,8 @@ use Rattle.rules.proofs.type_class.Goals as goal
 pub returns-then-row-ne0 : goal.returns-then-row-ne0
 returns-then-row-ne0 c = search (rules, row_spare)
 
-pub returns-then-is_set_from : goal.returns-then-is_set_from
-returns-then-is_set_from c = search (rules, row_unused)
+pub returns-then-is_unused_set : goal.returns-then-is_unused_set
+returns-then-is_unused_set c = search (rules, row_unused)
 
 pub returns-then-row-gt15 : goal.returns-then-row-gt15
 returns-then-row-gt15 c = search (rules, row_unknown)
