@@ -201,15 +201,17 @@ fn take_in(burst: u64, left: u64, length: u64) -> Burst
     requires { burst < 18446744073709551615 }
     ensures { (result.number ≡ pick (nat_le length left) burst (suc burst)) × (result.left ≡ pick (nat_le length left) left most - length) }
 {
-    match left.checked_sub(length) {
-        Some(left) => Burst {
+    if length <= left {
+        return Burst {
             number: burst,
-            left,
-        },
-        None => Burst {
-            number: burst + 1,
-            left: 340_u64.saturating_sub(length),
-        },
+            left: left - length,
+        };
+    }
+    // Stays: with `checked_sub` and `saturating_sub` the compiler makes no branch of this, and each message waits for the one before it.
+    let left = if length <= 340 { 340 - length } else { 0 };
+    Burst {
+        number: burst + 1,
+        left,
     }
 }
 
