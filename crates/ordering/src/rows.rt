@@ -22,7 +22,8 @@ pub fn first<F: Fn(usize) -> bool>(m: usize, end: usize, passes: F) -> Option<us
     ensures upper_bound { row_number result ≤ end }
 {
     for i in m..end {
-        if passes(i) {
+        let passed = passes(i);
+        if passed {
             return Some(i);
         }
     }

@@ -9,6 +9,9 @@ ghost use Rattle.encoding.specs.Message.{no_top};
 ghost use Rattle.encoding.specs.Write.{no_format};
 ghost use Rattle.prepare.specs.Preparing.{checks};
 
+// The most bytes that a message or a buffer may have.
+const MOST: usize = 65536;
+
 // Nothing is refused before the message; or a refusal's number and place.
 #[derive(Clone, Copy)]
 pub enum Prepared {
@@ -74,7 +77,7 @@ pub fn after_rules(table: &[u8], begin: usize, top: usize, format: usize, len: u
     if no_old(table, begin, top, format) {
         return Prepared::Refused(26, 0);
     }
-    if 65536 < len {
+    if MOST < len {
         return Prepared::Refused(3, 0);
     }
     Prepared::Ready

@@ -9,6 +9,9 @@ ghost use Rattle.proxy.specs.Parts.{named, addresses, addressed, secured, mode};
 
 use wire::{Counted, Refusal};
 
+// The most bytes that a category without a name has.
+const NO_NAME: usize = 0;
+
 // An identity: its name, then its category; a category without a name is refused. Gives the length of the name.
 pub fn identity(s: &[u8]) -> Result<Counted, Refusal>
     ensures { result ≡ sized_of (named s.now) }
@@ -19,7 +22,7 @@ pub fn identity(s: &[u8]) -> Result<Counted, Refusal>
         Err(refusal) => return Err(refusal.behind(name.bytes)),
     };
     if name.number == 0 {
-        if 0 < category.number {
+        if NO_NAME < category.number {
             return Err(Refusal {
                 number: 10,
                 place: 0,

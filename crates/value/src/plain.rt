@@ -102,7 +102,10 @@ pub fn bools(s: &[u8], n: usize) -> Result<usize, Refusal>
     let first = bool_eights(s, n);
     let mut at = first;
     for _ in first..n {
-        at = wire::later(at, bool(&s[at..]))?;
+        match bool(&s[at..]) {
+            Ok(taken) => at += taken,
+            Err(refusal) => return Err(refusal.behind(at)),
+        }
     }
     Ok(at)
 }

@@ -11,8 +11,8 @@ returns-then-no_format c = search early_format
 pub returns-then-no_old : goal.returns-then-no_old
 returns-then-no_old c = search early_old
 
-pub returns-then-len-gt65536 : goal.returns-then-len-gt65536
-returns-then-len-gt65536 c = search early_long
+pub returns-then-len-gt-MOST : goal.returns-then-len-gt-MOST
+returns-then-len-gt-MOST c = search early_long
 
 pub returns : goal.returns
 returns c = search early_none
