@@ -8,6 +8,7 @@
 --   begins_here                            two names of one place
 --   Shows, rest_shows                      the first bytes of a part are those of the table from a place on
 --   row_shows, member_shows                the part that is one row; row_rest_shows, member_rest_shows the part from a row on
+--   counts_show, names_here                where the names begin, by the counts read in one part
 --   kind_direct, kind_byte, field_direct   a kind, a field read at its place
 --   kind_is .. field_within                a field of a type row, read from a part that shows the row; field_past past the table's end
 --   member_type_is .. tag_is               the same of a member row; type_here .. tag_here: read at its place in the table
@@ -24,7 +25,7 @@ use lib.Seq.{drop-drop}
 use lib.Dec.{eqb, leb}
 use borrow.Author.Tests.{leb-true, leb-false, ne_eqb}
 use Rattle.encoding.specs.Result.{pick}
-use Rattle.encoding.specs.Table.{at, version, with_lists, types, members, entries, types_at, row_at, member_at, entries_at, field_at, list_entry, kind, spare, field, member_type, mark, member_spare, tag, type_rows, trees, ty_of, member_ty}
+use Rattle.encoding.specs.Table.{at, version, with_lists, types, members, entries, types_at, row_at, member_at, names_at, entries_at, field_at, list_entry, kind, spare, field, member_type, mark, member_spare, tag, type_rows, trees, ty_of, member_ty}
 use Rattle.encoding.proofs.TableLaws.{header_most, rows_below, ty_past, member_past as member_none, member_whole}
 use Rattle.wire.specs.StepLaws.{rest_is}
 use Rattle.wire.specs.At.{at_byte, at_split, at_past, at_within}
@@ -117,6 +118,18 @@ row_shows T t a e p q = part_shows T a e (row_at T t) 12 p (omega arith)
 
 pub member_shows : (T : List ℕ) (m a e : ℕ) → a ≡ member_at T m → e ≡ member_at T (m + 1) → Shows T (take (e - a) (drop a T)) (member_at T m) 8
 member_shows T m a e p q = part_shows T a e (member_at T m) 8 p (omega arith)
+
+-- ---- where the names begin, by the counts in the part of the header that has both
+
+pub counts_show : (T : List ℕ) → Shows T (take (9 - 5) (drop 5 T)) 5 4
+counts_show T = part_shows T 5 9 5 4 refl (omega arith)
+
+pub names_here : (T s : List ℕ) → Shows T s 5 4 → (f a b : ℕ) → f ≡ types_at T → a ≡ at s 2 0 → b ≡ at s 2 2 → f + 12 * a + 8 * b ≡ names_at T
+unfolding types members
+names_here T s shows f a b e p q =
+    let x : a ≡ at T 2 5 = p ∙ shows.same 2 0 (omega arith) in
+    let y : b ≡ at T 2 7 = q ∙ shows.same 2 2 (omega arith) in
+    omega arith
 
 -- ---- the fields of a row
 

@@ -137,6 +137,16 @@ pub fn names_at(table: &[u8], begin: usize) -> usize
     member_at(table, members_at(table, begin), members(table))
 }
 
+// The same, of a table with both counts inside it, which are read without a test.
+fn names_at_in(table: &[u8], begin: usize) -> usize
+    requires begin_value { begin ≡ types_at table.now }
+    requires counts_in_bounds { 9 ≤ length table.now }
+    ensures { (result ≡ names_at table.now) × (result < 2097152) }
+{
+    let counts = &table[5..9];
+    begin + 12 * wire::short_at(counts, 0) + 8 * wire::short_at(counts, 2)
+}
+
 // Where the entries of the lists begin: after the names.
 pub fn entries_at(table: &[u8], begin: usize) -> usize
     requires { begin ≡ types_at table.now }
@@ -492,11 +502,11 @@ pub fn is_record(k: usize) -> bool
     matches!(k, 13 | 14)
 }
 
-// A row of kind k takes member rows.
+// A row of kind k takes member rows: a struct, an exception, a class, a parameter list.
 pub fn owns(k: usize) -> bool
     ensures { result ≡ owns k }
 {
-    matches!(k, 9 | 15) || is_record(k)
+    matches!(k, 9 | 13 | 14 | 15)
 }
 
 // The row of a member's type; 256, a row without a type tree, if there is no such member.

@@ -1,5 +1,4 @@
 -- The loop's invariant: what is left to compare decides the answer. Assumes nothing.
-use mathlib.Core.Path.{refl}
 use native.Mathlib.Omega.{arith}
 use Rattle.table.proofs.Labels.{same_lengths, same_begin, same_long, same_last, long_stop}
 use Rattle.table.proofs.naming.same.Goals as goal
@@ -18,4 +17,4 @@ loop-k-preserved c =
     same_long _ _ (λ j. omega (arith, c.type_inv.a j)) (λ j. omega (arith, c.type_inv.b j)) _ c.loop-k.invariant (omega arith) _ _ c.long_in.ensures c.long_in-in-loop-k.ensures c.if-long_in.false
 
 pub returns : goal.returns
-returns c = same_last _ _ (λ j. omega (arith, c.type_inv.a j)) (λ j. omega (arith, c.type_inv.b j)) _ c.loop-k.invariant (omega arith) _ refl (omega arith) _ _ c.long_in-2.ensures c.long_in-3.ensures
+returns c = same_last _ _ (λ j. omega (arith, c.type_inv.a j)) (λ j. omega (arith, c.type_inv.b j)) _ c.loop-k.invariant (omega arith) _ (omega arith) (omega arith) _ _ c.long_in-2.ensures c.long_in-3.ensures
