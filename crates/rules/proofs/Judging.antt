@@ -8,6 +8,7 @@
 --   unused_..                  those that a kind does not use; enum_listed, enum_plain those of an enum
 --   part_.., base_..           references to rows below
 --   Before, before_..          the loop over the names of rows before
+--   alike_none                 no row before a row is a record
 --   alike_is, name_text_is     of a row's name: it finds what is alike; it is text
 --   past_.., Plain, plain_..   how far no row is a record; alike_from_lem: names are alike from there on or nowhere
 --   enum_.. list_..            the rules of each kind; kind_.. those of a row by its kind; row_.. all of a type row
@@ -405,6 +406,11 @@ any_same : (f g : ℕ → Bool) → ((i : ℕ) → f i ≡ g i) → (l : List �
 unfolding any
 any_same f g h [] = refl
 any_same f g h (i ∷ l) = rw (h i, any_same f g h l)
+
+-- no row before is a record
+pub alike_none : (T : List ℕ) (from t : ℕ) → t ≤ from → false ≡ alike_from T from t
+unfolding alike_from any range
+alike_none T from t h = let z : t - from ≡ 0 = omega arith in rw z
 
 -- the part of the table that is a row's name
 module _ (T : List ℕ) (t a l : ℕ) (r : Bool) (ea : a ≡ name_start T t) (el : l ≡ length (name_of T t)) where

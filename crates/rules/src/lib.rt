@@ -114,7 +114,7 @@ fn used(table: &[u8], begin: usize, k: usize) -> usize
     }
 }
 
-// A field that the row's kind does not use in this table is not 0. The fields are tested by how many are used, so that no row is asked for one that it uses.
+// A field that the row's kind does not use in this table is not 0. Rows that use none, one or two are asked by a constant, so that none of these is asked for a field that it uses.
 fn is_unused_set(table: &[u8], begin: usize, row: TypeRow) -> bool
     requires { begin ≡ types_at table.now }
     ensures { result ≡ is_set_from row (used table.now row.kind) }
@@ -155,6 +155,8 @@ pub fn no_base(table: &[u8], begin: usize, t: usize, k: usize, b: usize) -> bool
 }
 
 // A record among rows `from` to t - 1 has this name. Names of different lengths differ, so a row with a shorter name is passed without a look at its bytes.
+// Never inlined, so that the numbers of its loop stay in registers.
+#[inline(never)]
 fn is_name_before(table: &[u8], begin: usize, name: &[u8], from: usize, t: usize) -> bool
     requires begin_value { begin ≡ types_at table.now }
     requires t_in_bounds { row_at table.now t ≤ length table.now }
@@ -174,6 +176,7 @@ fn is_name_before(table: &[u8], begin: usize, name: &[u8], from: usize, t: usize
 }
 
 // A record among rows `from` to t - 1 has the name of row t. The names begin at `labels`.
+#[inline(always)]
 pub fn alike(table: &[u8], begin: usize, labels: usize, t: usize, row: TypeRow, from: usize) -> bool
     requires begin_value { begin ≡ types_at table.now }
     requires labels_value { (labels ≡ names_at table.now) × (labels < 2097152) }
@@ -181,12 +184,16 @@ pub fn alike(table: &[u8], begin: usize, labels: usize, t: usize, row: TypeRow, 
     requires type_row { IsTypeRow table.now t row }
     ensures { result ≡ alike_from table.now from t }
 {
+    if t <= from {
+        return false;
+    }
     let a = table::naming::start_of(table, labels, row, t);
     let e = a + table::naming::length_of(table, a, row, t);
     is_name_before(table, begin, &table[a..e], from, t)
 }
 
 // The name of row t is text. The names begin at `labels`.
+#[inline(always)]
 pub fn is_name_text(table: &[u8], labels: usize, t: usize, row: TypeRow) -> bool
     requires labels_value { (labels ≡ names_at table.now) × (labels < 2097152) }
     requires type_row { IsTypeRow table.now t row }
